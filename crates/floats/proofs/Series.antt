@@ -1,0 +1,143 @@
+-- S(w) is the alternating sum of its terms: for a w of at most 2 ^ 30 no subtraction is cut off at 0 (`alternating`), and S(w) is at most w (`series-le`).
+-- The terms fall, so before an even term there is room for it below w, and before an odd one the sum holds at least that term (`Room`).
+use mathlib.Core.Path.{_≡_, refl, sym, ap, _∙_, subst}
+use mathlib.Core.Bool.{Bool, true, false, not, cond}
+use Prim.Native.Nat.{ℕ, zero, suc, _+_, _-_, _*_, _/_, _%_, _^_, _≤_, _<_}
+use native.Mathlib.Nat.{mul-comm, mul-le-mul, mul-le-mul-left, div-le-of-le-mul, mod-lt, zero-lt-suc}
+use native.Mathlib.Numerals.{add-one}
+use native.Mathlib.Omega.{arith}
+use borrow.Author.Tests.{eq-eqb, ne-eqb}
+use lib.Dec.{eqb}
+use lib.Ieee.Nearest.{div-mono}
+use Rattle.floats.specs.Angle.{withTerm, seriesFrom, terms, series}
+
+-- ---- the terms
+
+even : ℕ → Bool
+even k = eqb (k % 2) 0
+
+-- pk, and the term k
+power : ℕ → ℕ → ℕ
+power w zero = w
+power w (suc k) = power w k * (w * w / 2 ^ 30) / 2 ^ 30
+
+term : ℕ → ℕ → ℕ
+term w k = power w k / (2 * k + 1)
+
+-- the sum of the even ones, and of the odd ones, among the first n terms
+pub evens : ℕ → ℕ → ℕ
+evens w zero = 0
+evens w (suc k) = evens w k + cond (even k) (term w k) 0
+
+pub odds : ℕ → ℕ → ℕ
+odds w zero = 0
+odds w (suc k) = odds w k + cond (even k) 0 (term w k)
+
+-- ---- room for the next term t, at an even index and at an odd one
+abbrev pub Room : Bool → ℕ → ℕ → ℕ → Type 0
+Room true t sum w = sum + t ≤ w
+Room false t sum w = (t ≤ sum) × (sum ≤ w)
+
+abbrev pub Safe : ℕ → ℕ → ℕ → ℕ → Type 0
+Safe w k p sum = Room (eqb (k % 2) 0) (p / (2 * k + 1)) sum w
+
+room-next : (b : Bool) (t t' sum w : ℕ) → t' ≤ t → Room b t sum w → Room (not b) t' (cond b (sum + t) (sum - t)) w
+room-next true t t' sum w h r = omega arith
+room-next false t t' sum w h r = omega arith
+
+room-le : (b : Bool) (t sum w : ℕ) → Room b t sum w → sum ≤ w
+room-le true t sum w r = omega arith
+room-le false t sum w r = r .1
+
+parity : (k : ℕ) → eqb ((k + 1) % 2) 0 ≡ not (eqb (k % 2) 0)
+parity k = go (k % 2) refl
+  where
+    go : (r : ℕ) → k % 2 ≡ r → eqb ((k + 1) % 2) 0 ≡ not (eqb r 0)
+    go zero e = let n : (k + 1) % 2 ≡ 1 = omega arith in rw n
+    go (suc r) e = let n : (k + 1) % 2 ≡ 0 = omega arith in let z : r ≡ 0 = omega (arith, mod-lt k {m = 2} (zero-lt-suc 1)) in rw (n, z)
+
+pub next-le : (p u : ℕ) → u ≤ 2 ^ 30 → p * u / 2 ^ 30 ≤ p
+next-le p u h = div-le-of-le-mul (2 ^ 30) (subst (λ (x : ℕ). p * u ≤ x) (mul-comm p (2 ^ 30)) (mul-le-mul-left p h))
+
+pub square-le : (w : ℕ) → w ≤ 2 ^ 30 → w * w / 2 ^ 30 ≤ 2 ^ 30
+square-le w h = div-le-of-le-mul (2 ^ 30) (mul-le-mul h h)
+
+term-falls : (p p' k : ℕ) → p' ≤ p → p' / (2 * (k + 1) + 1) ≤ p / (2 * k + 1)
+term-falls p p' k h =
+    let B : 0 < 2 * (k + 1) + 1 = omega arith in
+    let D : 0 < 2 * k + 1 = omega arith in
+    let l : 2 * k + 1 ≤ 2 * (k + 1) + 1 = omega arith in
+    div-mono p' (2 * (k + 1) + 1) p (2 * k + 1) B D (mul-le-mul h l)
+
+pub safe-first : (w : ℕ) → Safe w 0 w 0
+safe-first w = omega arith
+
+pub safe-next : (w k u p sum : ℕ) → u ≤ 2 ^ 30 → Safe w k p sum → Safe w (k + 1) (p * u / 2 ^ 30) (withTerm k p sum)
+safe-next w k u p sum h r =
+    subst (λ (b : Bool). Room b (p * u / 2 ^ 30 / (2 * (k + 1) + 1)) (withTerm k p sum) w) (sym (parity k))
+    (room-next (eqb (k % 2) 0) (p / (2 * k + 1)) (p * u / 2 ^ 30 / (2 * (k + 1) + 1)) sum w (term-falls p (p * u / 2 ^ 30) k (next-le p u h)) r)
+
+-- at an even index the term fits below w, and is added; at an odd one the sum holds it, and it comes off
+module _ (w k p sum : ℕ) where
+  pub room-even : k % 2 ≡ 0 → Safe w k p sum → sum + p / (2 * k + 1) ≤ w
+  room-even e r = subst (λ (b : Bool). Room b (p / (2 * k + 1)) sum w) (eq-eqb (k % 2) 0 e) r
+
+  pub room-odd : (k % 2 ≡ 0 → ⊥) → Safe w k p sum → p / (2 * k + 1) ≤ sum
+  room-odd n r = subst (λ (b : Bool). Room b (p / (2 * k + 1)) sum w) (ne-eqb (k % 2) 0 n) r .0
+
+pub with-even : (k p sum : ℕ) → k % 2 ≡ 0 → withTerm k p sum ≡ sum + p / (2 * k + 1)
+with-even k p sum e = simp (eq-eqb (k % 2) 0 e)
+
+pub with-odd : (k p sum : ℕ) → (k % 2 ≡ 0 → ⊥) → withTerm k p sum ≡ sum - p / (2 * k + 1)
+with-odd k p sum n = simp (ne-eqb (k % 2) 0 n)
+
+-- ---- the whole sum
+
+balance : (b : Bool) (t sum o v w : ℕ) → Room b t sum w → sum + o ≡ v → cond b (sum + t) (sum - t) + (o + cond b 0 t) ≡ v + cond b t 0
+balance true t sum o v w r q = omega arith
+balance false t sum o v w r q = omega arith
+
+power-next : (w k : ℕ) → power w (k + 1) ≡ power w k * (w * w / 2 ^ 30) / 2 ^ 30
+unfolding power
+power-next w k = rw add-one
+
+balance-next : (w k sum : ℕ) → Safe w k (power w k) sum → sum + odds w k ≡ evens w k → withTerm k (power w k) sum + odds w (k + 1) ≡ evens w (k + 1)
+unfolding odds evens even term
+balance-next w k sum r q = rw (add-one k) (balance (eqb (k % 2) 0) (power w k / (2 * k + 1)) sum (odds w k) (evens w k) w r q)
+
+-- from a place where the sum so far is the alternating sum, it stays so
+from : (left k w p sum n : ℕ) → k + left ≡ n → w ≤ 2 ^ 30 → p ≡ power w k → Safe w k p sum → sum + odds w k ≡ evens w k
+    → (seriesFrom left k (w * w / 2 ^ 30) p sum + odds w n ≡ evens w n) × (seriesFrom left k (w * w / 2 ^ 30) p sum ≤ w)
+unfolding seriesFrom
+from zero k w p sum n e h a r q =
+    let i : k ≡ n = omega arith in
+    (rw i at q, room-le (eqb (k % 2) 0) (p / (2 * k + 1)) sum w r)
+from (suc left) k w p sum n e h a r q =
+    let i : k + 1 + left ≡ n = omega arith in
+    from left (k + 1) w (p * (w * w / 2 ^ 30) / 2 ^ 30) (withTerm k p sum) n i h
+    (ap (λ (x : ℕ). x * (w * w / 2 ^ 30) / 2 ^ 30) a ∙ sym (power-next w k))
+    (safe-next w k (w * w / 2 ^ 30) p sum (square-le w h) r)
+    (subst (λ (x : ℕ). withTerm k x sum + odds w (k + 1) ≡ evens w (k + 1)) (sym a)
+    (balance-next w k sum (subst (λ (x : ℕ). Safe w k x sum) a r) q))
+
+whole : (w : ℕ) → w ≤ 2 ^ 30 → (series w + odds w terms ≡ evens w terms) × (series w ≤ w)
+unfolding series power odds evens
+whole w h = from terms 0 w w 0 terms refl h refl (safe-first w) refl
+
+pub alternating : (w : ℕ) → w ≤ 2 ^ 30 → series w + odds w terms ≡ evens w terms
+alternating w h = whole w h .0
+
+pub series-le : (w : ℕ) → w ≤ 2 ^ 30 → series w ≤ w
+series-le w h = whole w h .1
+
+-- ---- one turn of the loop, and its end
+less : (n k : ℕ) → k < n → n - k ≡ suc (n - (k + 1))
+less n k h = omega arith
+
+pub turn : (k u p sum : ℕ) → k < terms → seriesFrom (terms - k) k u p sum ≡ seriesFrom (terms - (k + 1)) (k + 1) u (p * u / 2 ^ 30) (withTerm k p sum)
+unfolding seriesFrom
+turn k u p sum h = rw (less terms k h)
+
+pub done : (k u p sum : ℕ) → terms ≤ k → seriesFrom (terms - k) k u p sum ≡ sum
+unfolding seriesFrom
+done k u p sum h = let e : terms - k ≡ 0 = omega arith in rw e

@@ -1,0 +1,72 @@
+-- Document 01's angle of (re, im): integer work, with one rounding at the end.
+use Prim.Native.Nat.{ℕ, zero, suc, _+_, _-_, _*_, _/_, _%_, _^_}
+use mathlib.Core.Bool.{Bool, false, cond, _&&_}
+use lib.Dec.{eqb, ltb}
+use lib.IntN.{pos}
+use lib.Ieee.{Float, nan, inf, fin, binary32, up, down, round, lt, eq}
+use Rattle.floats.specs.Operators.{_⊘_}
+use Rattle.floats.specs.Scalar.{minOf, maxOf, isFinite}
+use Rattle.floats.specs.Sign.{signBit, absOf}
+
+-- ---- S(w): u = floor(w² / 2 ^ 30), p0 = w, next p = floor(p·u / 2 ^ 30), and the sum of (-1) ^ k · floor(pk / (2k + 1))
+
+-- the sum once term k is counted in: added at an even k, taken off at an odd one
+abbrev pub withTerm : ℕ → ℕ → ℕ → ℕ
+withTerm k p sum = cond (eqb (k % 2) 0) (sum + p / (2 * k + 1)) (sum - p / (2 * k + 1))
+
+-- the sum after `left` more terms, from term k on, whose power is p
+unfoldable pub seriesFrom : ℕ → ℕ → ℕ → ℕ → ℕ → ℕ
+seriesFrom zero k u p sum = sum
+seriesFrom (suc left) k u p sum = seriesFrom left (k + 1) u (p * u / 2 ^ 30) (withTerm k p sum)
+
+-- the number of terms: k = 0 to 14
+abbrev pub terms : ℕ
+terms = 15
+
+unfoldable pub series : ℕ → ℕ
+series w = seriesFrom terms 0 (w * w / 2 ^ 30) w 0
+
+-- ---- A, in units of 2 ^ -30 radian
+
+-- an eighth, a quarter and a half of a turn
+abbrev pub eighthTurn : ℕ
+eighthTurn = 843314857
+
+abbrev pub quarterTurn : ℕ
+quarterTurn = 1686629713
+
+abbrev pub halfTurn : ℕ
+halfTurn = 3373259426
+
+-- the angle whose tangent is T units, for a T up to 2 ^ 30: from a half on, by the tangent of what is missing to an eighth of a turn
+unfoldable pub arc : ℕ → ℕ
+arc T = cond (ltb T (2 ^ 29)) (series T) (eighthTurn - series ((2 ^ 30 - T) * 2 ^ 30 / (2 ^ 30 + T)))
+
+-- taken from a quarter turn where |im| > |re| (`steep`), then from a half turn where re's sign bit is set (`left`)
+abbrev pub folded : Bool → Bool → ℕ → ℕ
+folded steep left A = let B = cond steep (quarterTurn - A) A in cond left (halfTurn - B) B
+
+-- ---- t and T
+
+abbrev pub plusZero : Float
+plusZero = fin false 0 (pos 0)
+
+-- t of the magnitudes a and b: the smaller over the larger, rounded; 0 if both are zero
+unfoldable pub ratio : Float → Float → Float
+ratio a b = cond (eq a plusZero && eq b plusZero) plusZero (minOf a b ⊘ maxOf a b)
+
+-- T: floor(t · 2 ^ 30)
+unfoldable pub tangentUnits : Float → ℕ
+tangentUnits nan = 0
+tangentUnits (inf s) = 0
+tangentUnits (fin s m e) = m * up e * 2 ^ 30 / down e
+
+-- ---- the answer
+
+-- A of (re, im)
+unfoldable pub angleUnits : Float → Float → ℕ
+angleUnits re im = folded (lt (absOf re) (absOf im)) (signBit re) (arc (tangentUnits (ratio (absOf re) (absOf im))))
+
+-- A / 2 ^ 30 to the nearest f32 with im's sign bit; NaN if either is NaN or infinite
+unfoldable pub angleOf : Float → Float → Float
+angleOf re im = cond (isFinite re && isFinite im) (round binary32 (signBit im) (angleUnits re im) (2 ^ 30)) nan

@@ -1,0 +1,240 @@
+//! The functions on rows, as each side of a comparison has them, and one call of any of them.
+
+use crate::bits::bits;
+use crate::rendering;
+use rapier2d::pipeline::rows as ours;
+
+#[derive(Copy, Clone, Debug, PartialEq, Eq)]
+pub enum Function {
+    CombineCoefficients,
+    Spring,
+    InvDt,
+    MaxCorrectiveVelocity,
+    MaxImpulse,
+    AngularLimit,
+    Build,
+    Step,
+    Warmstart,
+    RemoveBias,
+    Writeback,
+    Finalize,
+}
+
+/// What a call is handed: words and numbers to read, then lent storage, which it may write. A
+/// function that has no use for one of them gets it empty.
+#[derive(Clone)]
+pub struct Call {
+    pub function: Function,
+    pub words: Vec<u32>,
+    pub numbers: Vec<f32>,
+    /// Rows, a row, a joint's numbers or a leaf's results.
+    pub lent: Vec<f32>,
+    pub vels: Vec<f32>,
+    pub ids: Vec<u32>,
+    /// What `Build` returns; 0 for the others.
+    pub count: usize,
+    /// Whether something was written outside the lent storage.
+    pub outside: bool,
+}
+
+impl Call {
+    pub fn new(function: Function, words: &[u32], numbers: &[f32], lent: &[f32]) -> Call {
+        Call {
+            function,
+            words: words.to_vec(),
+            numbers: numbers.to_vec(),
+            lent: lent.to_vec(),
+            vels: Vec::new(),
+            ids: Vec::new(),
+            count: 0,
+            outside: false,
+        }
+    }
+
+    /// Whether both left the same: in bits with all NaNs as one, written or not.
+    pub fn agrees(&self, other: &Call) -> bool {
+        let same = |a: &[f32], b: &[f32]| a.iter().map(|x| bits(*x)).eq(b.iter().map(|x| bits(*x)));
+        same(&self.lent, &other.lent)
+            && same(&self.vels, &other.vels)
+            && self.ids == other.ids
+            && self.count == other.count
+            && self.outside == other.outside
+    }
+}
+
+pub type Library = fn(&mut Call);
+
+/// The call as a module of Rust functions makes it.
+macro_rules! made_by(
+    ($by: ident, $call: ident) => {{
+        let (w, n, lent) = (&$call.words, &$call.numbers, &mut $call.lent);
+        match $call.function {
+            Function::CombineCoefficients => {
+                lent.copy_from_slice(&$by::combine_coefficients(w[0], n[0], n[1], n[2]))
+            }
+            Function::Spring => lent.copy_from_slice(&$by::spring(n[0], n[1], n[2])),
+            Function::InvDt => lent[0] = $by::inv_dt(n[0]),
+            Function::MaxCorrectiveVelocity => {
+                lent[0] = $by::max_corrective_velocity(n[0], n[1])
+            }
+            Function::MaxImpulse => lent[0] = $by::max_impulse(n[0], n[1]),
+            Function::AngularLimit => {
+                lent.copy_from_slice(&$by::angular_limit(n[0], n[1], n[2], n[3]))
+            }
+            Function::Build => $call.count = $by::build(w, n, lent, &mut $call.ids),
+            Function::Step => $by::step(lent, &mut $call.vels),
+            Function::Warmstart => $by::warmstart(lent, &mut $call.vels),
+            Function::RemoveBias => $by::remove_bias(lent),
+            Function::Writeback => $by::writeback(w[0], n[0], lent),
+            Function::Finalize => $by::finalize(w[0] as usize, lent),
+        }
+    }}
+);
+
+/// The published Rust.
+pub fn oracle(call: &mut Call) {
+    made_by!(ours, call)
+}
+
+/// The second rendering, with the fault that it carries.
+pub fn rendered(call: &mut Call) {
+    made_by!(rendering, call)
+}
+
+/// The Rattle library.
+#[cfg(rattle)]
+pub fn rattle(call: &mut Call) {
+    exported::run(call)
+}
+
+#[cfg(rattle)]
+mod exported {
+    use super::{Call, Function};
+
+    unsafe extern "C" {
+        fn katydidzinc_combine_coefficients(
+            model: u32,
+            dt: f32,
+            stiffness: f32,
+            damping: f32,
+            out: *mut f32,
+            outs: usize,
+        );
+        fn katydidzinc_spring(
+            natural_frequency: f32,
+            damping_ratio: f32,
+            dt: f32,
+            out: *mut f32,
+            outs: usize,
+        );
+        fn katydidzinc_inv_dt(dt: f32) -> f32;
+        fn katydidzinc_max_corrective_velocity(length_unit: f32, normalized: f32) -> f32;
+        fn katydidzinc_max_impulse(max_force: f32, dt: f32) -> f32;
+        fn katydidzinc_angular_limit(
+            min: f32,
+            max: f32,
+            cos: f32,
+            sin: f32,
+            out: *mut f32,
+            outs: usize,
+        );
+        fn katydidzinc_rows_build(
+            words: *const u32,
+            words_len: usize,
+            numbers: *const f32,
+            numbers_len: usize,
+            rows: *mut f32,
+            rows_len: usize,
+            ids: *mut u32,
+            ids_len: usize,
+        ) -> usize;
+        fn katydidzinc_rows_step(row: *mut f32, row_len: usize, vels: *mut f32, vels_len: usize);
+        fn katydidzinc_rows_warmstart(
+            row: *mut f32,
+            row_len: usize,
+            vels: *mut f32,
+            vels_len: usize,
+        );
+        fn katydidzinc_rows_remove_bias(row: *mut f32, row_len: usize);
+        fn katydidzinc_rows_writeback(id: u32, impulse: f32, numbers: *mut f32, numbers_len: usize);
+        fn katydidzinc_rows_finalize(n: usize, rows: *mut f32, rows_len: usize);
+    }
+
+    /// Storage with places before and after it that nobody may write.
+    struct Fenced<T> {
+        all: Vec<T>,
+        fence: T,
+    }
+
+    const WIDTH: usize = 4;
+
+    impl<T: Copy + PartialEq> Fenced<T> {
+        fn new(inside: &[T], fence: T) -> Fenced<T> {
+            let side = [fence; WIDTH];
+            Fenced {
+                all: [&side, inside, &side].concat(),
+                fence,
+            }
+        }
+
+        fn place(&mut self) -> (*mut T, usize) {
+            let length = self.all.len() - 2 * WIDTH;
+            (self.all[WIDTH..].as_mut_ptr(), length)
+        }
+
+        /// Gives the storage back; whether something was written outside it.
+        fn taken_back(&self, inside: &mut [T]) -> bool {
+            let end = self.all.len() - WIDTH;
+            inside.copy_from_slice(&self.all[WIDTH..end]);
+            let mut sides = self.all[..WIDTH].iter().chain(&self.all[end..]);
+            sides.any(|x| *x != self.fence)
+        }
+    }
+
+    pub fn run(call: &mut Call) {
+        let n = &call.numbers;
+        let w = &call.words;
+        let mut fenced = Fenced::new(&call.lent, 12345.678);
+        let mut fenced_vels = Fenced::new(&call.vels, 12345.678);
+        let mut fenced_ids = Fenced::new(&call.ids, 0xDEAD_BEEF);
+        let (lent, lents) = fenced.place();
+        let (vels, vels_len) = fenced_vels.place();
+        let (ids, ids_len) = fenced_ids.place();
+        unsafe {
+            match call.function {
+                Function::CombineCoefficients => {
+                    katydidzinc_combine_coefficients(w[0], n[0], n[1], n[2], lent, lents)
+                }
+                Function::Spring => katydidzinc_spring(n[0], n[1], n[2], lent, lents),
+                Function::InvDt => *lent = katydidzinc_inv_dt(n[0]),
+                Function::MaxCorrectiveVelocity => {
+                    *lent = katydidzinc_max_corrective_velocity(n[0], n[1])
+                }
+                Function::MaxImpulse => *lent = katydidzinc_max_impulse(n[0], n[1]),
+                Function::AngularLimit => {
+                    katydidzinc_angular_limit(n[0], n[1], n[2], n[3], lent, lents)
+                }
+                Function::Build => {
+                    call.count = katydidzinc_rows_build(
+                        w.as_ptr(),
+                        w.len(),
+                        n.as_ptr(),
+                        n.len(),
+                        lent,
+                        lents,
+                        ids,
+                        ids_len,
+                    )
+                }
+                Function::Step => katydidzinc_rows_step(lent, lents, vels, vels_len),
+                Function::Warmstart => katydidzinc_rows_warmstart(lent, lents, vels, vels_len),
+                Function::RemoveBias => katydidzinc_rows_remove_bias(lent, lents),
+                Function::Writeback => katydidzinc_rows_writeback(w[0], n[0], lent, lents),
+                Function::Finalize => katydidzinc_rows_finalize(w[0] as usize, lent, lents),
+            }
+        }
+        call.outside = fenced.taken_back(&mut call.lent)
+            | fenced_vels.taken_back(&mut call.vels)
+            | fenced_ids.taken_back(&mut call.ids);
+    }
+}

@@ -1,0 +1,65 @@
+//! One joint's rows: document 01's cases, and the comparison of the oracle with the Rattle library
+//! and with the second rendering.
+//!
+//!   rows cases                     document 01's cases
+//!   rows compare SEED COUNT        against the Rattle library (built with RATTLE_LIB)
+//!   rows rendering SEED COUNT      against the second rendering
+//!   rows fault NUMBER SEED COUNT   against the second rendering with one fault
+//!   rows faults SEED COUNT         each fault in turn: how many studies show it
+
+mod bits;
+mod cases;
+mod draw;
+mod library;
+#[path = "../rendering.rs"]
+mod rendering;
+mod run;
+mod studies;
+
+use library::Library;
+use std::process::exit;
+
+#[cfg(rattle)]
+const RATTLE: Option<Library> = Some(library::rattle);
+#[cfg(not(rattle))]
+const RATTLE: Option<Library> = None;
+
+fn main() {
+    let arguments: Vec<String> = std::env::args().skip(1).collect();
+    let number = |i: usize, default: u64| match arguments.get(i) {
+        None => default,
+        Some(text) => text.parse().unwrap_or_else(|_| {
+            eprintln!("rows: {text} is not a number");
+            exit(2)
+        }),
+    };
+    let count = 100_000;
+    match arguments.first().map(String::as_str) {
+        Some("cases") => cases::cases(),
+        Some("compare") => match RATTLE {
+            Some(rattle) => run::compare(rattle, number(1, 1), number(2, count)),
+            None => {
+                println!("built without RATTLE_LIB: nothing to compare with");
+                exit(2)
+            }
+        },
+        Some("rendering") => run::compare(library::rendered, number(1, 1), number(2, count)),
+        Some("fault") => {
+            let fault = number(1, 0);
+            if fault > rendering::FAULTS.len() as u64 {
+                eprintln!("rows: there are {} faults", rendering::FAULTS.len());
+                exit(2)
+            }
+            rendering::carry(fault as u32);
+            run::compare(library::rendered, number(2, 1), number(3, count))
+        }
+        Some("faults") => run::faults(number(1, 1), number(2, count)),
+        _ => {
+            eprintln!(
+                "rows: cases | compare SEED COUNT | rendering SEED COUNT | \
+                 fault NUMBER SEED COUNT | faults SEED COUNT"
+            );
+            exit(2)
+        }
+    }
+}

@@ -1,0 +1,406 @@
+//! Draws one joint between two bodies, with all that its rows are made from. Most numbers are
+//! tame, so that most rows are numbers; the places where rows change their mind are met on
+//! purpose.
+
+use crate::draw::Draw;
+use rapier2d::pipeline::leaves;
+
+const PI: f32 = f32::from_bits(0x4049_0FDB);
+const E: f32 = f32::from_bits(0x1E3C_E508);
+
+/// The words and numbers of `katydidzinc_rows_build`.
+pub struct Study {
+    pub words: [u32; 9],
+    pub numbers: [f32; 60],
+}
+
+/// Where the joint's numbers begin.
+pub const JOINT: usize = 17;
+
+/// The masks of choice 0 to 4095: locked, limit, motor, coupled.
+pub fn masks(choice: u32) -> [u32; 4] {
+    [
+        choice >> 9 & 7,
+        choice >> 6 & 7,
+        choice >> 3 & 7,
+        choice & 7,
+    ]
+}
+
+impl Draw {
+    fn one_in(&mut self, n: u64) -> bool {
+        self.below(n) == 0
+    }
+
+    fn zero(&mut self) -> f32 {
+        self.pick(&[0.0, -0.0])
+    }
+
+    /// Eighths up to 125, small whole numbers, anything of an ordinary size, now and then zero.
+    pub fn tame(&mut self) -> f32 {
+        match self.below(8) {
+            0 => self.zero(),
+            1 => self.below(9) as f32 - 4.0,
+            2 | 3 | 4 => (self.below(2001) as f32 - 1000.0) / 8.0,
+            5 => (self.below(2001) as f32 - 1000.0) / 1024.0,
+            _ => self.ordinary(),
+        }
+    }
+
+    /// Subnormal, tiny, near overflow, or plain bits, but a finite number.
+    fn finite(&mut self) -> f32 {
+        loop {
+            let x = self.number();
+            if x.is_finite() {
+                return x;
+            }
+        }
+    }
+
+    /// Stored impulses and velocities: nothing is refused.
+    pub fn free(&mut self) -> f32 {
+        if self.one_in(16) {
+            self.pick(&[
+                f32::NAN,
+                f32::INFINITY,
+                f32::NEG_INFINITY,
+                f32::MAX,
+                1.0e-40,
+            ])
+        } else {
+            self.tame()
+        }
+    }
+
+    fn dt(&mut self) -> f32 {
+        match self.below(16) {
+            0 => 0.0,
+            1 => -0.0,
+            2 => self.pick(&[1.0e-40, 1.0e-30, 1.0e-20, 1.0e-10]),
+            3 => self.pick(&[f32::MAX, 1.0e30, 1.0e10]),
+            4 | 5 | 6 => 1.0,
+            7 | 8 => self.ordinary().abs(),
+            9 | 10 => 1.0 / 60.0,
+            _ => 1.0 / 64.0,
+        }
+    }
+
+    fn right_angle(&mut self) -> [f32; 2] {
+        let (one, zero) = (self.pick(&[1.0, -1.0]), self.zero());
+        self.pick(&[[one, zero], [zero, one]])
+    }
+
+    fn rotation(&mut self) -> [f32; 2] {
+        match self.below(12) {
+            0 | 1 | 2 => [1.0, 0.0],
+            3 => self.right_angle(),
+            4 => {
+                let (x, y) = (self.pick(&[0.6, -0.6]), self.pick(&[0.8, -0.8]));
+                self.pick(&[[x, y], [y, x]])
+            }
+            5 => [self.tame(), self.tame()],
+            6 => [1.0, self.tame() / 4096.0],
+            _ => {
+                let (sine, cosine) = (self.below(6284) as f64 / 1000.0).sin_cos();
+                [cosine as f32, sine as f32]
+            }
+        }
+    }
+
+    fn inverse_mass(&mut self) -> f32 {
+        match self.below(8) {
+            0 => 0.0,
+            1 => self.tame(),
+            2 | 3 => self.tame().abs(),
+            _ => self.pick(&[1.0, 0.5, 0.25, 2.0, 8.0, 0.1]),
+        }
+    }
+
+    fn body(&mut self, straight: bool) -> [f32; 7] {
+        if self.one_in(8) {
+            return [1.0, 0.0, 0.0, 0.0, 0.0, 0.0, 0.0];
+        }
+        let [re, im] = if straight {
+            self.right_angle()
+        } else {
+            self.rotation()
+        };
+        let x = self.inverse_mass();
+        let y = if self.one_in(4) {
+            self.inverse_mass()
+        } else {
+            x
+        };
+        let ii = match self.below(12) {
+            0 => E,
+            1 | 2 => 0.0,
+            _ => self.inverse_mass(),
+        };
+        [re, im, self.tame(), self.tame(), ii, x, y]
+    }
+
+    fn max_force(&mut self) -> f32 {
+        match self.below(12) {
+            0 => f32::INFINITY,
+            1 => f32::NEG_INFINITY,
+            2 => self.zero(),
+            3 => -self.tame().abs(),
+            4 => self.pick(&[1.0e-40, -f32::MAX, 1.0e30]),
+            5 | 6 | 7 => f32::MAX,
+            _ => self.tame().abs(),
+        }
+    }
+
+    /// Stiffness and damping.
+    fn stiffness(&mut self) -> [f32; 2] {
+        match self.below(12) {
+            0 => [0.0, E],
+            1 => [E, 0.0],
+            2 => [0.0, 0.0],
+            3 => [self.tame(), self.tame()],
+            4 | 5 => [0.0, self.tame().abs()],
+            6 => [self.tame().abs(), 0.0],
+            _ => [self.tame().abs(), self.tame().abs()],
+        }
+    }
+
+    fn softness(&mut self) -> [f32; 2] {
+        match self.below(8) {
+            0 => [self.tame(), self.tame()],
+            1 => [0.0, 1.0],
+            2 => [self.tame().abs(), 0.0],
+            3 | 4 => [self.tame().abs(), self.tame().abs()],
+            _ => [1.0e6, 1.0],
+        }
+    }
+
+    /// The ends of a limit on a joint that stands at `at`.
+    fn limit(&mut self, at: f32) -> [f32; 2] {
+        let (a, b) = (self.tame(), self.tame());
+        let (low, high) = if a < b { (a, b) } else { (b, a) };
+        match self.below(16) {
+            0 => [at, at],
+            1 => [at, high.max(at)],
+            2 => [low.min(at), at],
+            3 => [self.near(at.to_bits(), 1), self.near(at.to_bits(), 1)],
+            4 => [high, low],
+            5 => [f32::NEG_INFINITY, f32::INFINITY],
+            6 => [f32::NEG_INFINITY, b],
+            7 => [a, f32::INFINITY],
+            8 => {
+                let end = [f32::INFINITY, f32::NEG_INFINITY, b];
+                [self.pick(&end), self.pick(&end)]
+            }
+            9 => [-f32::MAX, f32::MAX],
+            10 => [at - 1.0, at + 1.0],
+            11 => [-1.0e-40 * self.tame(), 1.0e-40 * self.tame()],
+            _ => [low, high],
+        }
+    }
+
+    /// The ends of a limit on an angle that stands at `at` from the limit's centre.
+    fn angular_limit(&mut self, at: f32) -> [f32; 2] {
+        let tau = 2.0 * PI;
+        match self.below(12) {
+            0 => [-at.abs(), at.abs()],
+            1 => {
+                let half = self.near(at.abs().to_bits(), 1);
+                [-half, half]
+            }
+            2 => [-PI, PI],
+            3 => [0.0, self.near(tau.to_bits(), 1)],
+            4 => {
+                let half = self.near(PI.to_bits(), 1);
+                [-half, half]
+            }
+            5 => {
+                let small =
+                    |d: &mut Draw| f32::from_bits(d.below(64) as u32) * d.pick(&[1.0, -1.0]);
+                [small(self), small(self)]
+            }
+            6 => self.limit(at),
+            7 => [-1.0, -2.0],
+            _ => {
+                let a = self.below(3000) as f32 / 1000.0;
+                [-a, self.below(3000) as f32 / 1000.0]
+            }
+        }
+    }
+}
+
+/// Where the joint stands: along axes 0 and 1, along the coupled axes, its rotation's error.
+struct Place {
+    along: [f32; 2],
+    coupled: f32,
+    ang_err: [f32; 2],
+}
+
+fn place(n: &[f32], coupled: u32) -> Place {
+    let frame = |body: &[f32], frame: &[f32]| {
+        let mut x = [0.0; leaves::INPUTS];
+        x[5..9].copy_from_slice(&[body[0], body[1], frame[0], frame[1]]);
+        x[9..13].copy_from_slice(&[body[2], body[3], frame[2], frame[3]]);
+        leaves::pose_product(&x)
+    };
+    let one = frame(&n[3..7], &n[JOINT..JOINT + 4]);
+    let two = frame(&n[10..14], &n[JOINT + 4..JOINT + 8]);
+    let (x, y) = (two[2] - one[2], two[3] - one[3]);
+    let axes = [[one[0], one[1]], [-one[1], one[0]]];
+    let along = axes.map(|[p, q]| x * p + y * q);
+    let mut jac = [0.0; 2];
+    for i in 0..2 {
+        if coupled >> i & 1 == 1 {
+            jac[0] += axes[i][0] * along[i];
+            jac[1] += axes[i][1] * along[i];
+        }
+    }
+    let (a, b, c, d) = (one[0], -one[1], two[0], two[1]);
+    Place {
+        along,
+        coupled: (jac[0] * jac[0] + jac[1] * jac[1]).sqrt(),
+        ang_err: [a * c - b * d, a * d + b * c],
+    }
+}
+
+/// How wild a study is.
+enum Mood {
+    Tame,
+    /// A few finite numbers, anywhere, are hostile.
+    Few,
+    /// One number in four is, and one study in eight of these has NaNs and infinities among them.
+    Wild,
+}
+
+pub fn study(d: &mut Draw, choice: u32) -> Study {
+    let [locked, limit, motor, coupled] = masks(choice);
+    let models = [0; 3].map(|_| d.below(2) as u32);
+    let warm = !d.one_in(3) as u32;
+    let words = [
+        locked, limit, motor, coupled, models[0], models[1], models[2], warm, 0,
+    ];
+
+    let mut n = [0.0; 60];
+    n[0] = d.dt();
+    n[1] = d.pick(&[1.0, 1.0, 100.0, 0.01, 0.0, -1.0]);
+    n[2] = d.pick(&[3.0, 3.0, 0.0, -3.0, f32::MAX, 1.0e-3, 1.0e6]);
+    let straight = d.one_in(4);
+    n[3..10].copy_from_slice(&d.body(straight));
+    n[10..17].copy_from_slice(&d.body(straight));
+
+    let joint = &mut n[JOINT..JOINT + 42];
+    for at in [0, 4] {
+        let [re, im] = if straight {
+            d.right_angle()
+        } else {
+            d.rotation()
+        };
+        joint[at..at + 4].copy_from_slice(&[re, im, d.tame(), d.tame()]);
+    }
+    joint[35..37].copy_from_slice(&d.softness());
+    for i in 0..3 {
+        joint[10 + 3 * i] = d.free();
+        joint[37 + i] = d.free();
+        let motor = &mut joint[17 + 6 * i..][..6];
+        motor[0] = d.tame();
+        motor[1] = d.tame();
+        motor[2..4].copy_from_slice(&d.stiffness());
+        motor[4] = d.max_force();
+        motor[5] = d.free();
+    }
+    let [re, im] = if straight {
+        d.right_angle()
+    } else {
+        d.rotation()
+    };
+    joint[40] = re;
+    joint[41] = im;
+
+    let mood = match d.below(8) {
+        0 | 1 => Mood::Few,
+        2 => Mood::Wild,
+        _ => Mood::Tame,
+    };
+    match mood {
+        Mood::Tame => {}
+        Mood::Few => {
+            for _ in 0..1 + d.below(3) {
+                n[d.below(60) as usize] = d.finite();
+            }
+        }
+        Mood::Wild => {
+            let all = d.one_in(8);
+            for x in &mut n {
+                if d.one_in(4) {
+                    *x = if all { d.number() } else { d.finite() };
+                }
+            }
+        }
+    }
+
+    // Limits and targets that lie where the joint stands.
+    let at = place(&n, coupled);
+    let first = (coupled & 3).trailing_zeros();
+    let joint = &mut n[JOINT..JOINT + 42];
+    for i in 0..2 {
+        let here = if i as u32 == first {
+            at.coupled
+        } else {
+            at.along[i]
+        };
+        joint[8 + 3 * i..][..2].copy_from_slice(&d.limit(here));
+        if d.one_in(4) {
+            joint[18 + 6 * i] = here;
+        }
+    }
+    let ([re, im], [c, s]) = (at.ang_err, [joint[40], joint[41]]);
+    let from_centre = leaves::angle(c * re + s * im, c * im - s * re);
+    joint[14..16].copy_from_slice(&d.angular_limit(from_centre));
+    let angle = leaves::angle(re, im);
+    if d.one_in(2) {
+        joint[30] = d.pick(&[angle, angle - PI, angle + PI, 0.0, PI, -PI]);
+    }
+    n[59] = match d.below(4) {
+        0 => d.tame(),
+        _ => d.pick(&[1.0, 1.0, 0.5, 0.0, -0.0]),
+    };
+    Study { words, numbers: n }
+}
+
+/// A row of no joint: tame or anything, with bounds that steps and locks look at.
+pub fn any_row(d: &mut Draw) -> [f32; 18] {
+    let wild = d.one_in(4);
+    let mut row = [0.0; 18].map(|_| {
+        if wild && d.one_in(3) {
+            d.number()
+        } else {
+            d.tame()
+        }
+    });
+    if d.one_in(8) {
+        // Rows whose dot with themselves is 1e-20.
+        row[3..9].copy_from_slice(&[0.0, 0.0, 1.0, 1.0, E, 0.0]);
+        row[13] = d.zero();
+        row[12] = d.zero();
+    }
+    let [low, high] = [d.tame(), d.tame()];
+    let bounds = [
+        [-f32::MAX, f32::MAX],
+        [-f32::MAX, f32::MAX],
+        [f32::NEG_INFINITY, f32::INFINITY],
+        [0.0, f32::INFINITY],
+        [0.0, 0.0],
+        [-high.abs(), high.abs()],
+        [low, high],
+        [row[1], row[2]],
+    ];
+    row[1..3].copy_from_slice(&d.pick(&bounds));
+    row
+}
+
+pub fn vels(d: &mut Draw) -> [f32; 6] {
+    if d.one_in(8) {
+        [0.0; 6].map(|_| d.free())
+    } else {
+        [0.0; 6].map(|_| d.tame())
+    }
+}

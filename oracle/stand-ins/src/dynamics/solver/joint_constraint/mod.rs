@@ -1,0 +1,69 @@
+//! One joint's rows: how many they are, and what soft bodies would take from them.
+
+mod joint_constraint_builder;
+mod joint_constraint_helper;
+mod joint_velocity_constraint;
+
+pub(crate) use joint_constraint_builder::JointConstraintBuilder;
+pub(crate) use joint_constraint_helper::{AngularLimitParams, JointConstraintHelper};
+pub(crate) use joint_velocity_constraint::{
+    JointConstraint, JointSolverBody, MotorParameters, WritebackId,
+};
+
+use crate::dynamics::{GenericJoint, ImpulseJoint, IntegrationParameters, RigidBody};
+use crate::math::{Pose, Real};
+
+/// The most rows that one joint makes.
+pub(crate) const MAX_ROWS: usize = 6;
+
+/// A row before anything is built in it.
+pub(crate) fn blank() -> JointConstraint<Real, 1> {
+    JointConstraint {
+        solver_vel1: [u32::MAX],
+        solver_vel2: [u32::MAX],
+        joint_id: [0],
+        impulse: 0.0,
+        impulse_bounds: [0.0; 2],
+        lin_jac: Default::default(),
+        ang_jac1: 0.0,
+        ang_jac2: 0.0,
+        ii_ang_jac1: 0.0,
+        ii_ang_jac2: 0.0,
+        inv_lhs: 0.0,
+        rhs: 0.0,
+        rhs_wo_bias: 0.0,
+        cfm_gain: 0.0,
+        cfm_coeff: 0.0,
+        im1: Default::default(),
+        im2: Default::default(),
+        writeback_id: WritebackId::Friction(0),
+    }
+}
+
+/// The count that `update` returns. It runs `update` on the joint, between two bodies at the
+/// origin, and throws the rows away.
+pub(crate) fn joint_data_num_constraints(joint: &GenericJoint) -> usize {
+    let limit = AngularLimitParams {
+        center: [1.0, 0.0],
+        half_range: 10.0,
+    };
+    JointConstraint::<Real, 1>::update(
+        &IntegrationParameters::default(),
+        0,
+        &JointSolverBody::invalid(),
+        &JointSolverBody::invalid(),
+        &Pose::IDENTITY,
+        &Pose::IDENTITY,
+        joint,
+        &[limit],
+        &mut [blank(); MAX_ROWS],
+    )
+}
+
+/// The lane form's name for it.
+pub(crate) fn joint_num_constraints(joint: &ImpulseJoint) -> usize {
+    joint_data_num_constraints(&joint.data)
+}
+
+/// Soft bodies are left out, so no axis is taken from a joint.
+pub(crate) fn strip_soft_frame_angular_axes(_: &mut GenericJoint, _: &RigidBody, _: &RigidBody) {}

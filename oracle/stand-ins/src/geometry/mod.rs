@@ -1,0 +1,1 @@
+//! Nothing of this module takes part.
