@@ -1,0 +1,183 @@
+-- Bodies, joints and rows in flat storage. A body is 10 numbers: pose (re, im, x, y), inverse inertia, inverse masses (x, y), velocity (x, y, angular).
+-- A joint is 9 words: two bodies, four masks, three motor models; and 42 numbers: two frames, three limits, three motors, softness, Dof impulses, centre.
+-- A row is 18 numbers, in the Rust's field order.
+use Prim.Native.Nat.{ℕ, _+_, _*_, _≤_}
+use mathlib.Core.Path.{_≡_}
+use mathlib.Core.Bool.{cond}
+use mathlib.Core.List.{List, [], _∷_}
+use lib.Dec.{eqb, ltb}
+use lib.ListN.{length, set}
+use lib.Ieee.{Float}
+use Rattle.floats.specs.Operators.{bits}
+use Rattle.floats.specs.declared.vector.Vector.{Vector}
+use Rattle.floats.specs.declared.rotation_ops.Rotation.{Rotation}
+use Rattle.floats.specs.declared.pose.Pose.{Pose}
+use Rattle.rows.specs.declared.motor_model.MotorModel.{MotorModel}
+use Rattle.rows.specs.declared.motor_model.MotorModel.the-variants.{AccelerationBased, ForceBased}
+use Rattle.rows.specs.declared.integration_parameters.SpringCoefficients.{SpringCoefficients}
+use Rattle.rows.specs.declared.generic_joint.JointLimits.{JointLimits}
+use Rattle.rows.specs.declared.generic_joint.JointMotor.{JointMotor}
+use Rattle.rows.specs.declared.generic_joint.Masks.{Masks}
+use Rattle.rows.specs.declared.generic_joint.GenericJoint.{GenericJoint}
+use Rattle.rows.specs.declared.joint_constraint_builder.SolverPose.{SolverPose}
+use Rattle.rows.specs.declared.joint_constraint_builder.ImpulseJoint.{ImpulseJoint}
+use Rattle.rows.specs.declared.joint_velocity_constraint.SolverVel.{SolverVel}
+use Rattle.rows.specs.declared.joint_velocity_constraint.JointConstraint.{JointConstraint}
+use Rattle.rows.specs.declared.joint_velocity_constraint.WritebackId.{WritebackId}
+use Rattle.rows.specs.declared.joint_velocity_constraint.WritebackId.the-variants.{Dof, Limit, Motor}
+use Rattle.model.specs.Records.{num, word, puts}
+
+-- ---- rows
+
+-- the row whose number c is f c
+abbrev pub rowOf : (ℕ → Float) → JointConstraint
+rowOf f = record {
+  impulse = f 0;
+  «impulse_min» = f 1;
+  «impulse_max» = f 2;
+  «lin_jac» = record { x = f 3; y = f 4 };
+  «ang_jac1» = f 5;
+  «ang_jac2» = f 6;
+  «ii_ang_jac1» = f 7;
+  «ii_ang_jac2» = f 8;
+  «inv_lhs» = f 9;
+  rhs = f 10;
+  «rhs_wo_bias» = f 11;
+  «cfm_gain» = f 12;
+  «cfm_coeff» = f 13;
+  im1 = record { x = f 14; y = f 15 };
+  im2 = record { x = f 16; y = f 17 };
+}
+
+-- row k of the storage
+unfoldable pub rowAt : List Float → ℕ → JointConstraint
+rowAt s k = rowOf (num 18 s k)
+
+-- a row's 18 numbers
+abbrev pub rowNumbers : JointConstraint → List Float
+rowNumbers r =
+    r .impulse ∷ r .«impulse_min» ∷ r .«impulse_max» ∷ r .«lin_jac» .x ∷ r .«lin_jac» .y ∷ r .«ang_jac1» ∷ r .«ang_jac2» ∷ r .«ii_ang_jac1» ∷ r .«ii_ang_jac2»
+    ∷ r .«inv_lhs» ∷ r .rhs ∷ r .«rhs_wo_bias» ∷ r .«cfm_gain» ∷ r .«cfm_coeff» ∷ r .im1 .x ∷ r .im1 .y ∷ r .im2 .x ∷ r .im2 .y ∷ []
+
+-- row k replaced
+unfoldable pub putRow : List Float → ℕ → JointConstraint → List Float
+putRow s k r = puts s (k * 18) 0 (rowNumbers r)
+
+-- ---- bodies
+
+-- document 01's world: a body number that no body has
+abbrev pub world : ℕ
+world = 4294967295
+
+-- body i is the world, or its record is there
+abbrev pub Present : List Float → ℕ → Type 0
+Present b i = (i ≡ world → ⊥) → i * 10 + 10 ≤ length b
+
+-- the pose in the four numbers from number o on
+abbrev pub poseOf : (ℕ → Float) → ℕ → Pose
+poseOf f o = record { rotation = record { re = f o; im = f (o + 1) }; translation = record { x = f (o + 2); y = f (o + 3) } }
+
+-- The world has the identity pose, and its inverse masses and inertia are zero.
+abbrev pub worldPose : SolverPose
+worldPose = record {
+  pose = record { rotation = record { re = bits 0x3F80_0000; im = bits 0 }; translation = record { x = bits 0; y = bits 0 } };
+  ii = bits 0;
+  im = record { x = bits 0; y = bits 0 };
+}
+
+-- what the rows read of body i
+unfoldable pub solverPoseAt : List Float → ℕ → SolverPose
+solverPoseAt b i =
+    cond (eqb i world) worldPose
+    (record { pose = poseOf (num 10 b i) 0; ii = num 10 b i 4; im = record { x = num 10 b i 5; y = num 10 b i 6 } })
+
+abbrev pub rest : SolverVel
+rest = record { linear = record { x = bits 0; y = bits 0 }; angular = bits 0 }
+
+-- the velocity of body i; the world's reads zero
+unfoldable pub velAt : List Float → ℕ → SolverVel
+velAt b i = cond (eqb i world) rest (record { linear = record { x = num 10 b i 7; y = num 10 b i 8 }; angular = num 10 b i 9 })
+
+-- body i's velocity replaced; what is written to the world's is dropped
+unfoldable pub putVel : List Float → ℕ → SolverVel → List Float
+putVel b i v = cond (eqb i world) b (puts b (i * 10) 7 (v .linear .x ∷ v .linear .y ∷ v .angular ∷ []))
+
+-- body i's pose replaced
+unfoldable pub putPose : List Float → ℕ → Pose → List Float
+putPose b i p = puts b (i * 10) 0 (p .rotation .re ∷ p .rotation .im ∷ p .translation .x ∷ p .translation .y ∷ [])
+
+-- ---- joints
+
+abbrev pub limitsOf : (ℕ → Float) → ℕ → JointLimits
+limitsOf f o = record { min = f o; max = f (o + 1); impulse = f (o + 2) }
+
+-- 0 is acceleration based, and every other number force based
+abbrev pub modelOf : ℕ → MotorModel
+modelOf m = cond (eqb m 0) AccelerationBased ForceBased
+
+abbrev pub motorOf : (ℕ → Float) → ℕ → ℕ → JointMotor
+motorOf f o m = record {
+  «target_vel» = f o;
+  «target_pos» = f (o + 1);
+  stiffness = f (o + 2);
+  damping = f (o + 3);
+  «max_force» = f (o + 4);
+  impulse = f (o + 5);
+  model = modelOf m;
+}
+
+-- the masks of a joint whose word c is g c
+abbrev pub masksOf : (ℕ → ℕ) → Masks
+masksOf g = record { «locked_axes» = g 2; «limit_axes» = g 3; «motor_axes» = g 4; «coupled_axes» = g 5 }
+
+-- the limits of the three axes, and their motors
+abbrev pub allLimitsOf : (ℕ → Float) → List JointLimits
+allLimitsOf f = limitsOf f 8 ∷ limitsOf f 11 ∷ limitsOf f 14 ∷ []
+
+abbrev pub allMotorsOf : (ℕ → Float) → (ℕ → ℕ) → List JointMotor
+allMotorsOf f g = motorOf f 17 (g 6) ∷ motorOf f 23 (g 7) ∷ motorOf f 29 (g 8) ∷ []
+
+-- the joint whose number c is f c and whose word c is g c
+abbrev pub dataOf : (ℕ → Float) → (ℕ → ℕ) → GenericJoint
+dataOf f g = record {
+  «local_frame1» = poseOf f 0;
+  «local_frame2» = poseOf f 4;
+  masks = masksOf g;
+  limits = allLimitsOf f;
+  motors = allMotorsOf f g;
+  softness = record { «natural_frequency» = f 35; «damping_ratio» = f 36 };
+}
+
+abbrev pub jointOf : (ℕ → Float) → (ℕ → ℕ) → ImpulseJoint
+jointOf f g = record { «data» = dataOf f g; impulses = f 37 ∷ f 38 ∷ f 39 ∷ []; center = record { re = f 40; im = f 41 } }
+
+-- joint j of the storage
+unfoldable pub jointAt : List ℕ → List Float → ℕ → ImpulseJoint
+jointAt words numbers j = jointOf (num 42 numbers j) (word 9 words j)
+
+-- its masks
+unfoldable pub masksAt : List ℕ → ℕ → Masks
+masksAt words j = masksOf (word 9 words j)
+
+-- its two bodies
+unfoldable pub body1At : List ℕ → ℕ → ℕ
+body1At words j = word 9 words j 0
+
+unfoldable pub body2At : List ℕ → ℕ → ℕ
+body2At words j = word 9 words j 1
+
+-- which of a joint's 42 numbers is an id's stored impulse; an axis past the last one has none
+abbrev pub seedIndex : WritebackId → ℕ
+seedIndex (Dof i) = 37 + i
+seedIndex (Limit i) = 10 + i * 3
+seedIndex (Motor i) = 22 + i * 6
+
+-- the axis that an id is of
+abbrev pub axisOf : WritebackId → ℕ
+axisOf (Dof i) = i
+axisOf (Limit i) = i
+axisOf (Motor i) = i
+
+-- joint j's stored impulse of an id replaced; an id past the last axis has none, and changes nothing
+unfoldable pub putSeed : List Float → ℕ → WritebackId → Float → List Float
+putSeed numbers j id p = cond (ltb (axisOf id) 3) (set numbers (j * 42 + seedIndex id) p) numbers

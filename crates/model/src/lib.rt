@@ -1,0 +1,2 @@
+// The model of several joints.
+pub mod store;

@@ -1,0 +1,14 @@
+pub mod StepLaws
+pub mod MakerLaws
+pub mod Orthogonalise
+pub mod OrthogonaliseLaws
+pub mod FinalizeLoops
+pub mod MaskBits
+pub mod RowIdsCount
+pub mod RowIdsPush
+pub mod RowIdsLaws
+pub mod Filled
+pub mod UpdateRows
+pub mod WarmedRows
+pub mod BuilderLaws
+pub mod Cases

@@ -1,0 +1,24 @@
+-- `motor_linear` is put together from what its callees promise.
+use borrow.Author.Needs.{needs}
+use Rattle.rows.specs.Makers.{motorLinearOf}
+use Rattle.rows.proofs.joint_constraint_helper.JointConstraintHelper.motor_linear.Statement.{
+  statement,
+}
+use Rattle.rows.proofs.joint_constraint_helper.JointConstraintHelper.motor_linear.Tie as tie
+
+linear-axis-requires : tie.Need-linear-axis-requires
+linear-axis-requires c κs = search needs
+
+motor-rhs-requires : tie.Need-motor-rhs-requires
+motor-rhs-requires c κs = search needs
+
+motor-row-requires : tie.Need-motor-row-requires
+motor-row-requires c κs = search needs
+
+returns : tie.Need-returns
+unfolding motorLinearOf
+returns c = cc
+
+pub motor-linear-spec : {M : Type 1} → statement M
+motor-linear-spec =
+    tie.close (tie.spec linear-axis-requires motor-rhs-requires motor-row-requires returns)

@@ -1,0 +1,58 @@
+-- The Rust's joint_constraint_builder.rs: `update`, after `update_warmstart_seeds`.
+use Prim.Native.Nat.{ℕ, zero, suc}
+use mathlib.Core.List.{List, [], _∷_, _++_}
+use lib.ListN.{getD}
+use lib.Ieee.{Float, nan}
+use Rattle.floats.specs.Operators.{_⊗_}
+use Rattle.floats.specs.Pose.{poseProductOf}
+use Rattle.rows.specs.GenericJoint.{limitsAt, motorAt}
+use Rattle.rows.specs.RowIds.{rowIds}
+use Rattle.rows.specs.Helper.{angularLimitParamsOf}
+use Rattle.rows.specs.Update.{contextOf, updateOf}
+use Rattle.rows.specs.Step.{withImpulse}
+use Rattle.rows.specs.declared.integration_parameters.IntegrationParameters.{IntegrationParameters}
+use Rattle.rows.specs.declared.generic_joint.GenericJoint.{GenericJoint}
+use Rattle.rows.specs.declared.joint_constraint_builder.SolverPose.{SolverPose}
+use Rattle.rows.specs.declared.joint_constraint_builder.ImpulseJoint.{ImpulseJoint}
+use Rattle.rows.specs.declared.joint_constraint_builder.Warmstart.{Warmstart}
+use Rattle.rows.specs.declared.joint_constraint_builder.Warmstart.the-variants.{Cold, Warm}
+use Rattle.rows.specs.declared.joint_velocity_constraint.JointSolverBody.{JointSolverBody}
+use Rattle.rows.specs.declared.joint_velocity_constraint.JointConstraint.{JointConstraint}
+use Rattle.rows.specs.declared.joint_velocity_constraint.RowContext.{RowContext}
+use Rattle.rows.specs.declared.joint_velocity_constraint.WritebackId.{WritebackId}
+use Rattle.rows.specs.declared.joint_velocity_constraint.WritebackId.the-variants.{Dof, Limit, Motor}
+
+-- what a row reads of a body at its pose
+unfoldable pub solverBodyOf : SolverPose → JointSolverBody
+solverBodyOf b = record { im = b .im; ii = b .ii; «world_com» = b .pose .translation }
+
+-- the context of a joint between two bodies: each frame is the body's pose times the joint's local frame
+unfoldable pub jointContextOf : IntegrationParameters → SolverPose → SolverPose → ImpulseJoint → RowContext
+jointContextOf params body1 body2 joint =
+    let «data» = joint .«data» in
+    contextOf params (solverBodyOf body1) (solverBodyOf body2) (poseProductOf (body1 .pose) («data» .«local_frame1»)) (poseProductOf (body2 .pose) («data» .«local_frame2»))
+    «data» (angularLimitParamsOf (limitsAt «data» 2 .min) (limitsAt «data» 2 .max) (joint .center))
+
+-- an id's stored impulse: its seed
+unfoldable pub seedOf : ImpulseJoint → WritebackId → Float
+seedOf joint (Dof i) = getD (joint .impulses) i nan
+seedOf joint (Limit i) = limitsAt (joint .«data») i .impulse
+seedOf joint (Motor i) = motorAt (joint .«data») i .impulse
+
+-- Where a row's impulse starts: at 0 with no warm coefficient, at the id's stored impulse times it in substep 0, and at the row's last impulse times it later.
+unfoldable pub warmedOf : Warmstart → ℕ → Float → Float → JointConstraint → JointConstraint
+warmedOf Cold substep seed prev row = row
+warmedOf (Warm coeff) zero seed prev row = withImpulse row (seed ⊗ coeff)
+warmedOf (Warm coeff) (suc substep) seed prev row = withImpulse row (prev ⊗ coeff)
+
+-- row by row, with the row's id and its last impulse
+unfoldable pub warmedAll : Warmstart → ℕ → ImpulseJoint → List WritebackId → List Float → List JointConstraint → List JointConstraint
+warmedAll warm substep joint [] prevs rows = []
+warmedAll warm substep joint (i ∷ is) [] rows = []
+warmedAll warm substep joint (i ∷ is) (p ∷ ps) [] = []
+warmedAll warm substep joint (i ∷ is) (p ∷ ps) (r ∷ rs) = warmedOf warm substep (seedOf joint i) p r ∷ warmedAll warm substep joint is ps rs
+
+-- the builder's `update`: prevs are the impulses of the rows of the last build, by row
+unfoldable pub builderUpdateOf : IntegrationParameters → ℕ → Warmstart → SolverPose → SolverPose → ImpulseJoint → List Float → List JointConstraint
+builderUpdateOf params substep warm body1 body2 joint prevs =
+    warmedAll warm substep joint (rowIds 2 1 (joint .«data» .masks)) prevs (updateOf (jointContextOf params body1 body2 joint))

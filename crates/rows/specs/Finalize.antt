@@ -1,0 +1,100 @@
+-- Orthogonalising a group of rows: the Rust's `finalize_constraints`, the loops first over any kind of row.
+use Prim.Native.Nat.{ℕ, zero, suc}
+use mathlib.Core.Bool.{Bool, cond, _&&_}
+use mathlib.Core.List.{List, [], _∷_, _++_, map}
+use lib.ListN.{length, take, drop}
+use lib.Ieee.{Float, neg, eq}
+use Rattle.floats.specs.Operators.{_⊕_, _⊖_, _⊗_}
+use Rattle.floats.specs.Utils.{simdInvOf}
+use Rattle.floats.specs.Vector.{addOf, subOf, mulOf, gdotOf, componentMulOf}
+use Rattle.floats.specs.declared.vector.Vector.{Vector}
+use Rattle.rows.specs.IntegrationParameters.{maxFloat}
+use Rattle.rows.specs.declared.joint_velocity_constraint.JointConstraint.{JointConstraint}
+
+-- Each of n rows in turn is finished by its head step; if it is a lock, each later row is reduced by it in a pair step.
+unfoldable pub orthogonaliseN : {Row : Type 0} → (Row → Row) → (Row → Bool) → (Row → Row → Row) → ℕ → List Row → List Row
+orthogonaliseN head lock pair zero cs = cs
+orthogonaliseN head lock pair (suc n) [] = []
+orthogonaliseN head lock pair (suc n) (c ∷ cs) =
+    head c ∷ orthogonaliseN head lock pair n (cond (lock (head c)) (map (pair (head c)) cs) cs)
+
+abbrev pub orthogonalise : {Row : Type 0} → (Row → Row) → (Row → Bool) → (Row → Row → Row) → List Row → List Row
+orthogonalise head lock pair cs = orthogonaliseN head lock pair (length cs) cs
+
+-- a list with its part from place i to before place n changed by f
+unfoldable pub between : {A : Type 0} → (List A → List A) → ℕ → ℕ → List A → List A
+between f zero n xs = f (take n xs) ++ drop n xs
+between f (suc i) zero xs = xs
+between f (suc i) (suc n) [] = []
+between f (suc i) (suc n) (x ∷ xs) = x ∷ between f i n xs
+
+-- ---- the rows of a joint
+
+-- both bodies' inverse masses, which a group takes from its first row
+unfoldable pub imSumOf : JointConstraint → Vector
+imSumOf c = addOf (c .im1) (c .im2)
+
+-- the product of two rows, c_i and c_j, under the inverse masses and inertias
+unfoldable pub rowDotOf : Vector → JointConstraint → JointConstraint → Float
+rowDotOf imsum ci cj =
+    gdotOf (ci .«lin_jac») (componentMulOf imsum (cj .«lin_jac»)) ⊕ ci .«ii_ang_jac1» ⊗ cj .«ang_jac1» ⊕ ci .«ii_ang_jac2» ⊗ cj .«ang_jac2»
+
+-- the head step: the row's inverse left-hand side, with its softness
+unfoldable pub headOf : Vector → JointConstraint → JointConstraint
+headOf imsum c =
+    let dot = rowDotOf imsum c c in
+    let gain = dot ⊗ c .«cfm_coeff» ⊕ c .«cfm_gain» in
+    record {
+      impulse = c .impulse;
+      «impulse_min» = c .«impulse_min»;
+      «impulse_max» = c .«impulse_max»;
+      «lin_jac» = c .«lin_jac»;
+      «ang_jac1» = c .«ang_jac1»;
+      «ang_jac2» = c .«ang_jac2»;
+      «ii_ang_jac1» = c .«ii_ang_jac1»;
+      «ii_ang_jac2» = c .«ii_ang_jac2»;
+      «inv_lhs» = simdInvOf (dot ⊕ gain);
+      rhs = c .rhs;
+      «rhs_wo_bias» = c .«rhs_wo_bias»;
+      «cfm_gain» = gain;
+      «cfm_coeff» = c .«cfm_coeff»;
+      im1 = c .im1;
+      im2 = c .im2;
+    }
+
+-- the lock test: the bounds are [−MAX, MAX]. A motor can have them too; both bounds infinite is no lock.
+unfoldable pub isLock : JointConstraint → Bool
+isLock c = eq (c .«impulse_min») (neg maxFloat) && eq (c .«impulse_max») maxFloat
+
+-- row c_i less coeff times row c_j
+unfoldable pub lessOf : JointConstraint → JointConstraint → Float → JointConstraint
+lessOf ci cj coeff = record {
+  impulse = ci .impulse;
+  «impulse_min» = ci .«impulse_min»;
+  «impulse_max» = ci .«impulse_max»;
+  «lin_jac» = subOf (ci .«lin_jac») (mulOf (cj .«lin_jac») coeff);
+  «ang_jac1» = ci .«ang_jac1» ⊖ cj .«ang_jac1» ⊗ coeff;
+  «ang_jac2» = ci .«ang_jac2» ⊖ cj .«ang_jac2» ⊗ coeff;
+  «ii_ang_jac1» = ci .«ii_ang_jac1» ⊖ cj .«ii_ang_jac1» ⊗ coeff;
+  «ii_ang_jac2» = ci .«ii_ang_jac2» ⊖ cj .«ii_ang_jac2» ⊗ coeff;
+  «inv_lhs» = ci .«inv_lhs»;
+  rhs = ci .rhs ⊖ cj .rhs ⊗ coeff;
+  «rhs_wo_bias» = ci .«rhs_wo_bias» ⊖ cj .«rhs_wo_bias» ⊗ coeff;
+  «cfm_gain» = ci .«cfm_gain»;
+  «cfm_coeff» = ci .«cfm_coeff»;
+  im1 = ci .im1;
+  im2 = ci .im2;
+}
+
+-- the pair step: row c_i made orthogonal to the lock c_j
+unfoldable pub pairOf : Vector → JointConstraint → JointConstraint → JointConstraint
+pairOf imsum cj ci = lessOf ci cj (rowDotOf imsum ci cj ⊗ simdInvOf (rowDotOf imsum cj cj))
+
+-- `finalize_constraints`
+unfoldable pub finalizeOf : List JointConstraint → List JointConstraint
+finalizeOf [] = []
+finalizeOf (c ∷ cs) = orthogonalise (headOf (imSumOf c)) isLock (pairOf (imSumOf c)) (c ∷ cs)
+
+-- the first n of a list of rows orthogonalised as one group; the rows after them stay
+unfoldable pub finalizeFirst : ℕ → List JointConstraint → List JointConstraint
+finalizeFirst n cs = finalizeOf (take n cs) ++ drop n cs

@@ -1,0 +1,51 @@
+-- The Rust's generic_joint.rs: motors and limits, by axis.
+use Prim.Native.Nat.{ℕ}
+use mathlib.Core.Bool.{cond}
+use lib.ListN.{getD}
+use lib.Ieee.{Float, nan, eq}
+use Rattle.floats.specs.Operators.{bits, _⊗_}
+use Rattle.rows.specs.MotorModel.{combineCoefficientsOf}
+use Rattle.rows.specs.declared.motor_model.MotorModel.the-variants.{AccelerationBased}
+use Rattle.rows.specs.declared.generic_joint.JointLimits.{JointLimits}
+use Rattle.rows.specs.declared.generic_joint.JointMotor.{JointMotor}
+use Rattle.rows.specs.declared.generic_joint.MotorParameters.{MotorParameters}
+use Rattle.rows.specs.declared.generic_joint.GenericJoint.{GenericJoint}
+
+-- `max_impulse`: zero where dt is zero
+unfoldable pub maxImpulseOf : Float → Float → Float
+maxImpulseOf maxForce dt = cond (eq dt (bits 0)) (bits 0) (maxForce ⊗ dt)
+
+-- `motor_params`
+unfoldable pub motorParamsOf : JointMotor → Float → MotorParameters
+motorParamsOf m dt =
+    let c = combineCoefficientsOf (m .model) dt (m .stiffness) (m .damping) in
+    record {
+      «erp_inv_dt» = c .«erp_inv_dt»;
+      «cfm_coeff» = c .«cfm_coeff»;
+      «cfm_gain» = c .«cfm_gain»;
+      «target_pos» = m .«target_pos»;
+      «target_vel» = m .«target_vel»;
+      «max_impulse» = maxImpulseOf (m .«max_force») dt;
+    }
+
+-- what stands past the last axis, where no row reads
+abbrev noLimits : JointLimits
+noLimits = record { min = nan; max = nan; impulse = nan }
+
+abbrev noMotor : JointMotor
+noMotor = record {
+  «target_vel» = nan;
+  «target_pos» = nan;
+  stiffness = nan;
+  damping = nan;
+  «max_force» = nan;
+  impulse = nan;
+  model = AccelerationBased;
+}
+
+-- axis i's limits and motor
+abbrev pub limitsAt : GenericJoint → ℕ → JointLimits
+limitsAt j i = getD (j .limits) i noLimits
+
+abbrev pub motorAt : GenericJoint → ℕ → JointMotor
+motorAt j i = getD (j .motors) i noMotor

@@ -1,0 +1,13 @@
+pub mod MotorModel
+pub mod IntegrationParameters
+pub mod GenericJoint
+pub mod RowIds
+pub mod Helper
+pub mod Makers
+pub mod Finalize
+pub mod Update
+pub mod Step
+pub mod Builder
+pub mod Writeback
+pub mod Cases
+pub mod Named

@@ -1,0 +1,150 @@
+-- The Rust's joint_constraint_helper.rs: one definition a row kind, before its group is orthogonalised.
+use Prim.Native.Nat.{ℕ}
+use mathlib.Core.Bool.{true, false, cond}
+use lib.Ieee.{Float, inf, neg, le, ne}
+use Rattle.floats.specs.Operators.{bits, _⊕_, _⊖_, _⊗_}
+use Rattle.floats.specs.Scalar.{maxOf, minOf, clampOf}
+use Rattle.floats.specs.Utils.{smallestAbsDiffBetweenAnglesOf}
+use Rattle.floats.specs.Angle.{angleOf}
+use Rattle.floats.specs.Vector.{gdotOf, transformVectorOf}
+use Rattle.rows.specs.IntegrationParameters.{maxFloat, invDtOf, maxCorrectiveVelocityOf}
+use Rattle.rows.specs.Helper.{linearAxisOf, angularAxis, coupledAxisOf}
+use Rattle.rows.specs.declared.integration_parameters.IntegrationParameters.{IntegrationParameters}
+use Rattle.rows.specs.declared.generic_joint.JointLimits.{JointLimits}
+use Rattle.rows.specs.declared.generic_joint.MotorParameters.{MotorParameters}
+use Rattle.rows.specs.declared.joint_constraint_helper.AngularLimitParams.{AngularLimitParams}
+use Rattle.rows.specs.declared.joint_constraint_helper.JointConstraintHelper.{JointConstraintHelper}
+use Rattle.rows.specs.declared.joint_constraint_helper.CoupledAxis.{CoupledAxis}
+use Rattle.rows.specs.declared.joint_constraint_helper.ImpulseBounds.{ImpulseBounds}
+use Rattle.rows.specs.declared.joint_constraint_helper.MotorLimits.{MotorLimits}
+use Rattle.rows.specs.declared.joint_constraint_helper.MotorLimits.the-variants.{Span, None}
+use Rattle.rows.specs.declared.joint_velocity_constraint.JointSolverBody.{JointSolverBody}
+use Rattle.rows.specs.declared.joint_velocity_constraint.JointConstraint.{JointConstraint}
+
+-- a row: impulse 0, and an inverse left-hand side that comes with its group
+unfoldable pub assembleOf : JointSolverBody → JointSolverBody → CoupledAxis → ImpulseBounds → Float → Float → Float → Float → JointConstraint
+assembleOf body1 body2 axis bounds rhs rhsWoBias cfmCoeff cfmGain = record {
+  impulse = bits 0;
+  «impulse_min» = bounds .min;
+  «impulse_max» = bounds .max;
+  «lin_jac» = axis .«lin_jac»;
+  «ang_jac1» = axis .«ang_jac1»;
+  «ang_jac2» = axis .«ang_jac2»;
+  «ii_ang_jac1» = transformVectorOf (body1 .ii) (axis .«ang_jac1»);
+  «ii_ang_jac2» = transformVectorOf (body2 .ii) (axis .«ang_jac2»);
+  «inv_lhs» = bits 0;
+  rhs = rhs;
+  «rhs_wo_bias» = rhsWoBias;
+  «cfm_gain» = cfmGain;
+  «cfm_coeff» = cfmCoeff;
+  im1 = body1 .im;
+  im2 = body2 .im;
+}
+
+-- ---- locks
+
+-- a lock's bounds
+unfoldable pub lockBounds : ImpulseBounds
+lockBounds = record { min = neg maxFloat; max = maxFloat }
+
+-- `lock_linear`
+unfoldable pub lockLinearOf : JointConstraintHelper → JointSolverBody → JointSolverBody → ℕ → Float → Float → JointConstraint
+lockLinearOf h body1 body2 i erpInvDt cfmCoeff =
+    let axis = linearAxisOf h i in
+    let bias = gdotOf (axis .«lin_jac») (h .«lin_err») ⊗ erpInvDt in
+    assembleOf body1 body2 axis lockBounds (bits 0 ⊕ bias) (bits 0) cfmCoeff (bits 0)
+
+-- `lock_angular`
+unfoldable pub lockAngularOf : JointConstraintHelper → JointSolverBody → JointSolverBody → Float → Float → JointConstraint
+lockAngularOf h body1 body2 erpInvDt cfmCoeff =
+    let bias = h .«ang_err» .im ⊗ erpInvDt in
+    assembleOf body1 body2 angularAxis lockBounds (bits 0 ⊕ bias) (bits 0) cfmCoeff (bits 0)
+
+-- ---- limits
+
+-- Strictly inside its limits a row has the bounds [0, 0]; touching an end opens that side.
+unfoldable pub limitBoundsOf : Float → Float → Float → ImpulseBounds
+limitBoundsOf dist low high = record { min = cond (le dist low) (inf true) (bits 0); max = cond (le high dist) (inf false) (bits 0) }
+
+-- a bias, at most the corrective velocity either way
+abbrev pub cappedOf : IntegrationParameters → Float → Float
+cappedOf p bias = clampOf bias (neg (maxCorrectiveVelocityOf p)) (maxCorrectiveVelocityOf p)
+
+-- how far an end is passed, times erp_inv_dt, capped
+unfoldable pub limitBiasOf : IntegrationParameters → Float → Float → Float → Float → Float
+limitBiasOf p dist low high erpInvDt = cappedOf p ((maxOf (dist ⊖ high) (bits 0) ⊖ maxOf (low ⊖ dist) (bits 0)) ⊗ erpInvDt)
+
+-- `limit_linear`
+unfoldable pub limitLinearOf : JointConstraintHelper → IntegrationParameters → JointSolverBody → JointSolverBody → ℕ → JointLimits → Float → Float → JointConstraint
+limitLinearOf h p body1 body2 i limits erpInvDt cfmCoeff =
+    let axis = linearAxisOf h i in
+    let bias = limitBiasOf p (axis .dist) (limits .min) (limits .max) erpInvDt in
+    assembleOf body1 body2 axis (limitBoundsOf (axis .dist) (limits .min) (limits .max)) (bits 0 ⊕ bias) (bits 0) cfmCoeff (bits 0)
+
+-- `limit_linear_coupled`: always [0, infinity], and only the upper end is read
+unfoldable pub limitLinearCoupledOf : JointConstraintHelper → IntegrationParameters → JointSolverBody → JointSolverBody → ℕ → JointLimits → Float → Float → JointConstraint
+limitLinearCoupledOf h p body1 body2 coupled limits erpInvDt cfmCoeff =
+    let axis = coupledAxisOf h coupled in
+    let passed = axis .dist ⊖ limits .max in
+    let rhsWoBias = minOf passed (bits 0) ⊗ invDtOf p in
+    let bias = cappedOf p (maxOf passed (bits 0) ⊗ erpInvDt) in
+    assembleOf body1 body2 axis (record { min = bits 0; max = inf false }) (rhsWoBias ⊕ bias) rhsWoBias cfmCoeff (bits 0)
+
+-- `recentered_angle`: the joint's angle from its limit's centre
+unfoldable pub recenteredAngleOf : JointConstraintHelper → AngularLimitParams → Float
+recenteredAngleOf h limit =
+    let c = limit .center in
+    let e = h .«ang_err» in
+    angleOf (c .re ⊗ e .re ⊕ c .im ⊗ e .im) (c .re ⊗ e .im ⊖ c .im ⊗ e .re)
+
+-- `limit_angular`
+unfoldable pub limitAngularOf : JointConstraintHelper → IntegrationParameters → JointSolverBody → JointSolverBody → AngularLimitParams → Float → Float → JointConstraint
+limitAngularOf h p body1 body2 limit erpInvDt cfmCoeff =
+    let ang = recenteredAngleOf h limit in
+    let high = limit .«half_range» in
+    let bias = limitBiasOf p ang (neg high) high erpInvDt in
+    assembleOf body1 body2 angularAxis (limitBoundsOf ang (neg high) high) (bits 0 ⊕ bias) (bits 0) cfmCoeff (bits 0)
+
+-- ---- motors
+
+-- a linear motor's target velocity, kept within what reaches its limits' ends in one step, where it has limits
+unfoldable pub limitedTargetVelOf : Float → MotorLimits → Float → Float → Float
+limitedTargetVelOf targetVel (Span low high) dist invDt = clampOf targetVel ((low ⊖ dist) ⊗ invDt) ((high ⊖ dist) ⊗ invDt)
+limitedTargetVelOf targetVel None dist invDt = targetVel
+
+-- a linear motor's right-hand side, at its distance
+unfoldable pub motorRhsOf : IntegrationParameters → MotorParameters → MotorLimits → Float → Float
+motorRhsOf p m limits dist =
+    let spring = cond (ne (m .«erp_inv_dt») (bits 0)) (bits 0 ⊕ (dist ⊖ m .«target_pos») ⊗ m .«erp_inv_dt») (bits 0) in
+    spring ⊕ neg (limitedTargetVelOf (m .«target_vel») limits dist (invDtOf p))
+
+unfoldable pub motorBoundsOf : MotorParameters → ImpulseBounds
+motorBoundsOf m = record { min = neg (m .«max_impulse»); max = m .«max_impulse» }
+
+-- a motor's row: its right-hand side has no bias
+unfoldable pub motorRowOf : JointSolverBody → JointSolverBody → CoupledAxis → MotorParameters → Float → JointConstraint
+motorRowOf body1 body2 axis m rhs = assembleOf body1 body2 axis (motorBoundsOf m) rhs rhs (m .«cfm_coeff») (m .«cfm_gain»)
+
+-- `motor_linear`
+unfoldable pub motorLinearOf : JointConstraintHelper → IntegrationParameters → JointSolverBody → JointSolverBody → ℕ → MotorParameters → MotorLimits → JointConstraint
+motorLinearOf h p body1 body2 i m limits =
+    let axis = linearAxisOf h i in
+    motorRowOf body1 body2 axis m (motorRhsOf p m limits (axis .dist))
+
+-- `motor_linear_coupled`
+unfoldable pub motorLinearCoupledOf : JointConstraintHelper → IntegrationParameters → JointSolverBody → JointSolverBody → ℕ → MotorParameters → MotorLimits → JointConstraint
+motorLinearCoupledOf h p body1 body2 coupled m limits =
+    let axis = coupledAxisOf h coupled in
+    motorRowOf body1 body2 axis m (motorRhsOf p m limits (axis .dist))
+
+-- an angular motor's right-hand side: `ang_err.angle()` is document 01's angle
+unfoldable pub motorAngularRhsOf : JointConstraintHelper → MotorParameters → Float
+motorAngularRhsOf h m =
+    let angDist = angleOf (h .«ang_err» .re) (h .«ang_err» .im) in
+    let spring =
+    cond (ne (m .«erp_inv_dt») (bits 0)) (bits 0 ⊕ smallestAbsDiffBetweenAnglesOf angDist (m .«target_pos») ⊗ m .«erp_inv_dt») (bits 0) in
+    spring ⊕ neg (m .«target_vel»)
+
+-- `motor_angular`
+unfoldable pub motorAngularOf : JointConstraintHelper → JointSolverBody → JointSolverBody → MotorParameters → JointConstraint
+motorAngularOf h body1 body2 m = motorRowOf body1 body2 angularAxis m (motorAngularRhsOf h m)

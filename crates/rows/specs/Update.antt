@@ -1,0 +1,98 @@
+-- The Rust's joint_velocity_constraint.rs, `update`: a joint's rows, each group orthogonalised by itself.
+use Prim.Native.Nat.{ℕ}
+use mathlib.Core.Bool.{cond}
+use mathlib.Core.List.{List, [], _∷_, _++_, map}
+use lib.Dec.{eqb}
+use lib.ListN.{length, getD, take, drop}
+use lib.Ieee.{Float}
+use Rattle.floats.specs.Operators.{bits}
+use Rattle.floats.specs.declared.vector.Vector.{Vector}
+use Rattle.floats.specs.declared.pose.Pose.{Pose}
+use Rattle.rows.specs.IntegrationParameters.{erpInvDtOf, cfmCoeffOf}
+use Rattle.rows.specs.GenericJoint.{limitsAt, motorAt, motorParamsOf}
+use Rattle.rows.specs.RowIds.{isLimit, isCoupled, groupOne, groupTwo, filled}
+use Rattle.rows.specs.Helper.{newOf}
+use Rattle.rows.specs.Makers.{lockLinearOf, lockAngularOf, limitLinearOf, limitLinearCoupledOf, limitAngularOf, motorLinearOf, motorLinearCoupledOf, motorAngularOf}
+use Rattle.rows.specs.Finalize.{finalizeOf}
+use Rattle.rows.specs.declared.integration_parameters.IntegrationParameters.{IntegrationParameters}
+use Rattle.rows.specs.declared.generic_joint.GenericJoint.{GenericJoint}
+use Rattle.rows.specs.declared.joint_constraint_helper.AngularLimitParams.{AngularLimitParams}
+use Rattle.rows.specs.declared.joint_constraint_helper.MotorLimits.{MotorLimits}
+use Rattle.rows.specs.declared.joint_constraint_helper.MotorLimits.the-variants.{Span, None}
+use Rattle.rows.specs.declared.joint_velocity_constraint.JointSolverBody.{JointSolverBody}
+use Rattle.rows.specs.declared.joint_velocity_constraint.JointConstraint.{JointConstraint}
+use Rattle.rows.specs.declared.joint_velocity_constraint.RowContext.{RowContext}
+use Rattle.rows.specs.declared.joint_velocity_constraint.Rows.{Rows}
+use Rattle.rows.specs.declared.row_ids.RowId.{RowId}
+use Rattle.rows.specs.declared.joint_velocity_constraint.WritebackId.{WritebackId}
+use Rattle.rows.specs.declared.joint_velocity_constraint.WritebackId.the-variants.{Dof, Limit, Motor}
+
+-- what a joint's rows are made from
+unfoldable pub contextOf : IntegrationParameters → JointSolverBody → JointSolverBody → Pose → Pose → GenericJoint → AngularLimitParams → RowContext
+contextOf params body1 body2 frame1 frame2 joint angLimit = record {
+  params = params;
+  body1 = body1;
+  body2 = body2;
+  helper = newOf frame1 frame2 (body1 .«world_com») (body2 .«world_com») (joint .masks .«locked_axes»);
+  joint = joint;
+  «ang_limit» = angLimit;
+  «erp_inv_dt» = erpInvDtOf (joint .softness) (params .dt);
+  «cfm_coeff» = cfmCoeffOf (joint .softness) (params .dt);
+}
+
+-- axis i's limits for its linear motor: its two ends where T holds i
+unfoldable pub motorLimitsOf : GenericJoint → ℕ → MotorLimits
+motorLimitsOf joint i = cond (isLimit (joint .masks) i) (Span (limitsAt joint i .min) (limitsAt joint i .max)) None
+
+-- the row of an id. Axis 2 is the angular one; a coupled linear axis stands for all coupled ones.
+unfoldable pub rowOf : RowContext → WritebackId → JointConstraint
+rowOf cx (Dof i) =
+    cond (eqb i 2)
+    (lockAngularOf (cx .helper) (cx .body1) (cx .body2) (cx .«erp_inv_dt») (cx .«cfm_coeff»))
+    (lockLinearOf (cx .helper) (cx .body1) (cx .body2) i (cx .«erp_inv_dt») (cx .«cfm_coeff»))
+rowOf cx (Limit i) =
+    cond (eqb i 2)
+    (limitAngularOf (cx .helper) (cx .params) (cx .body1) (cx .body2) (cx .«ang_limit») (cx .«erp_inv_dt») (cx .«cfm_coeff»))
+    (cond (isCoupled (cx .joint .masks) i)
+    (limitLinearCoupledOf (cx .helper) (cx .params) (cx .body1) (cx .body2) (cx .joint .masks .«coupled_axes») (limitsAt (cx .joint) i) (cx .«erp_inv_dt») (cx .«cfm_coeff»))
+    (limitLinearOf (cx .helper) (cx .params) (cx .body1) (cx .body2) i (limitsAt (cx .joint) i) (cx .«erp_inv_dt») (cx .«cfm_coeff»)))
+rowOf cx (Motor i) =
+    cond (eqb i 2)
+    (motorAngularOf (cx .helper) (cx .body1) (cx .body2) (motorParamsOf (motorAt (cx .joint) i) (cx .params .dt)))
+    (cond (isCoupled (cx .joint .masks) i)
+    (motorLinearCoupledOf (cx .helper) (cx .params) (cx .body1) (cx .body2) (cx .joint .masks .«coupled_axes») (motorParamsOf (motorAt (cx .joint) i) (cx .params .dt)) (motorLimitsOf (cx .joint) i))
+    (motorLinearOf (cx .helper) (cx .params) (cx .body1) (cx .body2) i (motorParamsOf (motorAt (cx .joint) i) (cx .params .dt)) (motorLimitsOf (cx .joint) i)))
+
+-- `update`: the rows of group one, then those of group two
+unfoldable pub updateOf : RowContext → List JointConstraint
+updateOf cx =
+    finalizeOf (map (rowOf cx) (groupOne 2 1 (cx .joint .masks)))
+    ++ finalizeOf (map (rowOf cx) (groupTwo 2 1 (cx .joint .masks)))
+
+-- ---- the rows as an array of six, the rest filled up
+
+abbrev pub blankRow : JointConstraint
+blankRow = record {
+  impulse = bits 0;
+  «impulse_min» = bits 0;
+  «impulse_max» = bits 0;
+  «lin_jac» = record { x = bits 0; y = bits 0 };
+  «ang_jac1» = bits 0;
+  «ang_jac2» = bits 0;
+  «ii_ang_jac1» = bits 0;
+  «ii_ang_jac2» = bits 0;
+  «inv_lhs» = bits 0;
+  rhs = bits 0;
+  «rhs_wo_bias» = bits 0;
+  «cfm_gain» = bits 0;
+  «cfm_coeff» = bits 0;
+  im1 = record { x = bits 0; y = bits 0 };
+  im2 = record { x = bits 0; y = bits 0 };
+}
+
+unfoldable pub rowsArray : List JointConstraint → Rows
+rowsArray l = record { rows = filled 6 blankRow l; len = length l }
+
+-- a group's rows before it is orthogonalised, from an array of ids: `count` of them from id `from` on
+unfoldable pub groupRows : RowContext → List RowId → ℕ → ℕ → List JointConstraint
+groupRows cx ids from count = filled 6 blankRow (map (λ i. rowOf cx (i .id)) (take count (drop from ids)))

@@ -1,0 +1,184 @@
+// The Rust's dynamics/solver/joint_constraint/joint_constraint_builder.rs, by value: a joint's rows
+// from the poses of its bodies, and where their impulses start.
+ghost use mathlib.Core.Path.{_≡_};
+ghost use Rattle.rows.specs.Builder.{solverBodyOf, jointContextOf, seedOf, warmedOf, builderUpdateOf};
+ghost use Rattle.rows.specs.Writeback.{writebackOf};
+ghost use Rattle.rows.specs.Update.{rowsArray};
+use crate::generic_joint::GenericJoint;
+use crate::integration_parameters::IntegrationParameters;
+use crate::joint_constraint_helper::AngularLimitParams;
+use crate::joint_velocity_constraint::JointConstraint;
+use crate::joint_velocity_constraint::JointSolverBody;
+use crate::joint_velocity_constraint::RowContext;
+use crate::joint_velocity_constraint::Rows;
+use crate::joint_velocity_constraint::WritebackId;
+use crate::row_ids::row_ids;
+use floats::pose::Pose;
+use floats::rotation_ops::Rotation;
+use floats::vector::Vector;
+
+// What the rows read of a body, its pose being that of its centre of mass.
+pub struct SolverPose {
+    pub pose: Pose,
+    pub ii: f32,
+    pub im: Vector,
+}
+
+// A joint with its stored Dof impulses, and the centre of its angular limit as cosine and sine.
+pub struct ImpulseJoint {
+    pub data: GenericJoint,
+    pub impulses: [f32; 3],
+    pub center: Rotation,
+}
+
+// A warm coefficient, or none.
+pub enum Warmstart {
+    Warm(f32),
+    Cold,
+}
+
+impl SolverPose {
+    pub fn solver_body(self) -> JointSolverBody
+        ensures { λ r. ⌜ r ≡ solverBodyOf self ⌝ }
+    {
+        let pose = self.pose;
+        let im = self.im;
+        let world_com = pose.translation;
+        JointSolverBody {
+            im: im,
+            ii: self.ii,
+            world_com: world_com,
+        }
+    }
+}
+
+impl ImpulseJoint {
+    pub fn context(
+        self,
+        params: IntegrationParameters,
+        body1: SolverPose,
+        body2: SolverPose,
+    ) -> RowContext
+        ensures { λ r. ⌜ r ≡ jointContextOf params body1 body2 self ⌝ }
+    {
+        let data = self.data;
+        let limits = data.limits_at(2);
+        let ang_limit = AngularLimitParams::new(limits.min, limits.max, self.center);
+        let pose1 = body1.pose;
+        let pose2 = body2.pose;
+        let frame1 = pose1.mul(data.local_frame1);
+        let frame2 = pose2.mul(data.local_frame2);
+        RowContext::new(
+            params,
+            body1.solver_body(),
+            body2.solver_body(),
+            frame1,
+            frame2,
+            data,
+            ang_limit,
+        )
+    }
+
+    // An id's stored impulse.
+    pub fn seed(self, id: WritebackId) -> f32
+        ensures { λ r. ⌜ r ≡ seedOf self id ⌝ }
+    {
+        let data = self.data;
+        match id {
+            WritebackId::Dof(axis) => {
+                if axis < 3 {
+                    return self.impulses[axis];
+                }
+                0.0 / 0.0
+            }
+            WritebackId::Limit(axis) => data.limits_at(axis).impulse,
+            WritebackId::Motor(axis) => data.motor_at(axis).impulse,
+        }
+    }
+
+    // The Rust's `writeback_impulses`: a row's impulse stored by its id.
+    pub fn writeback_impulse(self, id: WritebackId, impulse: f32) -> ImpulseJoint
+        ensures { λ r. ⌜ r ≡ writebackOf self id impulse ⌝ }
+    {
+        let mut joint = self;
+        match id {
+            WritebackId::Dof(axis) => {
+                if axis < 3 {
+                    joint.impulses[axis] = impulse;
+                }
+            }
+            WritebackId::Limit(axis) => {
+                let mut data = joint.data;
+                if axis < 3 {
+                    let mut limits = data.limits[axis];
+                    limits.impulse = impulse;
+                    data.limits[axis] = limits;
+                }
+                joint.data = data;
+            }
+            WritebackId::Motor(axis) => {
+                let mut data = joint.data;
+                if axis < 3 {
+                    let mut motor = data.motors[axis];
+                    motor.impulse = impulse;
+                    data.motors[axis] = motor;
+                }
+                joint.data = data;
+            }
+        }
+        joint
+    }
+}
+
+// Where a row's impulse starts, from its stored impulse and its last one.
+pub fn warmed(
+    warmstart: Warmstart,
+    substep_id: u32,
+    seed: f32,
+    prev: f32,
+    row: JointConstraint,
+) -> JointConstraint
+    ensures { λ r. ⌜ r ≡ warmedOf warmstart «substep_id» seed prev row ⌝ }
+{
+    match warmstart {
+        Warmstart::Warm(coeff) => {
+            if substep_id == 0 {
+                return row.with_impulse(seed * coeff);
+            }
+            row.with_impulse(prev * coeff)
+        }
+        Warmstart::Cold => row,
+    }
+}
+
+// The Rust's `update`, after `update_warmstart_seeds`. `prevs` are the impulses of the rows that the
+// last build made, by row.
+pub fn update(
+    params: IntegrationParameters,
+    substep_id: u32,
+    warmstart: Warmstart,
+    body1: SolverPose,
+    body2: SolverPose,
+    joint: ImpulseJoint,
+    prevs: [f32; 6],
+) -> Rows
+    ensures { λ r. ⌜ r ≡ rowsArray (builderUpdateOf params «substep_id» warmstart body1 body2 joint prevs) ⌝ }
+{
+    let data = joint.data;
+    let ids = row_ids(data.masks);
+    let context = joint.context(params, body1, body2);
+    let made = context.update();
+    let mut rows = made.rows;
+    let len = made.len;
+    let mut k = 0usize;
+    while k < len {
+        let named = ids.ids[k];
+        let id = named.id;
+        rows[k] = warmed(warmstart, substep_id, joint.seed(id), prevs[k], rows[k]);
+        k += 1;
+    }
+    Rows {
+        rows: rows,
+        len: len,
+    }
+}

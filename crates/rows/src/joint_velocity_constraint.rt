@@ -1,0 +1,358 @@
+// The Rust's dynamics/solver/joint_constraint/joint_velocity_constraint.rs: a row, and what it does
+// to the velocities of its two bodies.
+ghost use mathlib.Core.Path.{_≡_};
+ghost use Prim.Native.Nat.{_+_, _≤_};
+ghost use mathlib.Core.List.{_++_};
+ghost use lib.ListN.{take, drop};
+ghost use Rattle.rows.specs.Update.{contextOf, motorLimitsOf, rowOf, updateOf, blankRow, rowsArray, groupRows};
+ghost use Rattle.rows.specs.Step.{wantedImpulseOf, appliedOf, stepOf, warmstartOf, removeBiasOf, withImpulse};
+use crate::generic_joint::GenericJoint;
+use crate::integration_parameters::IntegrationParameters;
+use crate::joint_constraint_helper::AngularLimitParams;
+use crate::joint_constraint_helper::JointConstraintHelper;
+use crate::joint_constraint_helper::MotorLimits;
+use crate::joint_constraint_helper::finalize_group;
+use crate::row_ids::RowIds;
+use crate::row_ids::row_ids;
+use floats::pose::Pose;
+use floats::scalar::clamp;
+use floats::vector::Vector;
+
+// Which stored impulse of its joint a row is for: an axis's lock, limit or motor.
+pub enum WritebackId {
+    Dof(usize),
+    Limit(usize),
+    Motor(usize),
+}
+
+// What a row reads of a body.
+pub struct JointSolverBody {
+    pub im: Vector,
+    pub ii: f32,
+    pub world_com: Vector,
+}
+
+pub struct SolverVel {
+    pub linear: Vector,
+    pub angular: f32,
+}
+
+// The velocities of a row's two bodies.
+pub struct SolverVels {
+    pub vel1: SolverVel,
+    pub vel2: SolverVel,
+}
+
+// A row. Its bodies, its joint and its id are not kept in it: they come from the model.
+pub struct JointConstraint {
+    pub impulse: f32,
+    pub impulse_min: f32,
+    pub impulse_max: f32,
+    pub lin_jac: Vector,
+    pub ang_jac1: f32,
+    pub ang_jac2: f32,
+    pub ii_ang_jac1: f32,
+    pub ii_ang_jac2: f32,
+    pub inv_lhs: f32,
+    pub rhs: f32,
+    pub rhs_wo_bias: f32,
+    pub cfm_gain: f32,
+    pub cfm_coeff: f32,
+    pub im1: Vector,
+    pub im2: Vector,
+}
+
+// What a joint's rows are made from.
+pub struct RowContext {
+    pub params: IntegrationParameters,
+    pub body1: JointSolverBody,
+    pub body2: JointSolverBody,
+    pub helper: JointConstraintHelper,
+    pub joint: GenericJoint,
+    pub ang_limit: AngularLimitParams,
+    pub erp_inv_dt: f32,
+    pub cfm_coeff: f32,
+}
+
+// A joint's rows: `len` of them, and blank ones.
+pub struct Rows {
+    pub rows: [JointConstraint; 6],
+    pub len: usize,
+}
+
+// What one step leaves: the row, and the velocities of its two bodies.
+pub struct Solved {
+    pub row: JointConstraint,
+    pub vels: SolverVels,
+}
+
+impl JointConstraint {
+    // The impulse that the row wants, before its bounds.
+    pub fn wanted_impulse(self, vel1: SolverVel, vel2: SolverVel) -> f32
+        ensures { λ r. ⌜ r ≡ wantedImpulseOf self vel1 vel2 ⌝ }
+    {
+        let lin_jac = self.lin_jac;
+        let linear2 = vel2.linear;
+        let dlinvel = lin_jac.gdot(linear2.sub(vel1.linear));
+        let dangvel = self.ang_jac2 * vel2.angular - self.ang_jac1 * vel1.angular;
+        let rhs = dlinvel + dangvel + self.rhs;
+        self.impulse + self.inv_lhs * (rhs - self.cfm_gain * self.impulse)
+    }
+
+    // Both velocities once an impulse acts along the row.
+    pub fn applied(self, vel1: SolverVel, vel2: SolverVel, impulse: f32) -> SolverVels
+        ensures { λ r. ⌜ r ≡ appliedOf self vel1 vel2 impulse ⌝ }
+    {
+        let lin_jac = self.lin_jac;
+        let linear1 = vel1.linear;
+        let linear2 = vel2.linear;
+        let lin_impulse = lin_jac.mul(impulse);
+        SolverVels {
+            vel1: SolverVel {
+                linear: linear1.add(lin_impulse.component_mul(self.im1)),
+                angular: vel1.angular + self.ii_ang_jac1 * impulse,
+            },
+            vel2: SolverVel {
+                linear: linear2.sub(lin_impulse.component_mul(self.im2)),
+                angular: vel2.angular - self.ii_ang_jac2 * impulse,
+            },
+        }
+    }
+
+    // The row with another impulse.
+    pub fn with_impulse(self, impulse: f32) -> JointConstraint
+        ensures { λ r. ⌜ r ≡ withImpulse self impulse ⌝ }
+    {
+        let mut row = self;
+        row.impulse = impulse;
+        row
+    }
+
+    // The Rust's `solve_generic`, by value.
+    pub fn step(self, vel1: SolverVel, vel2: SolverVel) -> Solved
+        ensures { λ r. ⌜ r ≡ stepOf self vel1 vel2 ⌝ }
+    {
+        let wanted = self.wanted_impulse(vel1, vel2);
+        let total_impulse = clamp(wanted, self.impulse_min, self.impulse_max);
+        let delta_impulse = total_impulse - self.impulse;
+        Solved {
+            row: self.with_impulse(total_impulse),
+            vels: self.applied(vel1, vel2, delta_impulse),
+        }
+    }
+
+    pub fn warmstart_generic(self, vel1: SolverVel, vel2: SolverVel) -> SolverVels
+        ensures { λ r. ⌜ r ≡ warmstartOf self vel1 vel2 ⌝ }
+    {
+        self.applied(vel1, vel2, self.impulse)
+    }
+
+    pub fn remove_bias_from_rhs(self) -> JointConstraint
+        ensures { λ r. ⌜ r ≡ removeBiasOf self ⌝ }
+    {
+        let mut row = self;
+        row.rhs = self.rhs_wo_bias;
+        row
+    }
+}
+
+pub fn blank_row() -> JointConstraint
+    ensures { λ r. ⌜ r ≡ blankRow ⌝ }
+{
+    let zero = Vector { x: 0.0, y: 0.0 };
+    JointConstraint {
+        impulse: 0.0,
+        impulse_min: 0.0,
+        impulse_max: 0.0,
+        lin_jac: zero,
+        ang_jac1: 0.0,
+        ang_jac2: 0.0,
+        ii_ang_jac1: 0.0,
+        ii_ang_jac2: 0.0,
+        inv_lhs: 0.0,
+        rhs: 0.0,
+        rhs_wo_bias: 0.0,
+        cfm_gain: 0.0,
+        cfm_coeff: 0.0,
+        im1: zero,
+        im2: zero,
+    }
+}
+
+// The limits of an axis for its linear motor.
+pub fn motor_limits(joint: GenericJoint, axis: usize) -> MotorLimits
+    ensures { λ r. ⌜ r ≡ motorLimitsOf joint axis ⌝ }
+{
+    let masks = joint.masks;
+    if masks.is_limit(axis) {
+        let limits = joint.limits_at(axis);
+        return MotorLimits::Span(limits.min, limits.max);
+    }
+    MotorLimits::None
+}
+
+impl RowContext {
+    pub fn new(
+        params: IntegrationParameters,
+        body1: JointSolverBody,
+        body2: JointSolverBody,
+        frame1: Pose,
+        frame2: Pose,
+        joint: GenericJoint,
+        ang_limit: AngularLimitParams,
+    ) -> RowContext
+        ensures { λ r. ⌜ r ≡ contextOf params body1 body2 frame1 frame2 joint «ang_limit» ⌝ }
+    {
+        let masks = joint.masks;
+        let softness = joint.softness;
+        let dt = params.dt;
+        let world_com1 = body1.world_com;
+        let world_com2 = body2.world_com;
+        let helper = JointConstraintHelper::new(
+            frame1,
+            frame2,
+            world_com1,
+            world_com2,
+            masks.locked_axes,
+        );
+        RowContext {
+            params: params,
+            body1: body1,
+            body2: body2,
+            helper: helper,
+            joint: joint,
+            ang_limit: ang_limit,
+            erp_inv_dt: softness.erp_inv_dt(dt),
+            cfm_coeff: softness.cfm_coeff(dt),
+        }
+    }
+
+    pub fn dof_row(self, axis: usize) -> JointConstraint
+        ensures { λ r. ⌜ r ≡ rowOf self (WritebackId.Dof axis) ⌝ }
+    {
+        let helper = self.helper;
+        let body1 = self.body1;
+        let body2 = self.body2;
+        let erp_inv_dt = self.erp_inv_dt;
+        let cfm_coeff = self.cfm_coeff;
+        if axis == 2 {
+            return helper.lock_angular(body1, body2, erp_inv_dt, cfm_coeff);
+        }
+        helper.lock_linear(body1, body2, axis, erp_inv_dt, cfm_coeff)
+    }
+
+    pub fn limit_row(self, axis: usize) -> JointConstraint
+        ensures { λ r. ⌜ r ≡ rowOf self (WritebackId.Limit axis) ⌝ }
+    {
+        let helper = self.helper;
+        let params = self.params;
+        let body1 = self.body1;
+        let body2 = self.body2;
+        let erp_inv_dt = self.erp_inv_dt;
+        let cfm_coeff = self.cfm_coeff;
+        if axis == 2 {
+            let ang_limit = self.ang_limit;
+            return helper.limit_angular(params, body1, body2, ang_limit, erp_inv_dt, cfm_coeff);
+        }
+        let joint = self.joint;
+        let masks = joint.masks;
+        let limits = joint.limits_at(axis);
+        if masks.is_coupled(axis) {
+            let coupled = masks.coupled_axes;
+            return helper.limit_linear_coupled(
+                params,
+                body1,
+                body2,
+                coupled,
+                limits,
+                erp_inv_dt,
+                cfm_coeff,
+            );
+        }
+        helper.limit_linear(params, body1, body2, axis, limits, erp_inv_dt, cfm_coeff)
+    }
+
+    pub fn motor_row(self, axis: usize) -> JointConstraint
+        ensures { λ r. ⌜ r ≡ rowOf self (WritebackId.Motor axis) ⌝ }
+    {
+        let helper = self.helper;
+        let params = self.params;
+        let body1 = self.body1;
+        let body2 = self.body2;
+        let joint = self.joint;
+        let motor = joint.motor_at(axis);
+        let motor_params = motor.motor_params(params.dt);
+        if axis == 2 {
+            return helper.motor_angular(body1, body2, motor_params);
+        }
+        let masks = joint.masks;
+        let limits = motor_limits(joint, axis);
+        if masks.is_coupled(axis) {
+            let coupled = masks.coupled_axes;
+            return helper.motor_linear_coupled(params, body1, body2, coupled, motor_params, limits);
+        }
+        helper.motor_linear(params, body1, body2, axis, motor_params, limits)
+    }
+
+    // The row of an id.
+    pub fn row(self, id: WritebackId) -> JointConstraint
+        ensures { λ r. ⌜ r ≡ rowOf self id ⌝ }
+    {
+        match id {
+            WritebackId::Dof(axis) => self.dof_row(axis),
+            WritebackId::Limit(axis) => self.limit_row(axis),
+            WritebackId::Motor(axis) => self.motor_row(axis),
+        }
+    }
+
+    // `count` rows from id number `from` on, before their group is orthogonalised.
+    fn group(self, ids: RowIds, from: usize, count: usize) -> [JointConstraint; 6]
+        requires { ⌜ from + count ≤ 6 ⌝ }
+        ensures { λ r. ⌜ r ≡ groupRows self (ids .ids) from count ⌝ }
+    {
+        let blank = blank_row();
+        let mut rows = [blank; 6];
+        let mut k = 0usize;
+        while k < count {
+            let named = ids.ids[from + k];
+            let id = named.id;
+            rows[k] = self.row(id);
+            k += 1;
+        }
+        rows
+    }
+
+    pub fn update(self) -> Rows
+        ensures { λ r. ⌜ r ≡ rowsArray (updateOf self) ⌝ }
+    {
+        let joint = self.joint;
+        let ids = row_ids(joint.masks);
+        let first = ids.first;
+        let second = ids.len - first;
+        let one = finalize_group(self.group(ids, 0, first), first);
+        let two = finalize_group(self.group(ids, first, second), second);
+        Rows {
+            rows: joined(one, first, two, second),
+            len: ids.len,
+        }
+    }
+}
+
+// The first n rows of one array, then the first m of another.
+fn joined(
+    one: [JointConstraint; 6],
+    n: usize,
+    two: [JointConstraint; 6],
+    m: usize,
+) -> [JointConstraint; 6]
+    requires { ⌜ n + m ≤ 6 ⌝ }
+    ensures { λ r. ⌜ r ≡ take n one ++ (take m two ++ drop (n + m) one) ⌝ }
+{
+    let mut rows = one;
+    let mut k = 0usize;
+    while k < m {
+        rows[n + k] = two[k];
+        k += 1;
+    }
+    rows
+}

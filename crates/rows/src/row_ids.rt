@@ -1,0 +1,199 @@
+// Which rows a joint has, from its masks: document 01, "Which rows, in which order".
+ghost use mathlib.Core.Path.{_≡_};
+ghost use mathlib.Core.Bool.{true, cond, not, _&&_};
+ghost use mathlib.Core.List.{List, [], _∷_, _++_};
+ghost use Prim.Native.Nat.{ℕ, _+_, _≤_, _<_};
+ghost use lib.Dec.{ltb};
+ghost use lib.ListN.{length};
+ghost use Rattle.rows.specs.RowIds.{hasAxis, isLocked, isMotor, isLimit, isCoupled, some, keep, inOrder, firstCoupled, sharesLinear, groupOne, lockIds, held, rowIds, rowIdsArray};
+ghost use Rattle.rows.specs.declared.joint_velocity_constraint.WritebackId.{WritebackId};
+use crate::generic_joint::Masks;
+use crate::generic_joint::has_axis;
+use crate::joint_velocity_constraint::WritebackId;
+
+// An id in an array: an array's element is a struct.
+pub struct RowId {
+    pub id: WritebackId,
+}
+
+// A joint's ids: `len` of them, of which the first `first` are group one.
+pub struct RowIds {
+    pub ids: [RowId; 6],
+    pub first: usize,
+    pub len: usize,
+}
+
+impl Masks {
+    pub fn is_locked(self, axis: usize) -> bool
+        ensures { λ r. ⌜ r ≡ isLocked self axis ⌝ }
+    {
+        has_axis(self.locked_axes, axis)
+    }
+
+    // A motor without a lock.
+    pub fn is_motor(self, axis: usize) -> bool
+        ensures { λ r. ⌜ r ≡ isMotor self axis ⌝ }
+    {
+        has_axis(self.motor_axes, axis) && !has_axis(self.locked_axes, axis)
+    }
+
+    // A limit without a lock.
+    pub fn is_limit(self, axis: usize) -> bool
+        ensures { λ r. ⌜ r ≡ isLimit self axis ⌝ }
+    {
+        has_axis(self.limit_axes, axis) && !has_axis(self.locked_axes, axis)
+    }
+
+    pub fn is_coupled(self, axis: usize) -> bool
+        ensures { λ r. ⌜ r ≡ isCoupled self axis ⌝ }
+    {
+        has_axis(self.coupled_axes, axis)
+    }
+
+    fn is_motor_outside(self, axis: usize) -> bool
+        ensures { λ r. ⌜ r ≡ (isMotor self axis && not (isCoupled self axis)) ⌝ }
+    {
+        self.is_motor(axis) && !self.is_coupled(axis)
+    }
+
+    fn is_limit_outside(self, axis: usize) -> bool
+        ensures { λ r. ⌜ r ≡ (isLimit self axis && not (isCoupled self axis)) ⌝ }
+    {
+        self.is_limit(axis) && !self.is_coupled(axis)
+    }
+
+    fn is_coupled_motor(self, axis: usize) -> bool
+        ensures { λ r. ⌜ r ≡ (isMotor self axis && isCoupled self axis) ⌝ }
+    {
+        self.is_motor(axis) && self.is_coupled(axis)
+    }
+
+    // Whether M and C share a linear bit.
+    fn shares_linear(self) -> bool
+        ensures { λ r. ⌜ r ≡ sharesLinear 2 self ⌝ }
+    {
+        self.is_coupled_motor(0) || self.is_coupled_motor(1)
+    }
+
+    // F, the lowest set bit of C's linear part; 32 where it has none.
+    fn first_coupled_lin_axis_id(self) -> usize
+        ensures { λ r. ⌜ firstCoupled 2 self ≡ cond (ltb r 2) (r ∷ []) [] ⌝ }
+    {
+        u32::trailing_zeros(self.coupled_axes & 3) as usize
+    }
+
+    // Whether C has a linear bit and T holds F.
+    fn has_coupled_limit(self) -> bool
+        ensures { λ r. ⌜ r ≡ some (isLimit self) (firstCoupled 2 self) ⌝ }
+    {
+        let f = self.first_coupled_lin_axis_id();
+        f < 2 && self.is_limit(f)
+    }
+}
+
+// The ids with one more at their end, if it is named.
+fn push_if(ids: RowIds, named: bool, id: WritebackId) -> RowIds
+    requires { ⌜ (named ≡ true → ids .len < 6) ⌝ }
+    ensures { λ r. ⌜ ((n : ℕ) (l : List WritebackId) → ids ≡ held n l → r ≡ held n (l ++ cond named (id ∷ []) [])) ⌝ }
+    ensures { λ r. ⌜ r .len ≤ ids .len + 1 ⌝ }
+{
+    if !named {
+        return ids;
+    }
+    let mut all = ids.ids;
+    let n = ids.len;
+    all[n] = RowId { id };
+    RowIds {
+        ids: all,
+        first: ids.first,
+        len: n + 1,
+    }
+}
+
+// Group one.
+fn motor_ids(masks: Masks) -> RowIds
+    ensures { λ r. ⌜ r ≡ held 0 (groupOne 2 1 masks) ⌝ }
+{
+    let none = RowIds {
+        ids: [RowId {
+            id: WritebackId::Dof(0),
+        }; 6],
+        first: 0,
+        len: 0,
+    };
+    let angular = push_if(none, masks.is_motor_outside(2), WritebackId::Motor(2));
+    let linear0 = push_if(angular, masks.is_motor_outside(0), WritebackId::Motor(0));
+    let linear1 = push_if(linear0, masks.is_motor_outside(1), WritebackId::Motor(1));
+    let f = masks.first_coupled_lin_axis_id();
+    push_if(linear1, masks.shares_linear(), WritebackId::Motor(f))
+}
+
+// Group two's locks, after group one.
+fn lock_ids(ids: RowIds, masks: Masks) -> RowIds
+    requires { ⌜ ids ≡ held (length (groupOne 2 1 masks)) (groupOne 2 1 masks) ⌝ }
+    ensures { λ r. ⌜ r ≡ held (length (groupOne 2 1 masks)) (groupOne 2 1 masks ++ lockIds 2 1 masks) ⌝ }
+{
+    let angular = push_if(ids, masks.is_locked(2), WritebackId::Dof(2));
+    let linear0 = push_if(angular, masks.is_locked(0), WritebackId::Dof(0));
+    push_if(linear0, masks.is_locked(1), WritebackId::Dof(1))
+}
+
+// Group two's limits, after group one and the locks.
+fn limit_ids(ids: RowIds, masks: Masks) -> RowIds
+    requires { ⌜ ids ≡ held (length (groupOne 2 1 masks)) (groupOne 2 1 masks ++ lockIds 2 1 masks) ⌝ }
+    ensures { λ r. ⌜ r ≡ rowIdsArray masks ⌝ }
+{
+    let angular = push_if(ids, masks.is_limit_outside(2), WritebackId::Limit(2));
+    let linear0 = push_if(angular, masks.is_limit_outside(0), WritebackId::Limit(0));
+    let linear1 = push_if(linear0, masks.is_limit_outside(1), WritebackId::Limit(1));
+    let f = masks.first_coupled_lin_axis_id();
+    push_if(linear1, masks.has_coupled_limit(), WritebackId::Limit(f))
+}
+
+// A joint's ids, in the order of its rows.
+pub fn row_ids(masks: Masks) -> RowIds
+    ensures { λ r. ⌜ r ≡ rowIdsArray masks ⌝ }
+{
+    let motors = motor_ids(masks);
+    let all = motors.ids;
+    let n = motors.len;
+    let locks = lock_ids(
+        RowIds {
+            ids: all,
+            first: n,
+            len: n,
+        },
+        masks,
+    );
+    limit_ids(locks, masks)
+}
+
+// How many axes of a mask are neither locked nor coupled.
+fn count_outside(mask: u32, locked: u32, coupled: u32) -> u32
+    ensures { λ r. ⌜ r ≡ length (keep (λ i. hasAxis mask i && not (hasAxis locked i) && not (hasAxis coupled i)) (inOrder 2 1)) ⌝ }
+    ensures { λ r. ⌜ r ≤ 3 ⌝ }
+{
+    u32::count_ones((mask % 8) & !(locked % 8) & !(coupled % 8))
+}
+
+// How many axes are locked.
+fn count_locked(locked: u32) -> u32
+    ensures { λ r. ⌜ r ≡ length (keep (λ i. hasAxis locked i) (inOrder 2 1)) ⌝ }
+    ensures { λ r. ⌜ r ≤ 3 ⌝ }
+{
+    u32::count_ones(locked % 8)
+}
+
+// The number of a joint's rows.
+pub fn row_count(masks: Masks) -> usize
+    ensures { λ r. ⌜ r ≡ length (rowIds 2 1 masks) ⌝ }
+{
+    let locked = masks.locked_axes;
+    let coupled = masks.coupled_axes;
+    let motors = count_outside(masks.motor_axes, locked, coupled);
+    let limits = count_outside(masks.limit_axes, locked, coupled);
+    let locks = count_locked(locked);
+    let coupled_motor = masks.shares_linear() as u32;
+    let coupled_limit = masks.has_coupled_limit() as u32;
+    (motors + coupled_motor + locks + limits + coupled_limit) as usize
+}
