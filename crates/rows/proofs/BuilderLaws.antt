@@ -1,21 +1,33 @@
--- What a joint's rows start from. In substep 0 they read the stored impulses of the joint's ids and no row of the last build (`named-seeds`,
--- `first-reads-no-row`); in a later substep they read no stored impulse (`later-reads-no-seed`).
-use Prim.Native.Nat.{ℕ, suc}
-use native.Mathlib.Nat.{suc-inj, suc-ne-zero}
+-- Where a joint's rows start. In substep 0 they read stored impulses at the joint's ids only, and no row of the last build (`warmedAll-seeds`,
+-- `first-reads-no-row`); in a later substep they read no stored impulse (`warmedAll-later`); with no warm coefficient they are the rows that
+-- `update` makes, whose impulses are 0 (`cold`, `made-impulses`). Assumes nothing.
+use Prim.Native.Nat.{ℕ, zero, suc, _≤_}
+use native.Mathlib.Nat.{suc-inj, suc-ne-zero, le-of-suc-le-suc, not-suc-le-zero}
+use native.Mathlib.Omega.{arith}
 use mathlib.Core.Path.{_≡_, refl, ap, sym, _∙_}
-use mathlib.Core.List.{List, [], _∷_, List·Memᴰ, List·Memᴰ·head, List·Memᴰ·tail}
+use mathlib.Core.Bool.{Bool, true, false, cond}
+use mathlib.Core.List.{List, [], _∷_, map, map-append, List·Memᴰ, List·Memᴰ·head, List·Memᴰ·tail}
+use lib.Dec.{eqb}
 use lib.ListN.{length}
 use lib.Ieee.{Float}
+use Rattle.floats.specs.Operators.{bits}
 use Rattle.rows.specs.declared.integration_parameters.IntegrationParameters.{IntegrationParameters}
 use Rattle.rows.specs.declared.joint_constraint_builder.SolverPose.{SolverPose}
 use Rattle.rows.specs.declared.joint_constraint_builder.ImpulseJoint.{ImpulseJoint}
 use Rattle.rows.specs.declared.joint_constraint_builder.Warmstart.{Warmstart}
 use Rattle.rows.specs.declared.joint_constraint_builder.Warmstart.the-variants.{Cold, Warm}
 use Rattle.rows.specs.declared.joint_velocity_constraint.JointConstraint.{JointConstraint}
+use Rattle.rows.specs.declared.joint_velocity_constraint.RowContext.{RowContext}
 use Rattle.rows.specs.declared.joint_velocity_constraint.WritebackId.{WritebackId}
-use Rattle.rows.specs.RowIds.{rowIds}
-use Rattle.rows.specs.Update.{updateOf}
+use Rattle.rows.specs.declared.joint_velocity_constraint.WritebackId.the-variants.{Dof, Limit, Motor}
+use Rattle.rows.specs.RowIds.{isCoupled, groupOne, groupTwo, rowIds}
+use Rattle.rows.specs.Makers.{assembleOf, motorRowOf, lockLinearOf, lockAngularOf, limitLinearOf, limitLinearCoupledOf, limitAngularOf, motorLinearOf, motorLinearCoupledOf, motorAngularOf}
+use Rattle.rows.specs.Finalize.{orthogonaliseN, imSumOf, headOf, isLock, lessOf, pairOf, finalizeOf}
+use Rattle.rows.specs.Update.{rowOf, updateOf}
 use Rattle.rows.specs.Builder.{jointContextOf, seedOf, warmedOf, warmedAll, builderUpdateOf}
+use Rattle.rows.proofs.RowIdsCount.{at-most-six}
+use Rattle.rows.proofs.UpdateRows.{length-updateOf}
+use Rattle.rows.proofs.WarmedRows.{context-joint}
 
 -- two joints whose stored impulses agree at each of these ids
 pub warmedAll-seeds : (warm : Warmstart) (substep : ℕ) (a b : ImpulseJoint) (is : List WritebackId) (ps : List Float) (rs : List JointConstraint)
@@ -41,13 +53,14 @@ unfolding warmedOf
 first-row Cold seed prev₁ prev₂ row = refl
 first-row (Warm coeff) seed prev₁ prev₂ row = refl
 
-later-rows : (warm : Warmstart) (substep : ℕ) (a b : ImpulseJoint) (is : List WritebackId) (ps : List Float) (rs : List JointConstraint)
+-- two joints, whatever their stored impulses
+pub warmedAll-later : (warm : Warmstart) (substep : ℕ) (a b : ImpulseJoint) (is : List WritebackId) (ps : List Float) (rs : List JointConstraint)
     → warmedAll warm (suc substep) a is ps rs ≡ warmedAll warm (suc substep) b is ps rs
 unfolding warmedAll
-later-rows warm substep a b [] ps rs = refl
-later-rows warm substep a b (i ∷ is) [] rs = refl
-later-rows warm substep a b (i ∷ is) (p ∷ ps) [] = refl
-later-rows warm substep a b (i ∷ is) (p ∷ ps) (r ∷ rs) = rw (later-row warm substep (seedOf a i) (seedOf b i) p r, later-rows warm substep a b is ps rs)
+warmedAll-later warm substep a b [] ps rs = refl
+warmedAll-later warm substep a b (i ∷ is) [] rs = refl
+warmedAll-later warm substep a b (i ∷ is) (p ∷ ps) [] = refl
+warmedAll-later warm substep a b (i ∷ is) (p ∷ ps) (r ∷ rs) = rw (later-row warm substep (seedOf a i) (seedOf b i) p r, warmedAll-later warm substep a b is ps rs)
 
 first-rows : (warm : Warmstart) (joint : ImpulseJoint) (is : List WritebackId) (ps qs : List Float) (rs : List JointConstraint) → length ps ≡ length qs
     → warmedAll warm 0 joint is ps rs ≡ warmedAll warm 0 joint is qs rs
@@ -59,28 +72,80 @@ first-rows warm joint (i ∷ is) (p ∷ ps) [] rs e = absurd (suc-ne-zero (lengt
 first-rows warm joint (i ∷ is) (p ∷ ps) (q ∷ qs) [] e = refl
 first-rows warm joint (i ∷ is) (p ∷ ps) (q ∷ qs) (r ∷ rs) e = rw (first-row warm (seedOf joint i) p q r, first-rows warm joint is ps qs rs (suc-inj e))
 
-module _ (params : IntegrationParameters) (warm : Warmstart) (body1 body2 : SolverPose) where
-  context-same : (a b : ImpulseJoint) → a .«data» ≡ b .«data» → a .center ≡ b .center → jointContextOf params body1 body2 a ≡ jointContextOf params body1 body2 b
-  unfolding jointContextOf
-  context-same a b d e = rw (d, e)
+-- ---- what is kept through orthogonalising
 
-  -- joints that agree in what their rows are made from, and in the stored impulses of their ids
-  pub named-seeds : (substep : ℕ) (a b : ImpulseJoint) (prevs : List Float) → a .«data» ≡ b .«data» → a .center ≡ b .center
-      → ((i : WritebackId) → List·Memᴰ i (rowIds 2 1 (a .«data» .masks)) → seedOf a i ≡ seedOf b i)
-      → builderUpdateOf params substep warm body1 body2 a prevs ≡ builderUpdateOf params substep warm body1 body2 b prevs
-  unfolding builderUpdateOf
-  named-seeds substep a b prevs d e h =
-      warmedAll-seeds warm substep a b (rowIds 2 1 (a .«data» .masks)) prevs (updateOf (jointContextOf params body1 body2 a)) h
-      ∙ rw (context-same a b d e, d)
+module _ {Row B : Type 0} (g : Row → B) where
+  map-kept : (f : Row → Row) → ((c : Row) → g (f c) ≡ g c) → (cs : List Row) → map g (map f cs) ≡ map g cs
+  map-kept f h [] = refl
+  map-kept f h (c ∷ cs) = rw (h c, map-kept f h cs)
 
-  -- joints that agree in what their rows are made from only
-  pub later-reads-no-seed : (substep : ℕ) (a b : ImpulseJoint) (prevs : List Float) → a .«data» ≡ b .«data» → a .center ≡ b .center
-      → builderUpdateOf params (suc substep) warm body1 body2 a prevs ≡ builderUpdateOf params (suc substep) warm body1 body2 b prevs
-  unfolding builderUpdateOf
-  later-reads-no-seed substep a b prevs d e =
-      later-rows warm substep a b (rowIds 2 1 (a .«data» .masks)) prevs (updateOf (jointContextOf params body1 body2 a)) ∙ rw (context-same a b d e, d)
+  reduced-kept : (f : Row → Row) → ((c : Row) → g (f c) ≡ g c) → (b : Bool) (cs : List Row) → map g (cond b (map f cs) cs) ≡ map g cs
+  reduced-kept f h true cs = map-kept f h cs
+  reduced-kept f h false cs = refl
 
-  pub first-reads-no-row : (joint : ImpulseJoint) (ps qs : List Float) → length ps ≡ length qs
+  module _ (head : Row → Row) (lock : Row → Bool) (pair : Row → Row → Row) (heads : (c : Row) → g (head c) ≡ g c) (pairs : (p c : Row) → g (pair p c) ≡ g c) where
+    kept-N : (n : ℕ) (cs : List Row) → map g (orthogonaliseN head lock pair n cs) ≡ map g cs
+    unfolding orthogonaliseN
+    kept-N zero cs = refl
+    kept-N (suc n) [] = refl
+    kept-N (suc n) (c ∷ cs) =
+        let rest : List Row = cond (lock (head c)) (map (pair (head c)) cs) cs in
+        ap (λ t. t ∷ map g (orthogonaliseN head lock pair n rest)) (heads c)
+        ∙ ap (λ t. g c ∷ t) (kept-N n rest ∙ reduced-kept (pair (head c)) (pairs (head c)) (lock (head c)) cs)
+
+-- a group keeps its rows' impulses
+pub impulses-finalizeOf : (cs : List JointConstraint) → map (λ r. r .impulse) (finalizeOf cs) ≡ map (λ r. r .impulse) cs
+unfolding finalizeOf headOf pairOf lessOf
+impulses-finalizeOf [] = refl
+impulses-finalizeOf (c ∷ cs) =
+    kept-N (λ r. r .impulse) (headOf (imSumOf c)) isLock (pairOf (imSumOf c)) (λ c. refl) (λ p c. refl) (length (c ∷ cs)) (c ∷ cs)
+
+-- ---- cold rows
+
+cond-impulse : (b : Bool) (r s : JointConstraint) (p : Float) → r .impulse ≡ p → s .impulse ≡ p → cond b r s .impulse ≡ p
+cond-impulse true r s p e f = e
+cond-impulse false r s p e f = f
+
+pub row-impulse : (cx : RowContext) (i : WritebackId) → rowOf cx i .impulse ≡ bits 0
+unfolding rowOf lockLinearOf lockAngularOf limitLinearOf limitLinearCoupledOf limitAngularOf motorLinearOf motorLinearCoupledOf motorAngularOf motorRowOf assembleOf
+row-impulse cx (Dof i) = cond-impulse (eqb i 2) _ _ (bits 0) refl refl
+row-impulse cx (Limit i) = cond-impulse (eqb i 2) _ _ (bits 0) refl (cond-impulse (isCoupled (cx .joint .masks) i) _ _ (bits 0) refl refl)
+row-impulse cx (Motor i) = cond-impulse (eqb i 2) _ _ (bits 0) refl (cond-impulse (isCoupled (cx .joint .masks) i) _ _ (bits 0) refl refl)
+
+rows-impulses : (cx : RowContext) (is : List WritebackId) → map (λ r. r .impulse) (finalizeOf (map (rowOf cx) is)) ≡ map (λ i. bits 0) is
+rows-impulses cx is = impulses-finalizeOf (map (rowOf cx) is) ∙ at is
+  where
+    at : (is : List WritebackId) → map (λ r. r .impulse) (map (rowOf cx) is) ≡ map (λ i. bits 0) is
+    at [] = refl
+    at (i ∷ is) = rw (row-impulse cx i, at is)
+
+pub made-impulses : (cx : RowContext) → map (λ r. r .impulse) (updateOf cx) ≡ map (λ i. bits 0) (rowIds 2 1 (cx .joint .masks))
+unfolding updateOf rowIds
+made-impulses cx =
+    let one : List WritebackId = groupOne 2 1 (cx .joint .masks) in
+    let two : List WritebackId = groupTwo 2 1 (cx .joint .masks) in
+    map-append (λ r. r .impulse) (finalizeOf (map (rowOf cx) one)) (finalizeOf (map (rowOf cx) two))
+    ∙ rw (rows-impulses cx one, rows-impulses cx two) (sym (map-append (λ i. bits 0) one two))
+
+cold-rows : (substep : ℕ) (joint : ImpulseJoint) (is : List WritebackId) (ps : List Float) (rs : List JointConstraint) → length rs ≡ length is → length is ≤ length ps
+    → warmedAll Cold substep joint is ps rs ≡ rs
+unfolding warmedAll warmedOf
+cold-rows substep joint [] ps [] e h = refl
+cold-rows substep joint [] ps (r ∷ rs) e h = absurd (suc-ne-zero (length rs) e)
+cold-rows substep joint (i ∷ is) [] rs e h = absurd (not-suc-le-zero h)
+cold-rows substep joint (i ∷ is) (p ∷ ps) [] e h = absurd (suc-ne-zero (length is) (sym e))
+cold-rows substep joint (i ∷ is) (p ∷ ps) (r ∷ rs) e h = ap (λ t. r ∷ t) (cold-rows substep joint is ps rs (suc-inj e) (le-of-suc-le-suc h))
+
+module _ (params : IntegrationParameters) (body1 body2 : SolverPose) where
+  pub first-reads-no-row : (warm : Warmstart) (joint : ImpulseJoint) (ps qs : List Float) → length ps ≡ length qs
       → builderUpdateOf params 0 warm body1 body2 joint ps ≡ builderUpdateOf params 0 warm body1 body2 joint qs
   unfolding builderUpdateOf
-  first-reads-no-row joint ps qs e = first-rows warm joint (rowIds 2 1 (joint .«data» .masks)) ps qs (updateOf (jointContextOf params body1 body2 joint)) e
+  first-reads-no-row warm joint ps qs e = first-rows warm joint (rowIds 2 1 (joint .«data» .masks)) ps qs (updateOf (jointContextOf params body1 body2 joint)) e
+
+  -- with no warm coefficient the rows are those that `update` makes, whose impulses are 0
+  pub cold : (substep : ℕ) (joint : ImpulseJoint) (prevs : List Float) → length prevs ≡ 6
+      → builderUpdateOf params substep Cold body1 body2 joint prevs ≡ updateOf (jointContextOf params body1 body2 joint)
+  unfolding builderUpdateOf
+  cold substep joint prevs six =
+      cold-rows substep joint (rowIds 2 1 (joint .«data» .masks)) prevs (updateOf (jointContextOf params body1 body2 joint))
+      (length-updateOf (jointContextOf params body1 body2 joint) ∙ rw context-joint) (omega (arith, six, at-most-six (joint .«data» .masks)))

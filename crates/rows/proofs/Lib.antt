@@ -11,4 +11,6 @@ pub mod Filled
 pub mod UpdateRows
 pub mod WarmedRows
 pub mod BuilderLaws
+pub mod StoredImpulses
 pub mod Cases
+pub mod NamedRows

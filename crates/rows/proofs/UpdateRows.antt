@@ -2,7 +2,7 @@
 -- array of the joint's rows (`updated`). The counts that it cuts by fit in six places (`counts`).
 use Prim.Native.Nat.{ℕ, _+_, _-_, _≤_}
 use native.Mathlib.Omega.{arith}
-use mathlib.Core.Path.{_≡_, refl, ap, sym, _∙_}
+use mathlib.Core.Path.{_≡_, ap, sym, _∙_}
 use mathlib.Core.List.{List, _++_, map, map-append, map-map}
 use lib.ListN.{length, take, drop, length-append, length-map}
 use Rattle.rows.specs.declared.joint_velocity_constraint.JointConstraint.{JointConstraint}
@@ -13,7 +13,7 @@ use Rattle.rows.specs.declared.joint_velocity_constraint.WritebackId.the
 use Rattle.rows.specs.declared.generic_joint.Masks.{Masks}
 use Rattle.rows.specs.declared.row_ids.RowId.{RowId}
 use Rattle.rows.specs.declared.row_ids.RowIds.{RowIds}
-use Rattle.rows.specs.RowIds.{filled, rowId, held, groupOne, groupTwo, rowIds, rowIdsArray}
+use Rattle.rows.specs.RowIds.{filled, rowId, groupOne, groupTwo, rowIds, rowIdsArray}
 use Rattle.rows.specs.Finalize.{finalizeOf, finalizeFirst}
 use Rattle.rows.specs.Update.{rowOf, updateOf, blankRow, rowsArray, groupRows}
 use Rattle.rows.proofs.Filled.{take-filled, first-part, second-part, front-filled, join-filled}

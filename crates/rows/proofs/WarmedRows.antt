@@ -107,7 +107,7 @@ module _ (warm : Warmstart) (substep : ℕ) (joint : ImpulseJoint) (prevs : List
       s .so-far ∙ rw e (ap (λ t. t ++ drop len made) (take-all len warmed (omega (arith, length-warmed))))
 
 -- the joint that the context holds
-context-joint : (params : IntegrationParameters) (body1 body2 : SolverPose) (joint : ImpulseJoint) → jointContextOf params body1 body2 joint .joint ≡ joint .«data»
+pub context-joint : (params : IntegrationParameters) (body1 body2 : SolverPose) (joint : ImpulseJoint) → jointContextOf params body1 body2 joint .joint ≡ joint .«data»
 unfolding jointContextOf contextOf
 context-joint params body1 body2 joint = refl
 
