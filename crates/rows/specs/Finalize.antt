@@ -21,13 +21,6 @@ orthogonaliseN head lock pair (suc n) (c ∷ cs) =
 abbrev pub orthogonalise : {Row : Type 0} → (Row → Row) → (Row → Bool) → (Row → Row → Row) → List Row → List Row
 orthogonalise head lock pair cs = orthogonaliseN head lock pair (length cs) cs
 
--- a list with its part from place i to before place n changed by f
-unfoldable pub between : {A : Type 0} → (List A → List A) → ℕ → ℕ → List A → List A
-between f zero n xs = f (take n xs) ++ drop n xs
-between f (suc i) zero xs = xs
-between f (suc i) (suc n) [] = []
-between f (suc i) (suc n) (x ∷ xs) = x ∷ between f i n xs
-
 -- ---- the rows of a joint
 
 -- both bodies' inverse masses, which a group takes from its first row

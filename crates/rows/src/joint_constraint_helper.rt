@@ -1,9 +1,8 @@
 // The Rust's dynamics/solver/joint_constraint/joint_constraint_helper.rs: one function a row kind.
-ghost use mathlib.Core.List.{map};
 ghost use mathlib.Core.Path.{_≡_};
-ghost use Prim.Native.Nat.{_+_, _<_, _≤_};
 ghost use Rattle.floats.specs.Operators.{_⊗_};
-ghost use Rattle.rows.specs.Finalize.{between, imSumOf, rowDotOf, headOf, isLock, lessOf, finalizeFirst};
+ghost use Rattle.floats.specs.Utils.{simdInvOf};
+ghost use Rattle.rows.specs.Finalize.{imSumOf, rowDotOf, headOf, isLock, lessOf, finalizeOf, finalizeFirst};
 ghost use Rattle.rows.specs.Helper.{angularLimitParamsOf, snappedOf, newOf, coordOf, linearAxisOf, angularAxis, coupledStepOf, coupledAxisOf};
 ghost use Rattle.rows.specs.Makers.{assembleOf, lockBounds, limitBoundsOf, limitBiasOf, limitedTargetVelOf, motorRhsOf, motorBoundsOf, motorRowOf, limitLinearOf, limitLinearCoupledOf, motorLinearOf, motorLinearCoupledOf, lockLinearOf, recenteredAngleOf, limitAngularOf, motorAngularRhsOf, motorAngularOf, lockAngularOf};
 use crate::generic_joint::JointLimits;
@@ -558,7 +557,7 @@ impl JointConstraintHelper {
     }
 }
 
-// ---- `finalize_constraints`: the rows of one group, at most six, by value
+// ---- `finalize_constraints`: the rows of one group
 
 pub fn im_sum(c: JointConstraint) -> Vector
     ensures { λ r. ⌜ r ≡ imSumOf c ⌝ }
@@ -624,51 +623,43 @@ pub fn pair(
     less(c_i, c_j, coeff)
 }
 
-// Rows j + 1 to n - 1, each made orthogonal to the lock c_j.
-fn reduce_rest(
-    rows: [JointConstraint; 6],
-    imsum: Vector,
-    inv_dot_jj: f32,
-    c_j: JointConstraint,
-    j: usize,
-    n: usize,
-) -> [JointConstraint; 6]
-    requires { ⌜ (j < n) × (n ≤ 6) ⌝ }
-    ensures { λ r. ⌜ r ≡ between (map (λ c. lessOf c «c_j» (rowDotOf imsum c «c_j» ⊗ «inv_dot_jj»))) (j + 1) n rows ⌝ }
+// The inverse of row j's product with itself.
+pub fn inv_dot(imsum: Vector, c_j: JointConstraint) -> f32
+    ensures { λ r. ⌜ r ≡ simdInvOf (rowDotOf imsum «c_j» «c_j») ⌝ }
 {
-    let mut out = rows;
-    for i in j + 1..n {
-        let row = pair(imsum, inv_dot_jj, c_j, out[i]);
-        out[i] = row;
-    }
-    out
+    simd_inv(row_dot(imsum, c_j, c_j))
 }
 
-// The first n rows as one group, by the modified Gram-Schmidt process. The inverse masses are those
-// of the first row.
-fn orthogonalise(rows: [JointConstraint; 6], n: usize) -> [JointConstraint; 6]
-    requires { ⌜ n ≤ 6 ⌝ }
-    ensures { λ r. ⌜ r ≡ finalizeFirst n rows ⌝ }
+// The Rust's `finalize_constraints`: the lent rows are one group, made orthogonal by the modified
+// Gram-Schmidt process. The inverse masses are those of the first row.
+pub fn finalize_constraints(rows: &mut [JointConstraint])
+    ensures { λ _. ⌜ now (rows .exit) ≡ finalizeOf (now (rows .entry)) ⌝ }
 {
-    let imsum = im_sum(rows[0]);
-    let mut out = rows;
-    for j in 0..n {
-        let c_j = head(imsum, out[j]);
-        let inv_dot_jj = simd_inv(row_dot(imsum, c_j, c_j));
-        out[j] = c_j;
-        if is_lock(c_j) {
-            out = reduce_rest(out, imsum, inv_dot_jj, c_j, j, n);
+    let n = rows.len();
+    if 0 < n {
+        let imsum = im_sum(rows[0]);
+        for j in 0..n {
+            let c_j = head(imsum, rows[j]);
+            let inv_dot_jj = inv_dot(imsum, c_j);
+            rows[j] = c_j;
+            if is_lock(c_j) {
+                for i in j + 1..n {
+                    rows[i] = pair(imsum, inv_dot_jj, c_j, rows[i]);
+                }
+            }
         }
     }
-    out
 }
 
-// The Rust's `finalize_constraints`, by value: the first n rows, or all six, are one group.
+// `finalize_constraints` for the first n rows of an array, or all six, that are not lent but handed over.
 pub fn finalize_group(rows: [JointConstraint; 6], n: usize) -> [JointConstraint; 6]
     ensures { λ r. ⌜ r ≡ finalizeFirst n rows ⌝ }
 {
+    let mut group = rows;
+    let mut len = 6;
     if n < 6 {
-        return orthogonalise(rows, n);
+        len = n;
     }
-    orthogonalise(rows, 6)
+    finalize_constraints(&mut group[..len]);
+    group
 }

@@ -128,7 +128,7 @@ impl JointConstraint {
         row
     }
 
-    // The Rust's `solve_generic`, by value.
+    // One step of the Rust's `solve_generic`, by value.
     pub fn step(self, vel1: SolverVel, vel2: SolverVel) -> Solved
         ensures { λ r. ⌜ r ≡ stepOf self vel1 vel2 ⌝ }
     {
@@ -154,6 +154,35 @@ impl JointConstraint {
         row.rhs = self.rhs_wo_bias;
         row
     }
+}
+
+// The Rust's `solve_generic`: the row and both velocities that it is lent change by one step.
+pub fn solve_generic(
+    row: &mut JointConstraint,
+    solver_vel1: &mut SolverVel,
+    solver_vel2: &mut SolverVel,
+)
+    ensures { λ _. ⌜ (now (row .exit) ≡ stepOf (now (row .entry)) (now («solver_vel1» .entry)) (now («solver_vel2» .entry)) .row)
+        × (now («solver_vel1» .exit) ≡ stepOf (now (row .entry)) (now («solver_vel1» .entry)) (now («solver_vel2» .entry)) .vels .vel1)
+        × (now («solver_vel2» .exit) ≡ stepOf (now (row .entry)) (now («solver_vel1» .entry)) (now («solver_vel2» .entry)) .vels .vel2) ⌝ }
+{
+    let c = *row;
+    let solved = c.step(*solver_vel1, *solver_vel2);
+    *row = solved.row;
+    *solver_vel1 = solved.vels.vel1;
+    *solver_vel2 = solved.vels.vel2;
+}
+
+// `solve_generic` for a row and velocities that are not lent but handed over.
+pub fn solve_row(row: JointConstraint, vel1: SolverVel, vel2: SolverVel) -> Solved
+    ensures { λ r. ⌜ r ≡ stepOf row vel1 vel2 ⌝ }
+{
+    let mut c = row;
+    let mut v1 = vel1;
+    let mut v2 = vel2;
+    solve_generic(&mut c, &mut v1, &mut v2);
+    let vels = SolverVels { vel1: v1, vel2: v2 };
+    Solved { row: c, vels: vels }
 }
 
 pub fn blank_row() -> JointConstraint
