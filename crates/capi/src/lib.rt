@@ -28,6 +28,8 @@ use floats::utils::simd_inv;
 use floats::utils::smallest_abs_diff_between_angles;
 use floats::vector::Vector;
 
+pub mod joint;
+
 #[no_mangle]
 pub extern "C" fn katydidzinc_inv(val: f32) -> f32
     ensures { λ r. ⌜ r ≡ invOf val ⌝ }

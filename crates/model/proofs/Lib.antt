@@ -1,3 +1,4 @@
 pub mod Strided
 pub mod StoreLaws
 pub mod WritebackLaws
+pub mod JointRowsLaws

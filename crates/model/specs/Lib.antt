@@ -1,2 +1,3 @@
 pub mod Records
 pub mod Store
+pub mod JointRows

@@ -1,0 +1,202 @@
+-- One joint's rows in storage, one turn of a loop at a time: what is left of the work at a turn is the turn's row and what is left at the next one,
+-- and at the end nothing is left. The rows that are made are as many as the joint's masks name, at most six.
+use mathlib.Core.Path.{_≡_, refl, ap, _∙_}
+use mathlib.Core.List.{List, [], _∷_, _++_, map}
+use Prim.Native.Nat.{ℕ, zero, suc, _+_, _*_, _-_, _≤_, _<_}
+use native.Mathlib.Nat.{add-assoc, add-zero, le-of-suc-le-suc, not-suc-le-zero}
+use native.Mathlib.Numerals.{add-one}
+use native.Mathlib.Omega.{arith}
+use lib.ListN.{length, getD, set, take, drop, drop-of-length-le}
+use lib.Seq.{drop-cons, getD-take, length-take-le}
+use lib.Ieee.{Float, nan}
+use Rattle.floats.specs.Operators.{bits}
+use Rattle.rows.specs.RowIds.{rowIds, rowId, filled, rowIdsArray}
+use Rattle.rows.specs.Update.{contextOf, rowsArray, blankRow, updateOf}
+use Rattle.rows.specs.Builder.{builderUpdateOf, jointContextOf}
+use Rattle.rows.specs.Step.{stepOf, removeBiasOf}
+use Rattle.rows.specs.declared.integration_parameters.IntegrationParameters.{IntegrationParameters}
+use Rattle.rows.specs.declared.joint_constraint_builder.SolverPose.{SolverPose}
+use Rattle.rows.specs.declared.joint_constraint_builder.ImpulseJoint.{ImpulseJoint}
+use Rattle.rows.specs.declared.joint_constraint_builder.Warmstart.{Warmstart}
+use Rattle.rows.specs.declared.joint_velocity_constraint.JointConstraint.{JointConstraint}
+use Rattle.rows.specs.declared.joint_velocity_constraint.WritebackId.{WritebackId}
+use Rattle.rows.specs.declared.joint_velocity_constraint.WritebackId.the-variants.{Dof}
+use Rattle.rows.specs.declared.joint_velocity_constraint.Rows.{Rows}
+use Rattle.rows.specs.declared.joint_velocity_constraint.SolverVel.{SolverVel}
+use Rattle.rows.specs.declared.joint_velocity_constraint.Solved.{Solved}
+use Rattle.rows.specs.declared.row_ids.RowId.{RowId}
+use Rattle.rows.specs.declared.row_ids.RowIds.{RowIds}
+use Rattle.rows.proofs.Filled.{set-filled, take-filled, length-filled}
+use Rattle.rows.proofs.RowIdsCount.{at-most-six}
+use Rattle.rows.proofs.UpdateRows.{length-updateOf}
+use Rattle.rows.proofs.WarmedRows.{length-warmedAll}
+use Rattle.model.specs.Store.{rowAt, putRow, velAt, putVel, solverPoseAt, jointAt, masksAt, body1At, body2At, putSeed}
+use Rattle.model.specs.JointRows.{State, state, rowCount, rowsList, putRows, buildJoint, impulsesAt, sweepRow, sweepJoint, warmstartRow, warmstartJoint, removeBiasJoint, writeBackIds}
+
+less : (n i : ℕ) → i < n → n - i ≡ suc (n - (i + 1))
+less n i h = omega arith
+
+none : (n i : ℕ) → n ≤ i → n - i ≡ 0
+none n i h = omega arith
+
+-- ---- impulses read
+
+impulse-read : (s : List Float) (k : ℕ) → rowAt s k .impulse ≡ getD s (k * 18) nan
+unfolding rowAt
+impulse-read s k = rw add-zero
+
+length-impulsesAt : (s : List Float) (k n : ℕ) → length (impulsesAt s k n) ≡ n
+unfolding impulsesAt
+length-impulsesAt s k zero = refl
+length-impulsesAt s k (suc n) = ap suc (length-impulsesAt s (k + 1) n)
+
+impulses-snoc : (s : List Float) (k n : ℕ) → impulsesAt s k (suc n) ≡ impulsesAt s k n ++ (rowAt s (k + n) .impulse ∷ [])
+unfolding impulsesAt
+impulses-snoc s k zero = rw add-zero
+impulses-snoc s k (suc n) =
+    let e : k + suc n ≡ k + 1 + n = omega arith in
+    rw e (ap (λ t. rowAt s k .impulse ∷ t) (impulses-snoc s (k + 1) n))
+
+-- one more impulse
+pub impulse-turn : (s : List Float) (k i : ℕ) {out : List Float} → i < 6 → out ≡ filled 6 (bits 0) (impulsesAt s k i)
+    → set out i (getD s ((k + i) * 18) nan) ≡ filled 6 (bits 0) (impulsesAt s k (i + 1))
+impulse-turn s k i {out} h e =
+    let l : List Float = impulsesAt s k i in
+    let y : Float = getD s ((k + i) * 18) nan in
+    let q : length l ≡ i = length-impulsesAt s k i in
+    let stored : set (filled 6 (bits 0) l) (length l) y ≡ filled 6 (bits 0) (l ++ (y ∷ [])) = set-filled (bits 0) 6 l y (omega (arith, q)) in
+    let more : impulsesAt s k (i + 1) ≡ l ++ (y ∷ []) = rw add-one (impulses-snoc s k i ∙ rw impulse-read) in
+    rw (e, more) (rw q at stored)
+
+pub no-impulses : (s : List Float) (k : ℕ) → impulsesAt s k 0 ≡ []
+unfolding impulsesAt
+no-impulses s k = refl
+
+-- ---- rows stored
+
+-- the rows left at turn i, once the turn's row is stored
+pub put-turn : (s : List Float) (k i n : ℕ) (l : List JointConstraint) (d : JointConstraint) {s′ : List Float} → i < n → n ≤ length l
+    → s′ ≡ putRow s (k + i) (getD l i d) → putRows s′ (k + (i + 1)) (drop (i + 1) (take n l)) ≡ putRows s (k + i) (drop i (take n l))
+unfolding putRows
+put-turn s k i n l d h g e =
+    rw (drop-cons (take n l) i d (omega (arith, length-take-le n l g)), getD-take n l i d h, e, ← add-assoc k i 1, add-one i)
+
+pub put-done : (s : List Float) (k i n : ℕ) (l : List JointConstraint) → n ≤ length l → n ≤ i → putRows s k (drop i (take n l)) ≡ s
+unfolding putRows
+put-done s k i n l g h = rw (drop-of-length-le (take n l) {i = i} (omega (arith, length-take-le n l g)))
+
+-- ---- rows made
+
+pub few-rows : (words : List ℕ) (j : ℕ) {n : ℕ} → n ≡ rowCount words j → n ≤ 6
+unfolding rowCount
+few-rows words j e = omega (arith, e, at-most-six (masksAt words j))
+
+length-built : (params : IntegrationParameters) (substep : ℕ) (warm : Warmstart) (body1 body2 : SolverPose) (words : List ℕ) (numbers : List Float) (j : ℕ) (prevs : List Float)
+    → length prevs ≡ 6 → length (builderUpdateOf params substep warm body1 body2 (jointAt words numbers j) prevs) ≡ rowCount words j
+unfolding builderUpdateOf rowCount jointAt masksAt jointContextOf contextOf
+length-built params substep warm body1 body2 words numbers j prevs six =
+    let joint : ImpulseJoint = jointAt words numbers j in
+    let is : List WritebackId = rowIds 2 1 (joint .«data» .masks) in
+    let rs : List JointConstraint = updateOf (jointContextOf params body1 body2 joint) in
+    let same : length rs ≡ length is = length-updateOf (jointContextOf params body1 body2 joint) in
+    length-warmedAll warm substep joint is prevs rs same (omega (arith, six, at-most-six (joint .«data» .masks)))
+
+module _ (params : IntegrationParameters) (substep : ℕ) (warm : Warmstart) (body1 body2 : SolverPose) (words : List ℕ) (numbers : List Float) (j : ℕ)
+    (rows : List Float) (first n : ℕ) {joint : ImpulseJoint} {prevs : List Float} {made : Rows}
+    (e : joint ≡ jointAt words numbers j) (p : prevs ≡ filled 6 (bits 0) (impulsesAt rows first n))
+    (m : made ≡ rowsArray (builderUpdateOf params substep warm body1 body2 joint prevs)) where
+  count : length (builderUpdateOf params substep warm body1 body2 joint prevs) ≡ rowCount words j
+  count = rw e (length-built params substep warm body1 body2 words numbers j prevs (rw p (length-filled (bits 0) 6 (impulsesAt rows first n))))
+
+  -- the array of the rows that are made: their number, and the rows themselves
+  pub built-len : made .len ≡ rowCount words j
+  unfolding rowsArray
+  built-len = ap (λ m. m .len) m ∙ count
+
+  pub built-rows : rowsList made ≡ builderUpdateOf params substep warm body1 body2 joint prevs
+  unfolding rowsArray
+  built-rows =
+      let rs : List JointConstraint = builderUpdateOf params substep warm body1 body2 joint prevs in
+      ap (λ m. rowsList m) m ∙ take-filled blankRow 6 (length rs) rs refl (few-rows words j count)
+
+-- a joint's rows made anew, from what is read and stored in turn
+pub build-steps : (params : IntegrationParameters) (substep : ℕ) (warm : Warmstart) (bodies : List Float) (words : List ℕ) (numbers : List Float) (j : ℕ)
+    (rows : List Float) (first : ℕ) {n i1 i2 : ℕ} {body1 body2 : SolverPose} {joint : ImpulseJoint} {prevs : List Float} {made : Rows} {rows′ : List Float}
+    → n ≡ rowCount words j → prevs ≡ filled 6 (bits 0) (impulsesAt rows first n) → joint ≡ jointAt words numbers j
+    → i1 ≡ body1At words j → body1 ≡ solverPoseAt bodies i1 → i2 ≡ body2At words j → body2 ≡ solverPoseAt bodies i2
+    → made ≡ rowsArray (builderUpdateOf params substep warm body1 body2 joint prevs) → rows′ ≡ putRows rows first (rowsList made)
+    → rows′ ≡ buildJoint params bodies words numbers j first warm substep rows
+unfolding buildJoint
+build-steps params substep warm bodies words numbers j rows first {n} {body1 = body1} {body2 = body2} c p e i1 b1 i2 b2 m s =
+    s ∙ rw (built-rows params substep warm body1 body2 words numbers j rows first n e p m, b1, i1, b2, i2, p, e, c)
+
+-- ---- rows at work
+
+-- a row's step, from what is read and stored in turn
+pub sweep-steps : (rows bodies : List Float) (k b1 b2 : ℕ) {row : JointConstraint} {v1 v2 : SolverVel} {t : Solved} {rows′ bodies′ bodies″ : List Float}
+    → row ≡ rowAt rows k → v1 ≡ velAt bodies b1 → v2 ≡ velAt bodies b2 → t ≡ stepOf row v1 v2
+    → rows′ ≡ putRow rows k (t .row) → bodies′ ≡ putVel bodies b1 (t .vels .vel1) → bodies″ ≡ putVel bodies′ b2 (t .vels .vel2)
+    → state rows′ bodies″ ≡ sweepRow k b1 b2 (state rows bodies)
+unfolding sweepRow
+sweep-steps rows bodies k b1 b2 r u v t s b d = cc
+
+-- the rows left at turn i are row k + i and those left at turn i + 1
+pub sweep-turn : (n i k b1 b2 : ℕ) (st : State) → i < n → sweepJoint (k + i) (n - i) b1 b2 st ≡ sweepJoint (k + (i + 1)) (n - (i + 1)) b1 b2 (sweepRow (k + i) b1 b2 st)
+unfolding sweepJoint
+sweep-turn n i k b1 b2 st h = rw (less n i h, ← add-assoc k i 1)
+
+-- no row is left once i is n
+pub sweep-done : (n i k b1 b2 : ℕ) (st : State) → n ≤ i → sweepJoint (k + i) (n - i) b1 b2 st ≡ st
+unfolding sweepJoint
+sweep-done n i k b1 b2 st h = rw (none n i h)
+
+pub warmstart-turn : (n i k b1 b2 : ℕ) (rows bodies : List Float) {bodies′ : List Float} → i < n → bodies′ ≡ warmstartRow rows (k + i) b1 b2 bodies
+    → warmstartJoint rows (k + (i + 1)) (n - (i + 1)) b1 b2 bodies′ ≡ warmstartJoint rows (k + i) (n - i) b1 b2 bodies
+unfolding warmstartJoint
+warmstart-turn n i k b1 b2 rows bodies h e = rw (less n i h, e, ← add-assoc k i 1)
+
+pub warmstart-done : (rows : List Float) (n i k b1 b2 : ℕ) (bodies : List Float) → n ≤ i → warmstartJoint rows (k + i) (n - i) b1 b2 bodies ≡ bodies
+unfolding warmstartJoint
+warmstart-done rows n i k b1 b2 bodies h = rw (none n i h)
+
+pub bias-turn : (n i k : ℕ) (rows : List Float) → i < n
+    → removeBiasJoint (k + i) (n - i) rows ≡ removeBiasJoint (k + (i + 1)) (n - (i + 1)) (putRow rows (k + i) (removeBiasOf (rowAt rows (k + i))))
+unfolding removeBiasJoint
+bias-turn n i k rows h = rw (less n i h, ← add-assoc k i 1)
+
+pub bias-done : (n i k : ℕ) (rows : List Float) → n ≤ i → removeBiasJoint (k + i) (n - i) rows ≡ rows
+unfolding removeBiasJoint
+bias-done n i k rows h = rw (none n i h)
+
+-- ---- impulses written back
+
+-- an id in the array of ids
+id-read : (m : ℕ) (x d : RowId) (e : WritebackId) (is : List WritebackId) (i : ℕ) → length is ≤ m → i < length is → getD (filled m x (map rowId is)) i d .id ≡ getD is i e
+id-read m x d e [] i h g = absurd (not-suc-le-zero g)
+id-read zero x d e (a ∷ is) i h g = absurd (not-suc-le-zero h)
+id-read (suc m) x d e (a ∷ is) zero h g = refl
+id-read (suc m) x d e (a ∷ is) (suc i) h g = id-read m x d e is i (le-of-suc-le-suc h) (le-of-suc-le-suc g)
+
+-- the joint's ids
+abbrev pub idsOf : List ℕ → ℕ → List WritebackId
+idsOf words j = rowIds 2 1 (masksAt words j)
+
+pub ids-len : (words : List ℕ) (j : ℕ) {ids : RowIds} → ids ≡ rowIdsArray (masksAt words j) → ids .len ≡ rowCount words j
+unfolding rowIdsArray rowCount
+ids-len words j e = ap (λ m. m .len) e
+
+-- the ids left at turn i, once the turn's impulse is stored
+pub back-turn : (rows : List Float) (words : List ℕ) (k j i : ℕ) (numbers : List Float) (d : RowId) {ids : RowIds} {numbers′ : List Float}
+    → i < rowCount words j → ids ≡ rowIdsArray (masksAt words j) → numbers′ ≡ putSeed numbers j (getD (ids .ids) i d .id) (getD rows ((k + i) * 18) nan)
+    → writeBackIds rows (k + (i + 1)) j (drop (i + 1) (idsOf words j)) numbers′ ≡ writeBackIds rows (k + i) j (drop i (idsOf words j)) numbers
+unfolding writeBackIds rowIdsArray rowCount
+back-turn rows words k j i numbers d {ids} h e g =
+    let is : List WritebackId = idsOf words j in
+    let r : getD (ids .ids) i d .id ≡ getD is i (Dof 0) =
+    ap (λ m. getD (m .ids) i d .id) e ∙ id-read 6 (rowId (Dof 0)) d (Dof 0) is i (at-most-six (masksAt words j)) h in
+    rw (drop-cons is i (Dof 0) h, g, r, ← impulse-read rows (k + i), ← add-assoc k i 1, add-one i)
+
+pub back-done : (rows : List Float) (words : List ℕ) (k j i : ℕ) (numbers : List Float) {n : ℕ} → n ≡ rowCount words j → n ≤ i
+    → writeBackIds rows k j (drop i (idsOf words j)) numbers ≡ numbers
+unfolding writeBackIds rowCount
+back-done rows words k j i numbers e h = rw (drop-of-length-le (idsOf words j) {i = i} (omega (arith, e)))

@@ -1,0 +1,179 @@
+// One joint's rows in storage: made, stepped, warm started, freed of their bias, written back.
+ghost use mathlib.Core.Path.{_≡_};
+ghost use Prim.Native.Nat.{_+_, _*_, _≤_};
+ghost use lib.ListN.{length};
+ghost use Rattle.floats.specs.Operators.{bits};
+ghost use Rattle.rows.specs.RowIds.{filled};
+ghost use Rattle.model.specs.Store.{Present, body1At, body2At};
+ghost use Rattle.model.specs.JointRows.{state, rowCount, rowsList, putRows, impulsesAt, buildJoint, sweepRow, sweepJoint, warmstartRow, warmstartJoint, removeBiasJoint, writeBackJoint};
+use crate::store::body1_at;
+use crate::store::body2_at;
+use crate::store::joint_at;
+use crate::store::masks_at;
+use crate::store::put_row;
+use crate::store::put_seed;
+use crate::store::put_vel;
+use crate::store::row_at;
+use crate::store::solver_pose_at;
+use crate::store::vel_at;
+use rows::integration_parameters::IntegrationParameters;
+use rows::joint_constraint_builder::Warmstart;
+use rows::joint_constraint_builder::update;
+use rows::joint_velocity_constraint::Rows;
+use rows::joint_velocity_constraint::solve_row;
+use rows::row_ids::row_count;
+use rows::row_ids::row_ids;
+
+// Joint j's number of rows.
+pub fn count_at(words: &[u32], j: usize) -> usize
+    requires { ⌜ j * 9 + 9 ≤ length (now words) ⌝ }
+    ensures { λ r. ⌜ r ≡ rowCount (now (words .entry)) j ⌝ }
+{
+    row_count(masks_at(words, j))
+}
+
+// The impulses of n rows from row k on, at most six.
+pub fn impulses_at(rows: &[f32], k: usize, n: usize) -> [f32; 6]
+    requires { ⌜ n ≤ 6 ⌝ }
+    requires { ⌜ (k + n) * 18 ≤ length (now rows) ⌝ }
+    ensures { λ r. ⌜ r ≡ filled 6 (bits 0) (impulsesAt (now (rows .entry)) k n) ⌝ }
+{
+    let mut out = [0.0f32; 6];
+    let mut i = 0usize;
+    while i < n {
+        out[i] = rows[(k + i) * 18];
+        i += 1;
+    }
+    out
+}
+
+// The rows of an array, stored from row k on.
+pub fn put_rows(rows: &mut [f32], k: usize, made: Rows)
+    requires { ⌜ made .len ≤ 6 ⌝ }
+    requires { ⌜ (k + made .len) * 18 ≤ length (now rows) ⌝ }
+    ensures { λ _. ⌜ now (rows .exit) ≡ putRows (now (rows .entry)) k (rowsList made) ⌝ }
+{
+    let n = made.len;
+    let mut i = 0usize;
+    while i < n {
+        let row = made.rows[i];
+        put_row(rows, k + i, row);
+        i += 1;
+    }
+}
+
+// Joint j's rows made anew and stored from row `first` on; their number comes back.
+pub fn build_joint(
+    params: IntegrationParameters,
+    bodies: &[f32],
+    words: &[u32],
+    numbers: &[f32],
+    j: usize,
+    rows: &mut [f32],
+    first: usize,
+    warmstart: Warmstart,
+    substep_id: u32,
+) -> usize
+    requires { ⌜ j * 9 + 9 ≤ length (now words) ⌝ }
+    requires { ⌜ j * 42 + 42 ≤ length (now numbers) ⌝ }
+    requires { ⌜ Present (now bodies) (body1At (now words) j) ⌝ }
+    requires { ⌜ Present (now bodies) (body2At (now words) j) ⌝ }
+    requires { ⌜ (first + rowCount (now words) j) * 18 ≤ length (now rows) ⌝ }
+    ensures { λ r. ⌜ (r ≡ rowCount (now (words .entry)) j) × (now (rows .exit) ≡ buildJoint params (now (bodies .entry)) (now (words .entry)) (now (numbers .entry)) j first warmstart «substep_id» (now (rows .entry))) ⌝ }
+{
+    let n = count_at(words, j);
+    let prevs = impulses_at(rows, first, n);
+    let joint = joint_at(words, numbers, j);
+    let body1 = solver_pose_at(bodies, body1_at(words, j));
+    let body2 = solver_pose_at(bodies, body2_at(words, j));
+    let made = update(params, substep_id, warmstart, body1, body2, joint, prevs);
+    put_rows(rows, first, made);
+    n
+}
+
+// Row k's step, between bodies b1 and b2.
+pub fn sweep_row(rows: &mut [f32], k: usize, bodies: &mut [f32], b1: u32, b2: u32)
+    requires { ⌜ k * 18 + 18 ≤ length (now rows) ⌝ }
+    requires { ⌜ Present (now bodies) b1 ⌝ }
+    requires { ⌜ Present (now bodies) b2 ⌝ }
+    ensures { λ _. ⌜ state (now (rows .exit)) (now (bodies .exit)) ≡ sweepRow k b1 b2 (state (now (rows .entry)) (now (bodies .entry))) ⌝ }
+{
+    let row = row_at(rows, k);
+    let solved = solve_row(row, vel_at(bodies, b1), vel_at(bodies, b2));
+    let vels = solved.vels;
+    let out = solved.row;
+    put_row(rows, k, out);
+    put_vel(bodies, b1, vels.vel1);
+    put_vel(bodies, b2, vels.vel2);
+}
+
+// n rows from row k on, each in turn.
+pub fn sweep_joint(rows: &mut [f32], k: usize, n: usize, bodies: &mut [f32], b1: u32, b2: u32)
+    requires { ⌜ (k + n) * 18 ≤ length (now rows) ⌝ }
+    requires { ⌜ Present (now bodies) b1 ⌝ }
+    requires { ⌜ Present (now bodies) b2 ⌝ }
+    ensures { λ _. ⌜ state (now (rows .exit)) (now (bodies .exit)) ≡ sweepJoint k n b1 b2 (state (now (rows .entry)) (now (bodies .entry))) ⌝ }
+{
+    let mut i = 0usize;
+    while i < n {
+        sweep_row(rows, k + i, bodies, b1, b2);
+        i += 1;
+    }
+}
+
+// Row k's warm start, between bodies b1 and b2.
+pub fn warmstart_row(rows: &[f32], k: usize, bodies: &mut [f32], b1: u32, b2: u32)
+    requires { ⌜ k * 18 + 18 ≤ length (now rows) ⌝ }
+    requires { ⌜ Present (now bodies) b1 ⌝ }
+    requires { ⌜ Present (now bodies) b2 ⌝ }
+    ensures { λ _. ⌜ now (bodies .exit) ≡ warmstartRow (now (rows .entry)) k b1 b2 (now (bodies .entry)) ⌝ }
+{
+    let row = row_at(rows, k);
+    let vels = row.warmstart_generic(vel_at(bodies, b1), vel_at(bodies, b2));
+    put_vel(bodies, b1, vels.vel1);
+    put_vel(bodies, b2, vels.vel2);
+}
+
+pub fn warmstart_joint(rows: &[f32], k: usize, n: usize, bodies: &mut [f32], b1: u32, b2: u32)
+    requires { ⌜ (k + n) * 18 ≤ length (now rows) ⌝ }
+    requires { ⌜ Present (now bodies) b1 ⌝ }
+    requires { ⌜ Present (now bodies) b2 ⌝ }
+    ensures { λ _. ⌜ now (bodies .exit) ≡ warmstartJoint (now (rows .entry)) k n b1 b2 (now (bodies .entry)) ⌝ }
+{
+    let mut i = 0usize;
+    while i < n {
+        warmstart_row(rows, k + i, bodies, b1, b2);
+        i += 1;
+    }
+}
+
+// n rows from row k on without their bias.
+pub fn remove_bias_joint(rows: &mut [f32], k: usize, n: usize)
+    requires { ⌜ (k + n) * 18 ≤ length (now rows) ⌝ }
+    ensures { λ _. ⌜ now (rows .exit) ≡ removeBiasJoint k n (now (rows .entry)) ⌝ }
+{
+    let mut i = 0usize;
+    while i < n {
+        let row = row_at(rows, k + i);
+        put_row(rows, k + i, row.remove_bias_from_rhs());
+        i += 1;
+    }
+}
+
+// The impulses of joint j's rows, from row k on, stored by their ids.
+pub fn write_back_joint(rows: &[f32], words: &[u32], k: usize, j: usize, numbers: &mut [f32])
+    requires { ⌜ j * 9 + 9 ≤ length (now words) ⌝ }
+    requires { ⌜ j * 42 + 42 ≤ length (now numbers) ⌝ }
+    requires { ⌜ (k + rowCount (now words) j) * 18 ≤ length (now rows) ⌝ }
+    ensures { λ _. ⌜ now (numbers .exit) ≡ writeBackJoint (now (rows .entry)) (now (words .entry)) k j (now (numbers .entry)) ⌝ }
+{
+    let ids = row_ids(masks_at(words, j));
+    let n = ids.len;
+    let mut i = 0usize;
+    while i < n {
+        let named = ids.ids[i];
+        let id = named.id;
+        put_seed(numbers, j, id, rows[(k + i) * 18]);
+        i += 1;
+    }
+}
