@@ -34,6 +34,7 @@ use rows::joint_velocity_constraint::Rows;
 use rows::joint_velocity_constraint::SolverVel;
 use rows::joint_velocity_constraint::SolverVels;
 use rows::joint_velocity_constraint::WritebackId;
+use rows::joint_velocity_constraint::solve_row;
 use rows::motor_model::MotorModel;
 use rows::row_ids::RowId;
 use rows::row_ids::RowIds;
@@ -87,7 +88,7 @@ pub extern "C" fn katydidzinc_rows_step(row: &mut [f32], vels: &mut [f32])
         return;
     }
     let c = row_at(row, 0);
-    let solved = c.step(vel_at(vels, 0), vel_at(vels, 3));
+    let solved = solve_row(c, vel_at(vels, 0), vel_at(vels, 3));
     let stepped = solved.row;
     let after = solved.vels;
     put_row(row, 0, stepped);

@@ -22,8 +22,8 @@ vel-at-requires c κs = search needs
 vel-at-requires-2 : tie.Need-vel-at-requires-2
 vel-at-requires-2 c κs = search needs
 
-step-requires : tie.Need-step-requires
-step-requires c κs = search needs
+solve-row-requires : tie.Need-solve-row-requires
+solve-row-requires c κs = search needs
 
 put-row-requires : tie.Need-put-row-requires
 put-row-requires c κs = search needs
@@ -52,7 +52,7 @@ katydidzinc-rows-step-spec =
     row-at-requires
     vel-at-requires
     vel-at-requires-2
-    step-requires
+    solve-row-requires
     put-row-requires
     put-vels-requires
     same-length
