@@ -1,4 +1,5 @@
 pub mod NanLaws
+pub mod ScalarLaws
 pub mod BitsLaws
 pub mod SignBit
 pub mod Values

@@ -1,18 +1,18 @@
 -- One joint's rows in storage, one turn of a loop at a time: what is left of the work at a turn is the turn's row and what is left at the next one,
 -- and at the end nothing is left. The rows that are made are as many as the joint's masks name, at most six.
 use mathlib.Core.Path.{_≡_, refl, ap, _∙_}
-use mathlib.Core.List.{List, [], _∷_, _++_, map}
+use mathlib.Core.List.{List, [], _∷_, _++_}
 use Prim.Native.Nat.{ℕ, zero, suc, _+_, _*_, _-_, _≤_, _<_}
-use native.Mathlib.Nat.{add-assoc, add-zero, le-of-suc-le-suc, not-suc-le-zero}
+use native.Mathlib.Nat.{add-assoc, add-zero}
 use native.Mathlib.Numerals.{add-one}
 use native.Mathlib.Omega.{arith}
 use lib.ListN.{length, getD, set, take, drop, drop-of-length-le}
 use lib.Seq.{drop-cons, getD-take, length-take-le}
 use lib.Ieee.{Float, nan}
 use Rattle.floats.specs.Operators.{bits}
-use Rattle.rows.specs.RowIds.{rowIds, rowId, filled, rowIdsArray}
-use Rattle.rows.specs.Update.{contextOf, rowsArray, blankRow, updateOf}
-use Rattle.rows.specs.Builder.{builderUpdateOf, jointContextOf}
+use Rattle.rows.specs.RowIds.{rowIds, filled, rowIdsArray}
+use Rattle.rows.specs.Update.{rowsArray}
+use Rattle.rows.specs.Builder.{builderUpdateOf}
 use Rattle.rows.specs.Step.{stepOf, removeBiasOf}
 use Rattle.rows.specs.declared.integration_parameters.IntegrationParameters.{IntegrationParameters}
 use Rattle.rows.specs.declared.joint_constraint_builder.SolverPose.{SolverPose}
@@ -26,10 +26,9 @@ use Rattle.rows.specs.declared.joint_velocity_constraint.SolverVel.{SolverVel}
 use Rattle.rows.specs.declared.joint_velocity_constraint.Solved.{Solved}
 use Rattle.rows.specs.declared.row_ids.RowId.{RowId}
 use Rattle.rows.specs.declared.row_ids.RowIds.{RowIds}
-use Rattle.rows.proofs.Filled.{set-filled, take-filled, length-filled}
+use Rattle.rows.proofs.Filled.{set-filled, length-filled}
 use Rattle.rows.proofs.RowIdsCount.{at-most-six}
-use Rattle.rows.proofs.UpdateRows.{length-updateOf}
-use Rattle.rows.proofs.WarmedRows.{length-warmedAll}
+use Rattle.rows.proofs.RowArrays.{rowsArray-len, rowsArray-rows, rowIdsArray-len, rowIdsArray-id, length-builderUpdateOf}
 use Rattle.model.specs.Store.{rowAt, putRow, velAt, putVel, solverPoseAt, jointAt, masksAt, body1At, body2At, putSeed}
 use Rattle.model.specs.JointRows.{State, state, rowCount, rowsList, putRows, buildJoint, impulsesAt, sweepRow, sweepJoint, warmstartRow, warmstartJoint, removeBiasJoint, writeBackIds}
 
@@ -93,13 +92,8 @@ few-rows words j e = omega (arith, e, at-most-six (masksAt words j))
 
 length-built : (params : IntegrationParameters) (substep : ℕ) (warm : Warmstart) (body1 body2 : SolverPose) (words : List ℕ) (numbers : List Float) (j : ℕ) (prevs : List Float)
     → length prevs ≡ 6 → length (builderUpdateOf params substep warm body1 body2 (jointAt words numbers j) prevs) ≡ rowCount words j
-unfolding builderUpdateOf rowCount jointAt masksAt jointContextOf contextOf
-length-built params substep warm body1 body2 words numbers j prevs six =
-    let joint : ImpulseJoint = jointAt words numbers j in
-    let is : List WritebackId = rowIds 2 1 (joint .«data» .masks) in
-    let rs : List JointConstraint = updateOf (jointContextOf params body1 body2 joint) in
-    let same : length rs ≡ length is = length-updateOf (jointContextOf params body1 body2 joint) in
-    length-warmedAll warm substep joint is prevs rs same (omega (arith, six, at-most-six (joint .«data» .masks)))
+unfolding rowCount jointAt masksAt
+length-built params substep warm body1 body2 words numbers j prevs six = length-builderUpdateOf params substep warm body1 body2 (jointAt words numbers j) prevs six
 
 module _ (params : IntegrationParameters) (substep : ℕ) (warm : Warmstart) (body1 body2 : SolverPose) (words : List ℕ) (numbers : List Float) (j : ℕ)
     (rows : List Float) (first n : ℕ) {joint : ImpulseJoint} {prevs : List Float} {made : Rows}
@@ -110,14 +104,10 @@ module _ (params : IntegrationParameters) (substep : ℕ) (warm : Warmstart) (bo
 
   -- the array of the rows that are made: their number, and the rows themselves
   pub built-len : made .len ≡ rowCount words j
-  unfolding rowsArray
-  built-len = ap (λ m. m .len) m ∙ count
+  built-len = ap (λ m. m .len) m ∙ rowsArray-len (builderUpdateOf params substep warm body1 body2 joint prevs) ∙ count
 
   pub built-rows : rowsList made ≡ builderUpdateOf params substep warm body1 body2 joint prevs
-  unfolding rowsArray
-  built-rows =
-      let rs : List JointConstraint = builderUpdateOf params substep warm body1 body2 joint prevs in
-      ap (λ m. rowsList m) m ∙ take-filled blankRow 6 (length rs) rs refl (few-rows words j count)
+  built-rows = ap (λ m. rowsList m) m ∙ rowsArray-rows (builderUpdateOf params substep warm body1 body2 joint prevs) (few-rows words j count)
 
 -- a joint's rows made anew, from what is read and stored in turn
 pub build-steps : (params : IntegrationParameters) (substep : ℕ) (warm : Warmstart) (bodies : List Float) (words : List ℕ) (numbers : List Float) (j : ℕ)
@@ -170,30 +160,22 @@ bias-done n i k rows h = rw (none n i h)
 
 -- ---- impulses written back
 
--- an id in the array of ids
-id-read : (m : ℕ) (x d : RowId) (e : WritebackId) (is : List WritebackId) (i : ℕ) → length is ≤ m → i < length is → getD (filled m x (map rowId is)) i d .id ≡ getD is i e
-id-read m x d e [] i h g = absurd (not-suc-le-zero g)
-id-read zero x d e (a ∷ is) i h g = absurd (not-suc-le-zero h)
-id-read (suc m) x d e (a ∷ is) zero h g = refl
-id-read (suc m) x d e (a ∷ is) (suc i) h g = id-read m x d e is i (le-of-suc-le-suc h) (le-of-suc-le-suc g)
-
 -- the joint's ids
 abbrev pub idsOf : List ℕ → ℕ → List WritebackId
 idsOf words j = rowIds 2 1 (masksAt words j)
 
 pub ids-len : (words : List ℕ) (j : ℕ) {ids : RowIds} → ids ≡ rowIdsArray (masksAt words j) → ids .len ≡ rowCount words j
-unfolding rowIdsArray rowCount
-ids-len words j e = ap (λ m. m .len) e
+unfolding rowCount
+ids-len words j e = ap (λ m. m .len) e ∙ rowIdsArray-len (masksAt words j)
 
 -- the ids left at turn i, once the turn's impulse is stored
 pub back-turn : (rows : List Float) (words : List ℕ) (k j i : ℕ) (numbers : List Float) (d : RowId) {ids : RowIds} {numbers′ : List Float}
     → i < rowCount words j → ids ≡ rowIdsArray (masksAt words j) → numbers′ ≡ putSeed numbers j (getD (ids .ids) i d .id) (getD rows ((k + i) * 18) nan)
     → writeBackIds rows (k + (i + 1)) j (drop (i + 1) (idsOf words j)) numbers′ ≡ writeBackIds rows (k + i) j (drop i (idsOf words j)) numbers
-unfolding writeBackIds rowIdsArray rowCount
+unfolding writeBackIds rowCount
 back-turn rows words k j i numbers d {ids} h e g =
     let is : List WritebackId = idsOf words j in
-    let r : getD (ids .ids) i d .id ≡ getD is i (Dof 0) =
-    ap (λ m. getD (m .ids) i d .id) e ∙ id-read 6 (rowId (Dof 0)) d (Dof 0) is i (at-most-six (masksAt words j)) h in
+    let r : getD (ids .ids) i d .id ≡ getD is i (Dof 0) = ap (λ m. getD (m .ids) i d .id) e ∙ rowIdsArray-id (masksAt words j) i d (Dof 0) h in
     rw (drop-cons is i (Dof 0) h, g, r, ← impulse-read rows (k + i), ← add-assoc k i 1, add-one i)
 
 pub back-done : (rows : List Float) (words : List ℕ) (k j i : ℕ) (numbers : List Float) {n : ℕ} → n ≡ rowCount words j → n ≤ i

@@ -11,6 +11,8 @@ pub mod Filled
 pub mod UpdateRows
 pub mod WarmedRows
 pub mod BuilderLaws
+pub mod RowArrays
+pub mod WritebackKinds
 pub mod StoredImpulses
 pub mod Cases
 pub mod NamedRows
