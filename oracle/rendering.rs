@@ -366,6 +366,18 @@ fn row_ids(words: &[u32]) -> [Vec<Id>; 2] {
     or!(56, [one, two], [two, one])
 }
 
+impl Id {
+    /// 4·kind + axis.
+    fn word(self) -> u32 {
+        4 * self.kind as u32 + self.axis as u32
+    }
+}
+
+/// The ids of a joint's rows by its four masks.
+pub fn ids(masks: &[u32]) -> Vec<u32> {
+    row_ids(masks).concat().into_iter().map(Id::word).collect()
+}
+
 #[derive(Copy, Clone)]
 struct Row {
     impulse: f32,
@@ -718,7 +730,7 @@ pub fn build(words: &[u32], numbers: &[f32], rows: &mut [f32], ids: &mut [u32]) 
 
     let (warm, substep, coeff) = (words[7] != 0, words[8], numbers[59]);
     for (k, (mut row, id)) in made.into_iter().zip(all).enumerate() {
-        let word = 4 * id.kind as u32 + id.axis as u32;
+        let word = id.word();
         let last = rows[18 * k];
         let stored = joint.n[stored_at(word)];
         if warm {

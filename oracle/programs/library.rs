@@ -110,6 +110,7 @@ pub fn rattle(call: &mut Call) {
 #[cfg(rattle)]
 mod exported {
     use super::{Call, Function};
+    use crate::fenced::Fenced;
 
     unsafe extern "C" {
         fn katydidzinc_combine_coefficients(
@@ -158,37 +159,6 @@ mod exported {
         fn katydidzinc_rows_remove_bias(row: *mut f32, row_len: usize);
         fn katydidzinc_rows_writeback(id: u32, impulse: f32, numbers: *mut f32, numbers_len: usize);
         fn katydidzinc_rows_finalize(n: usize, rows: *mut f32, rows_len: usize);
-    }
-
-    /// Storage with places before and after it that nobody may write.
-    struct Fenced<T> {
-        all: Vec<T>,
-        fence: T,
-    }
-
-    const WIDTH: usize = 4;
-
-    impl<T: Copy + PartialEq> Fenced<T> {
-        fn new(inside: &[T], fence: T) -> Fenced<T> {
-            let side = [fence; WIDTH];
-            Fenced {
-                all: [&side, inside, &side].concat(),
-                fence,
-            }
-        }
-
-        fn place(&mut self) -> (*mut T, usize) {
-            let length = self.all.len() - 2 * WIDTH;
-            (self.all[WIDTH..].as_mut_ptr(), length)
-        }
-
-        /// Gives the storage back; whether something was written outside it.
-        fn taken_back(&self, inside: &mut [T]) -> bool {
-            let end = self.all.len() - WIDTH;
-            inside.copy_from_slice(&self.all[WIDTH..end]);
-            let mut sides = self.all[..WIDTH].iter().chain(&self.all[end..]);
-            sides.any(|x| *x != self.fence)
-        }
     }
 
     pub fn run(call: &mut Call) {

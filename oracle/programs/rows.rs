@@ -10,6 +10,7 @@
 mod bits;
 mod cases;
 mod draw;
+mod fenced;
 mod library;
 #[path = "../rendering.rs"]
 mod rendering;

@@ -28,7 +28,7 @@ pub fn masks(choice: u32) -> [u32; 4] {
 }
 
 impl Draw {
-    fn one_in(&mut self, n: u64) -> bool {
+    pub fn one_in(&mut self, n: u64) -> bool {
         self.below(n) == 0
     }
 
@@ -48,7 +48,7 @@ impl Draw {
     }
 
     /// Subnormal, tiny, near overflow, or plain bits, but a finite number.
-    fn finite(&mut self) -> f32 {
+    pub fn finite(&mut self) -> f32 {
         loop {
             let x = self.number();
             if x.is_finite() {
@@ -72,7 +72,7 @@ impl Draw {
         }
     }
 
-    fn dt(&mut self) -> f32 {
+    pub fn dt(&mut self) -> f32 {
         match self.below(16) {
             0 => 0.0,
             1 => -0.0,
@@ -85,12 +85,12 @@ impl Draw {
         }
     }
 
-    fn right_angle(&mut self) -> [f32; 2] {
+    pub fn right_angle(&mut self) -> [f32; 2] {
         let (one, zero) = (self.pick(&[1.0, -1.0]), self.zero());
         self.pick(&[[one, zero], [zero, one]])
     }
 
-    fn rotation(&mut self) -> [f32; 2] {
+    pub fn rotation(&mut self) -> [f32; 2] {
         match self.below(12) {
             0 | 1 | 2 => [1.0, 0.0],
             3 => self.right_angle(),
@@ -116,7 +116,7 @@ impl Draw {
         }
     }
 
-    fn body(&mut self, straight: bool) -> [f32; 7] {
+    pub fn body(&mut self, straight: bool) -> [f32; 7] {
         if self.one_in(8) {
             return [1.0, 0.0, 0.0, 0.0, 0.0, 0.0, 0.0];
         }
@@ -235,15 +235,15 @@ struct Place {
     ang_err: [f32; 2],
 }
 
-fn place(n: &[f32], coupled: u32) -> Place {
+fn place(body1: &[f32], body2: &[f32], joint: &[f32], coupled: u32) -> Place {
     let frame = |body: &[f32], frame: &[f32]| {
         let mut x = [0.0; leaves::INPUTS];
         x[5..9].copy_from_slice(&[body[0], body[1], frame[0], frame[1]]);
         x[9..13].copy_from_slice(&[body[2], body[3], frame[2], frame[3]]);
         leaves::pose_product(&x)
     };
-    let one = frame(&n[3..7], &n[JOINT..JOINT + 4]);
-    let two = frame(&n[10..14], &n[JOINT + 4..JOINT + 8]);
+    let one = frame(&body1[..4], &joint[..4]);
+    let two = frame(&body2[..4], &joint[4..8]);
     let (x, y) = (two[2] - one[2], two[3] - one[3]);
     let axes = [[one[0], one[1]], [-one[1], one[0]]];
     let along = axes.map(|[p, q]| x * p + y * q);
@@ -271,23 +271,18 @@ enum Mood {
     Wild,
 }
 
-pub fn study(d: &mut Draw, choice: u32) -> Study {
-    let [locked, limit, motor, coupled] = masks(choice);
-    let models = [0; 3].map(|_| d.below(2) as u32);
-    let warm = !d.one_in(3) as u32;
-    let words = [
-        locked, limit, motor, coupled, models[0], models[1], models[2], warm, 0,
-    ];
+/// dt, `length_unit`, `normalized_max_corrective_velocity`.
+pub fn settings(d: &mut Draw) -> [f32; 3] {
+    [
+        d.dt(),
+        d.pick(&[1.0, 1.0, 100.0, 0.01, 0.0, -1.0]),
+        d.pick(&[3.0, 3.0, 0.0, -3.0, f32::MAX, 1.0e-3, 1.0e6]),
+    ]
+}
 
-    let mut n = [0.0; 60];
-    n[0] = d.dt();
-    n[1] = d.pick(&[1.0, 1.0, 100.0, 0.01, 0.0, -1.0]);
-    n[2] = d.pick(&[3.0, 3.0, 0.0, -3.0, f32::MAX, 1.0e-3, 1.0e6]);
-    let straight = d.one_in(4);
-    n[3..10].copy_from_slice(&d.body(straight));
-    n[10..17].copy_from_slice(&d.body(straight));
-
-    let joint = &mut n[JOINT..JOINT + 42];
+/// A joint's numbers without its limit ends, which `aim` draws.
+pub fn joint(d: &mut Draw, straight: bool) -> [f32; 42] {
+    let mut joint = [0.0; 42];
     for at in [0, 4] {
         let [re, im] = if straight {
             d.right_angle()
@@ -314,6 +309,54 @@ pub fn study(d: &mut Draw, choice: u32) -> Study {
     };
     joint[40] = re;
     joint[41] = im;
+    joint
+}
+
+/// Limits and targets that lie where the joint stands.
+pub fn aim(d: &mut Draw, body1: &[f32], body2: &[f32], joint: &mut [f32], coupled: u32) {
+    let at = place(body1, body2, joint, coupled);
+    let first = (coupled & 3).trailing_zeros();
+    for i in 0..2 {
+        let here = if i as u32 == first {
+            at.coupled
+        } else {
+            at.along[i]
+        };
+        joint[8 + 3 * i..][..2].copy_from_slice(&d.limit(here));
+        if d.one_in(4) {
+            joint[18 + 6 * i] = here;
+        }
+    }
+    let ([re, im], [c, s]) = (at.ang_err, [joint[40], joint[41]]);
+    let from_centre = leaves::angle(c * re + s * im, c * im - s * re);
+    joint[14..16].copy_from_slice(&d.angular_limit(from_centre));
+    let angle = leaves::angle(re, im);
+    if d.one_in(2) {
+        joint[30] = d.pick(&[angle, angle - PI, angle + PI, 0.0, PI, -PI]);
+    }
+}
+
+pub fn coefficient(d: &mut Draw) -> f32 {
+    match d.below(4) {
+        0 => d.tame(),
+        _ => d.pick(&[1.0, 1.0, 0.5, 0.0, -0.0]),
+    }
+}
+
+pub fn study(d: &mut Draw, choice: u32) -> Study {
+    let [locked, limit, motor, coupled] = masks(choice);
+    let models = [0; 3].map(|_| d.below(2) as u32);
+    let warm = !d.one_in(3) as u32;
+    let words = [
+        locked, limit, motor, coupled, models[0], models[1], models[2], warm, 0,
+    ];
+
+    let mut n = [0.0; 60];
+    n[..3].copy_from_slice(&settings(d));
+    let straight = d.one_in(4);
+    n[3..10].copy_from_slice(&d.body(straight));
+    n[10..17].copy_from_slice(&d.body(straight));
+    n[JOINT..JOINT + 42].copy_from_slice(&joint(d, straight));
 
     let mood = match d.below(8) {
         0 | 1 => Mood::Few,
@@ -337,32 +380,9 @@ pub fn study(d: &mut Draw, choice: u32) -> Study {
         }
     }
 
-    // Limits and targets that lie where the joint stands.
-    let at = place(&n, coupled);
-    let first = (coupled & 3).trailing_zeros();
-    let joint = &mut n[JOINT..JOINT + 42];
-    for i in 0..2 {
-        let here = if i as u32 == first {
-            at.coupled
-        } else {
-            at.along[i]
-        };
-        joint[8 + 3 * i..][..2].copy_from_slice(&d.limit(here));
-        if d.one_in(4) {
-            joint[18 + 6 * i] = here;
-        }
-    }
-    let ([re, im], [c, s]) = (at.ang_err, [joint[40], joint[41]]);
-    let from_centre = leaves::angle(c * re + s * im, c * im - s * re);
-    joint[14..16].copy_from_slice(&d.angular_limit(from_centre));
-    let angle = leaves::angle(re, im);
-    if d.one_in(2) {
-        joint[30] = d.pick(&[angle, angle - PI, angle + PI, 0.0, PI, -PI]);
-    }
-    n[59] = match d.below(4) {
-        0 => d.tame(),
-        _ => d.pick(&[1.0, 1.0, 0.5, 0.0, -0.0]),
-    };
+    let (bodies, rest) = n.split_at_mut(JOINT);
+    aim(d, &bodies[3..10], &bodies[10..17], &mut rest[..42], coupled);
+    n[59] = coefficient(d);
     Study { words, numbers: n }
 }
 

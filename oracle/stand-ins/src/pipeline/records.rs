@@ -124,8 +124,7 @@ pub(crate) fn centre(n: &[Real]) -> (Real, Real) {
 pub(crate) fn model(word: u32) -> MotorModel {
     match word {
         0 => MotorModel::AccelerationBased,
-        1 => MotorModel::ForceBased,
-        _ => panic!("a motor model is 0 or 1"),
+        _ => MotorModel::ForceBased,
     }
 }
 

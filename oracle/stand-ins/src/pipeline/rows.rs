@@ -18,13 +18,14 @@ pub const ROWS: usize = MAX_ROWS * ROW;
 const JOINT_AT: usize = SETTINGS + 2 * BODY;
 
 /// A builder as `generate` makes it from a joint whose stored impulses are all zero, so that the
-/// seeds can only come by `update_warmstart_seeds`. Its rows begin at `first_row` of the storage.
+/// seeds can only come by `update_warmstart_seeds`. Its rows begin at `next_row` of the storage,
+/// which `generate` moves past them.
 pub(crate) fn generated(
     words: &[u32],
     n: &[Real],
     bodies: [u32; 2],
     joint_id: usize,
-    first_row: usize,
+    next_row: &mut usize,
 ) -> JointConstraintBuilder {
     // Each field of the struct has zero bits among its values; `generate` writes them all.
     let mut builder: JointConstraintBuilder = unsafe { core::mem::zeroed() };
@@ -34,7 +35,6 @@ pub(crate) fn generated(
         edge.weight.data.motors[i].impulse = 0.0;
         edge.weight.impulses[i] = 0.0;
     }
-    let mut next_row = first_row;
     let (cosine, sine) = records::centre(n);
     simba::scalar::hand_over_centre(cosine, sine);
     JointConstraintBuilder::generate(
@@ -42,7 +42,7 @@ pub(crate) fn generated(
         &RigidBodySet(Default::default()),
         joint_id,
         &mut builder,
-        &mut next_row,
+        next_row,
     );
     simba::scalar::take_back_centre();
     builder
@@ -64,7 +64,7 @@ pub fn build(words: &[u32], n: &[Real], rows: &mut [Real], ids: &mut [u32]) -> u
     solver_bodies.poses[1] = records::body(body2);
 
     let joint = &n[JOINT_AT..JOINT_AT + JOINT];
-    let mut builder = generated(words, joint, bodies, 0, 0);
+    let mut builder = generated(words, joint, bodies, 0, &mut 0);
     builder.update_warmstart_seeds(&[records::joint(words, joint, bodies)]);
 
     let mut out: [_; MAX_ROWS] = core::array::from_fn(|i| records::row(&rows[i * ROW..]));

@@ -40,14 +40,15 @@ pub(crate) fn blank() -> JointConstraint<Real, 1> {
     }
 }
 
-/// The count that `update` returns. It runs `update` on the joint, between two bodies at the
-/// origin, and throws the rows away.
-pub(crate) fn joint_data_num_constraints(joint: &GenericJoint) -> usize {
+/// `update` on the joint, between two bodies at the origin: the rows that it makes, and their
+/// count.
+pub(crate) fn tried(joint: &GenericJoint) -> ([JointConstraint<Real, 1>; MAX_ROWS], usize) {
     let limit = AngularLimitParams {
         center: [1.0, 0.0],
         half_range: 10.0,
     };
-    JointConstraint::<Real, 1>::update(
+    let mut rows = [blank(); MAX_ROWS];
+    let count = JointConstraint::<Real, 1>::update(
         &IntegrationParameters::default(),
         0,
         &JointSolverBody::invalid(),
@@ -56,8 +57,14 @@ pub(crate) fn joint_data_num_constraints(joint: &GenericJoint) -> usize {
         &Pose::IDENTITY,
         joint,
         &[limit],
-        &mut [blank(); MAX_ROWS],
-    )
+        &mut rows,
+    );
+    (rows, count)
+}
+
+/// The count that `update` returns.
+pub(crate) fn joint_data_num_constraints(joint: &GenericJoint) -> usize {
+    tried(joint).1
 }
 
 /// The lane form's name for it.

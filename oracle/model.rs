@@ -1,0 +1,300 @@
+//! The model of several joints from document 01: the refusals and the calls here, the rows by the
+//! unchanged Rust.
+
+use rapier2d::pipeline::model as rust;
+
+pub const BODY: usize = 10;
+pub const WORDS: usize = 9;
+pub const JOINT: usize = 42;
+pub const ROW: usize = 18;
+pub const WORLD: u32 = u32::MAX;
+
+/// Places in a joint's numbers that rule 6 looks at: frames, softness, centre and the motors'
+/// first four must be finite; limit ends and maximum forces may be infinite. The other nine are
+/// the stored impulses.
+pub const FINITE: [usize; 24] = [
+    0, 1, 2, 3, 4, 5, 6, 7, 17, 18, 19, 20, 23, 24, 25, 26, 29, 30, 31, 32, 35, 36, 40, 41,
+];
+pub const NUMBER: [usize; 9] = [8, 9, 11, 12, 14, 15, 21, 27, 33];
+
+/// Code of a call that grants a count: this plus the count.
+pub const GRANTED: u64 = 1 << 32;
+
+/// What a caller holds. The slices have any length: a body, joint or row is there if its record
+/// is there whole, a joint in words and numbers both.
+#[derive(Clone)]
+pub struct Study {
+    /// dt, `length_unit`, `normalized_max_corrective_velocity`.
+    pub settings: [f32; 3],
+    pub built: bool,
+    /// Pose re, im, x, y; inverse inertia; inverse mass x, y; velocity x, y, angular.
+    pub bodies: Vec<f32>,
+    /// Body 1, body 2; locked, limit, motor and coupled mask; motor models of axes 0, 1, 2.
+    pub words: Vec<u32>,
+    pub numbers: Vec<f32>,
+    pub rows: Vec<f32>,
+}
+
+#[derive(Copy, Clone, Debug, PartialEq)]
+pub enum Call {
+    Load,
+    Place {
+        body: u32,
+        pose: [f32; 4],
+    },
+    /// The coefficient counts if `warm`.
+    Build {
+        warm: bool,
+        coefficient: f32,
+        substep: u32,
+    },
+    WarmStart,
+    Sweep(u32),
+    RemoveBias,
+    WriteBack,
+    ReadRows(u32),
+    ReadVelocity(u32),
+}
+
+pub const KINDS: [&str; 9] = [
+    "load",
+    "place",
+    "build",
+    "warm start",
+    "sweep",
+    "bias removal",
+    "write-back",
+    "row read",
+    "velocity read",
+];
+
+impl Call {
+    /// Its place in `KINDS`.
+    pub fn kind(&self) -> usize {
+        match self {
+            Call::Load => 0,
+            Call::Place { .. } => 1,
+            Call::Build { .. } => 2,
+            Call::WarmStart => 3,
+            Call::Sweep(_) => 4,
+            Call::RemoveBias => 5,
+            Call::WriteBack => 6,
+            Call::ReadRows(_) => 7,
+            Call::ReadVelocity(_) => 8,
+        }
+    }
+
+    /// Whether the call is handed row storage.
+    pub fn has_storage(&self) -> bool {
+        !matches!(self, Call::Place { .. } | Call::ReadVelocity(_))
+    }
+}
+
+/// What a call answers, and what it leaves in the storage that it is lent for its answer.
+#[derive(Clone)]
+pub struct Answer {
+    /// The refusal's number; where it is granted, 0, or `GRANTED` plus the number of rows.
+    pub code: u64,
+    pub out: Vec<f32>,
+    pub ids: Vec<u32>,
+    /// Whether something was written outside the lent storage.
+    pub outside: bool,
+}
+
+impl Answer {
+    /// No answer yet: the lent storage holds marks.
+    pub fn none(call: &Call) -> Answer {
+        let (out, ids) = match call {
+            Call::ReadRows(_) => (6 * ROW, 6),
+            Call::ReadVelocity(_) => (3, 0),
+            _ => (0, 0),
+        };
+        Answer {
+            code: 0,
+            out: vec![12345.678; out],
+            ids: vec![0xDEAD_BEEF; ids],
+            outside: false,
+        }
+    }
+
+    pub fn granted(&self) -> bool {
+        self.code == 0 || self.code >= GRANTED
+    }
+}
+
+impl Study {
+    pub fn body_count(&self) -> usize {
+        self.bodies.len() / BODY
+    }
+
+    pub fn joint_count(&self) -> usize {
+        (self.words.len() / WORDS).min(self.numbers.len() / JOINT)
+    }
+
+    pub fn row_capacity(&self) -> usize {
+        self.rows.len() / ROW
+    }
+
+    /// Joint j's words.
+    pub fn joint(&self, j: usize) -> &[u32] {
+        &self.words[j * WORDS..][..WORDS]
+    }
+
+    fn joints(&self) -> impl Iterator<Item = (&[u32], &[f32])> {
+        self.words
+            .chunks_exact(WORDS)
+            .zip(self.numbers.chunks_exact(JOINT))
+    }
+
+    /// The ids of joint j's rows. Its masks are at most 7.
+    pub fn ids(&self, j: usize) -> Vec<u32> {
+        rust::row_ids(self.joint(j))
+    }
+
+    /// Where joint j's rows begin; for the joint count, the total.
+    pub fn first_row(&self, j: usize) -> usize {
+        (0..j).map(|i| self.ids(i).len()).sum()
+    }
+
+    pub fn total(&self) -> usize {
+        self.first_row(self.joint_count())
+    }
+}
+
+/// Rules 1 to 8, one on the whole model before the next.
+fn model_refusal(s: &Study, call: &Call) -> u64 {
+    let bodies = s.body_count();
+    if bodies > 128 {
+        return 1;
+    }
+    if s.joint_count() > 128 {
+        return 2;
+    }
+    if s.joints()
+        .any(|(w, _)| w[2..6].iter().any(|mask| *mask > 7))
+    {
+        return 3;
+    }
+    let known = |body: u32| (body as usize) < bodies || body == WORLD;
+    if s.joints().any(|(w, _)| !known(w[0]) || !known(w[1])) {
+        return 4;
+    }
+    if s.joints().any(|(w, _)| w[0] == w[1]) {
+        return 5;
+    }
+    let all_finite = |n: &[f32]| n.iter().all(|x| x.is_finite());
+    let body_ok = |n: &[f32]| all_finite(&n[..7]);
+    let joint_ok = |n: &[f32]| {
+        FINITE.iter().all(|i| n[*i].is_finite()) && NUMBER.iter().all(|i| !n[*i].is_nan())
+    };
+    let argument_ok = match call {
+        Call::Place { pose, .. } => all_finite(pose),
+        Call::Build {
+            warm: true,
+            coefficient,
+            ..
+        } => coefficient.is_finite(),
+        _ => true,
+    };
+    if !(all_finite(&s.settings)
+        && s.bodies.chunks_exact(BODY).all(body_ok)
+        && s.joints().all(|(_, n)| joint_ok(n))
+        && argument_ok)
+    {
+        return 6;
+    }
+    if s.settings[0] < 0.0 {
+        return 7;
+    }
+    if call.has_storage() && s.row_capacity() < s.total() {
+        return 8;
+    }
+    0
+}
+
+/// The first rule that refuses the call; 0 if none does.
+pub fn refusal(s: &Study, call: &Call) -> u64 {
+    let by_model = model_refusal(s, call);
+    if by_model != 0 {
+        return by_model;
+    }
+    if matches!(call, Call::Sweep(n) if *n > 1000) {
+        return 9;
+    }
+    let needs_built = match call {
+        Call::Build { warm, substep, .. } => *warm && *substep > 0,
+        Call::WarmStart
+        | Call::Sweep(_)
+        | Call::RemoveBias
+        | Call::WriteBack
+        | Call::ReadRows(_) => true,
+        Call::Load | Call::Place { .. } | Call::ReadVelocity(_) => false,
+    };
+    if needs_built && !s.built {
+        return 10;
+    }
+    let absent = match call {
+        Call::Place { body, .. } | Call::ReadVelocity(body) => *body as usize >= s.body_count(),
+        Call::ReadRows(joint) => *joint as usize >= s.joint_count(),
+        _ => false,
+    };
+    if absent { 11 } else { 0 }
+}
+
+/// Makes the call; a refused one changes nothing.
+pub fn call(s: &mut Study, call: &Call) -> Answer {
+    let mut answer = Answer::none(call);
+    answer.code = refusal(s, call);
+    if answer.code != 0 {
+        return answer;
+    }
+    let bodies = s.body_count() * BODY;
+    let (words, numbers) = (s.joint_count() * WORDS, s.joint_count() * JOINT);
+    match *call {
+        Call::Load => s.built = false,
+        Call::Place { body, pose } => {
+            s.bodies[body as usize * BODY..][..4].copy_from_slice(&pose);
+        }
+        Call::Build {
+            warm,
+            coefficient,
+            substep,
+        } => {
+            let total = rust::build(
+                &s.settings,
+                &s.bodies[..bodies],
+                &s.words[..words],
+                &s.numbers[..numbers],
+                &mut s.rows,
+                warm.then_some(coefficient),
+                substep,
+            );
+            answer.code = GRANTED + total as u64;
+            s.built = true;
+        }
+        Call::WarmStart => {
+            rust::warmstart(&mut s.bodies[..bodies], &s.words[..words], &s.rows);
+        }
+        Call::Sweep(n) => {
+            rust::solve(&mut s.bodies[..bodies], &s.words[..words], &mut s.rows, n);
+        }
+        Call::RemoveBias => rust::remove_bias(&s.words[..words], &mut s.rows),
+        Call::WriteBack => {
+            rust::writeback(&s.words[..words], &mut s.numbers[..numbers], &s.rows);
+        }
+        Call::ReadRows(joint) => {
+            let ids = s.ids(joint as usize);
+            let first = s.first_row(joint as usize) * ROW;
+            let length = ids.len() * ROW;
+            answer.out[..length].copy_from_slice(&s.rows[first..first + length]);
+            answer.ids[..ids.len()].copy_from_slice(&ids);
+            answer.code = GRANTED + ids.len() as u64;
+        }
+        Call::ReadVelocity(body) => {
+            answer
+                .out
+                .copy_from_slice(&s.bodies[body as usize * BODY + 7..][..3]);
+        }
+    }
+    answer
+}

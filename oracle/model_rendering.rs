@@ -1,0 +1,473 @@
+//! A second rendering of the model, over `rendering.rs`. It shares no step with model.rs, and it
+//! can carry one fault of `FAULTS` at a time.
+
+use crate::model::{Answer, Call, GRANTED, Study};
+use crate::rendering;
+use std::sync::atomic::{AtomicU32, Ordering};
+
+static FAULT: AtomicU32 = AtomicU32::new(0);
+
+/// Carries fault `number` from here on; 0 is none.
+pub fn carry(number: u32) {
+    FAULT.store(number, Ordering::Relaxed)
+}
+
+/// Fault k is entry k − 1.
+pub const FAULTS: [&str; 86] = [
+    // The order of the rules.
+    "rules 1 and 2 exchanged",
+    "rules 2 and 3 exchanged",
+    "rules 3 and 4 exchanged",
+    "rules 4 and 5 exchanged",
+    "rules 5 and 6 exchanged",
+    "rules 6 and 7 exchanged",
+    "rules 7 and 8 exchanged",
+    "rules 8 and 9 exchanged",
+    "rules 9 and 10 exchanged",
+    "rules 10 and 11 exchanged",
+    "one joint goes through rules 3 to 6 before the next",
+    // Rules 1 to 5.
+    "128 bodies are refused",
+    "129 bodies are not refused",
+    "128 joints are refused",
+    "129 joints are not refused",
+    "a part of a body's record counts as a body",
+    "joints are counted by their words alone, for rule 2",
+    "mask 7 is refused",
+    "mask 8 is not refused",
+    "masks: the coupled one is not looked at",
+    "masks: only the first joint's are looked at",
+    "masks: one above 255 is cut to 8 bits first",
+    "a body whose number is the body count is present",
+    "the second body is not looked at",
+    "the world is no body for a joint",
+    "a joint from the world to the world is not refused",
+    "only a joint from the world to the world names one body twice",
+    // Rules 6 and 7.
+    "velocities are looked at",
+    "stored impulses are looked at",
+    "an infinite maximum force is refused",
+    "an infinite limit end is refused",
+    "a NaN limit end is not refused",
+    "a NaN maximum force is not refused",
+    "an infinite target position is not refused",
+    "the centre is not looked at",
+    "the softness is not looked at",
+    "frame 2 is not looked at",
+    "the inverse inertia is not looked at",
+    "the last body is not looked at",
+    "the setting normalized_max_corrective_velocity is not looked at",
+    "motors without a motor row are not looked at",
+    "the coefficient is looked at where none is given",
+    "the coefficient is not looked at in substep 0",
+    "a new pose is looked at only if its body is present",
+    "dt = −0 is refused",
+    "dt = 0 is refused",
+    // Rule 8.
+    "storage of just the total is refused",
+    "a part of a row counts as a row",
+    "place tries rule 8",
+    "load passes over rule 8",
+    "a velocity read tries rule 8",
+    "storage is asked for six rows a joint",
+    // Rules 9 to 11.
+    "a sweep of 1000 is refused",
+    "a sweep of 1001 is not refused",
+    "a row read needs no build",
+    "write-back needs no build",
+    "place needs a build",
+    "a warm build in substep 0 needs a build",
+    "a cold build in a later substep needs a build",
+    "a warm build in substep 1 needs no build",
+    "the world is present when asked for",
+    "a joint whose number is the joint count is present",
+    // The mark.
+    "load keeps the mark",
+    "place clears the mark",
+    "a refused build marks the model built",
+    "a refused build clears the mark",
+    // Build.
+    "only the first joint is built",
+    "a joint's rows begin at six times its number",
+    "last impulses are read after the new rows are written",
+    "last impulses are read from the storage's first rows",
+    "stored impulses are joint 0's",
+    "a row past the total is cleared",
+    "the total leaves out the last joint",
+    "the world stands where body 0 stands",
+    // Sweep, warm start, bias removal, write-back, reads.
+    "one round for n",
+    "joints descending",
+    "each joint goes n rounds before the next",
+    "velocities are kept across a joint's rows, the world's too",
+    "the world's writes go to body 0",
+    "body 2's velocity is not written",
+    "warm start of the first joint's rows alone",
+    "bias removal in all of the storage",
+    "write-back goes to the joint's first id",
+    "write-back of the last joint's rows alone",
+    "a row read returns rows from the storage's start",
+    "a velocity read returns the angular velocity first",
+];
+
+fn fault(number: u32) -> bool {
+    FAULT.load(Ordering::Relaxed) == number
+}
+
+macro_rules! or(
+    ($number: expr, $right: expr, $wrong: expr) => { if fault($number) { $wrong } else { $right } }
+);
+
+const WORLD: u32 = 4294967295;
+const MOTORS: [usize; 3] = [17, 23, 29];
+const LIMITS: [usize; 3] = [8, 11, 14];
+
+/// A joint as the model has it.
+struct Joint {
+    words: [u32; 9],
+    numbers: [f32; 42],
+    ids: Vec<u32>,
+    /// Place of its first row.
+    first: usize,
+}
+
+fn joints(s: &Study) -> Vec<Joint> {
+    let mut next = 0;
+    let mut all = Vec::new();
+    for (w, n) in s.words.chunks_exact(9).zip(s.numbers.chunks_exact(42)) {
+        let ids = rendering::ids(&w[2..6]);
+        let first = or!(68, next, 6 * all.len());
+        next += ids.len();
+        all.push(Joint {
+            words: w.try_into().unwrap(),
+            numbers: n.try_into().unwrap(),
+            ids,
+            first,
+        });
+    }
+    all
+}
+
+fn count_of(joints: &[Joint]) -> usize {
+    joints.iter().map(|j| j.ids.len()).sum()
+}
+
+fn wild(n: &[f32]) -> bool {
+    n.iter().any(|x| !x.is_finite())
+}
+
+fn strange(n: &[f32]) -> bool {
+    n.iter().any(|x| x.is_nan())
+}
+
+/// Whether rule 6 refuses a joint's numbers.
+fn joint_wild(joint: &Joint) -> bool {
+    let n = &joint.numbers;
+    let motor = |i: usize| {
+        let at = MOTORS[i];
+        let used = !fault(41) || joint.ids.contains(&(8 + i as u32));
+        let target_pos = or!(34, wild(&n[at + 1..at + 2]), n[at + 1].is_nan());
+        let force = &n[at + 4..at + 5];
+        used && (wild(&n[at..at + 1])
+            || target_pos
+            || wild(&n[at + 2..at + 4])
+            || or!(30, strange(force), wild(force)) && !fault(33)
+            || fault(29) && strange(&n[at + 5..at + 6]))
+    };
+    let limit = |i: usize| {
+        let at = LIMITS[i];
+        let ends = &n[at..at + 2];
+        or!(31, strange(ends), wild(ends)) && !fault(32) || fault(29) && wild(&n[at + 2..at + 3])
+    };
+    wild(&n[..4])
+        || wild(&n[4..8]) && !fault(37)
+        || (0..3).any(limit)
+        || (0..3).any(motor)
+        || wild(&n[35..37]) && !fault(36)
+        || fault(29) && wild(&n[37..40])
+        || wild(&n[40..]) && !fault(35)
+}
+
+/// The rules in checking order, and whether each refuses.
+fn rules(s: &Study, call: &Call) -> Vec<(u64, bool)> {
+    let all = joints(s);
+    let parts = or!(16, s.bodies.len(), s.bodies.len() + 9) / 10;
+    let bodies = parts as u64;
+
+    let too_many = bodies > or!(13, or!(12, 128, 127), 129);
+    let counted = or!(17, all.len(), s.words.len() / 9);
+    let too_jointed = counted > or!(15, or!(14, 128, 127), 129);
+    let mask_bad = |j: &Joint| {
+        let masks = &j.words[2..or!(20, 6, 5)];
+        let seen = masks.iter().map(|m| or!(22, *m, *m & 255));
+        seen.max().unwrap() > or!(19, or!(18, 7, 6), 8)
+    };
+    let stray = |j: &Joint| {
+        let named = &j.words[..or!(24, 2, 1)];
+        named.iter().any(|b| {
+            let here = (*b as u64) < or!(23, bodies, bodies + 1);
+            !(here || *b == WORLD && !fault(25))
+        })
+    };
+    let twice = |j: &Joint| {
+        j.words[0] == j.words[1]
+            && (j.words[0] != WORLD || !fault(26))
+            && (j.words[0] == WORLD || !fault(27))
+    };
+    let records: Vec<&[f32]> = s.bodies.chunks_exact(10).collect();
+    let looked = &records[..or!(39, records.len(), records.len().saturating_sub(1))];
+    let body_wild = |n: &[f32]| {
+        wild(&n[..4])
+            || wild(&n[4..5]) && !fault(38)
+            || wild(&n[5..7])
+            || fault(28) && wild(&n[7..])
+    };
+    let asked = match call {
+        Call::Place { body, pose } => wild(pose) && (!fault(44) || (*body as u64) < bodies),
+        Call::Build {
+            warm,
+            coefficient,
+            substep,
+        } => (*warm || fault(42)) && !coefficient.is_finite() && !(fault(43) && *substep == 0),
+        _ => false,
+    };
+    let any_wild = wild(&s.settings[..or!(40, 3, 2)])
+        || looked.iter().any(|n| body_wild(n))
+        || all.iter().any(joint_wild)
+        || asked;
+    let dt = s.settings[0];
+    let backwards =
+        dt < 0.0 || fault(45) && dt.to_bits() == 0x8000_0000 || fault(46) && dt.to_bits() == 0;
+
+    let needed = or!(52, count_of(&all), 6 * all.len());
+    let room = or!(48, s.rows.len(), s.rows.len() + 17) / 18;
+    let lent = match call {
+        Call::Place { .. } => fault(49),
+        Call::ReadVelocity(_) => fault(51),
+        Call::Load => !fault(50),
+        _ => true,
+    };
+    let short = lent && (room < needed || fault(47) && room == needed);
+
+    let most = or!(54, or!(53, 1000, 999), 1001);
+    let too_long = matches!(call, Call::Sweep(n) if *n > most);
+    let first_needed = match call {
+        Call::Load | Call::ReadVelocity(_) => false,
+        Call::Place { .. } => fault(57),
+        Call::Build { warm, substep, .. } => match (warm, substep) {
+            (true, 0) => fault(58),
+            (true, 1) => !fault(60),
+            (true, _) => true,
+            (false, 0) => false,
+            (false, _) => fault(59),
+        },
+        Call::ReadRows(_) => !fault(55),
+        Call::WriteBack => !fault(56),
+        _ => true,
+    };
+    let unbuilt = first_needed && !s.built;
+    let absent = match call {
+        Call::Place { body, .. } | Call::ReadVelocity(body) => {
+            *body as u64 >= bodies && !(fault(61) && *body == WORLD)
+        }
+        Call::ReadRows(joint) => *joint as usize >= or!(62, all.len(), all.len() + 1),
+        _ => false,
+    };
+
+    let mut of_joints = [
+        (
+            3,
+            all[..or!(21, all.len(), all.len().min(1))]
+                .iter()
+                .any(mask_bad),
+        ),
+        (4, all.iter().any(stray)),
+        (5, all.iter().any(twice)),
+        (6, any_wild),
+    ];
+    if fault(11) {
+        let broken = |j: &Joint| [mask_bad(j), stray(j), twice(j), joint_wild(j)];
+        if let Some(first) = all.iter().map(broken).find(|b| b.contains(&true)) {
+            for (rule, broken) in of_joints.iter_mut().zip(first) {
+                rule.1 = broken;
+            }
+        }
+    }
+    let mut order = vec![(1, too_many), (2, too_jointed)];
+    order.extend(of_joints);
+    order.extend([
+        (7, backwards),
+        (8, short),
+        (9, too_long),
+        (10, unbuilt),
+        (11, absent),
+    ]);
+    for k in 1..11 {
+        if fault(k as u32) {
+            order.swap(k - 1, k);
+        }
+    }
+    order
+}
+
+/// Body i's numbers; the world's for every number that has no body.
+fn body(s: &Study, i: u32) -> [f32; 10] {
+    let i = if fault(74) && i == WORLD { 0 } else { i };
+    let world = [1.0, 0.0, 0.0, 0.0, 0.0, 0.0, 0.0, 0.0, 0.0, 0.0];
+    let place = s.bodies.chunks_exact(10).nth(i as usize);
+    place.map_or(world, |n| n.try_into().unwrap())
+}
+
+fn velocity(s: &Study, i: u32) -> [f32; 3] {
+    let place = s.bodies.chunks_exact(10).nth(i as usize);
+    place.map_or([0.0; 3], |n| n[7..].try_into().unwrap())
+}
+
+fn put_velocity(s: &mut Study, i: u32, vel: &[f32]) {
+    let i = if fault(79) && i == WORLD { 0 } else { i };
+    if let Some(n) = s.bodies.chunks_exact_mut(10).nth(i as usize) {
+        n[7..].copy_from_slice(vel);
+    }
+}
+
+fn build(s: &mut Study, all: &[Joint], warm: Option<f32>, substep: u32) -> usize {
+    let built = &all[..or!(67, all.len(), all.len().min(1))];
+    for joint in built {
+        let mut n = s.settings.to_vec();
+        n.extend(&body(s, joint.words[0])[..7]);
+        n.extend(&body(s, joint.words[1])[..7]);
+        n.extend(joint.numbers);
+        n.push(warm.unwrap_or(0.0));
+        if fault(71) {
+            for k in [10, 13, 16, 22, 28, 34, 37, 38, 39] {
+                n[17 + k] = all[0].numbers[k];
+            }
+        }
+        let mut words = joint.words[2..].to_vec();
+        words.extend([warm.is_some() as u32, substep]);
+
+        let (first, length) = (joint.first * 18, joint.ids.len() * 18);
+        let mut rows = [0.0; 108];
+        let from = or!(70, first, 0);
+        if !fault(69) {
+            rows[..length].copy_from_slice(&s.rows[from..from + length]);
+        }
+        let count = rendering::build(&words, &n, &mut rows, &mut [0; 6]);
+        assert!(count == joint.ids.len());
+        s.rows[first..first + length].copy_from_slice(&rows[..length]);
+    }
+    let total = count_of(all);
+    if fault(72) {
+        if let Some(row) = s.rows.chunks_exact_mut(18).nth(total) {
+            row.fill(0.0);
+        }
+    }
+    or!(73, total, count_of(&all[..all.len().saturating_sub(1)]))
+}
+
+/// Every joint's rows in order, by one function of a row and the two velocities.
+fn pass(s: &mut Study, joint: &Joint, by: fn(&mut [f32], &mut [f32])) {
+    let [one, two] = [joint.words[0], joint.words[1]];
+    let read = |s: &Study| [velocity(s, one), velocity(s, two)].concat();
+    let mut vels = read(s);
+    for k in joint.first..joint.first + joint.ids.len() {
+        if !fault(78) {
+            vels = read(s);
+        }
+        by(&mut s.rows[18 * k..][..18], &mut vels);
+        put_velocity(s, one, &vels[..3]);
+        if !fault(80) {
+            put_velocity(s, two, &vels[3..]);
+        }
+    }
+}
+
+fn sweep(s: &mut Study, all: &[Joint], n: u32) {
+    let rounds = or!(75, n, n.min(1));
+    let [outer, inner] = or!(77, [rounds, 1], [1, rounds]);
+    for _ in 0..outer {
+        for k in 0..all.len() {
+            let joint = &all[or!(76, k, all.len() - 1 - k)];
+            for _ in 0..inner {
+                pass(s, joint, rendering::step);
+            }
+        }
+    }
+}
+
+fn write_back(s: &mut Study, all: &[Joint]) {
+    let from = or!(84, 0, all.len().saturating_sub(1));
+    for (j, joint) in all.iter().enumerate().skip(from) {
+        for (k, id) in joint.ids.iter().enumerate() {
+            let impulse = s.rows[18 * (joint.first + k)];
+            let id = or!(83, *id, joint.ids[0]);
+            rendering::writeback(id, impulse, &mut s.numbers[42 * j..][..42]);
+        }
+    }
+}
+
+pub fn call(s: &mut Study, call: &Call) -> Answer {
+    let mut answer = Answer::none(call);
+    if let Some((rule, _)) = rules(s, call).into_iter().find(|(_, refuses)| *refuses) {
+        answer.code = rule;
+        if matches!(call, Call::Build { .. }) {
+            s.built = or!(65, or!(66, s.built, false), true);
+        }
+        return answer;
+    }
+    let all = joints(s);
+    // A faulty rule 8 or place of rows must not end the program.
+    let length = s.rows.len();
+    s.rows.resize(length.max(18 * 6 * (all.len() + 1)), 0.0);
+    match *call {
+        Call::Load => s.built = fault(63) && s.built,
+        Call::Place { body, pose } => {
+            if let Some(n) = s.bodies.chunks_exact_mut(10).nth(body as usize) {
+                n[..4].copy_from_slice(&pose);
+            }
+            s.built = s.built && !fault(64);
+        }
+        Call::Build {
+            warm,
+            coefficient,
+            substep,
+        } => {
+            let total = build(s, &all, warm.then_some(coefficient), substep);
+            answer.code = GRANTED + total as u64;
+            s.built = true;
+        }
+        Call::WarmStart => {
+            for joint in &all[..or!(81, all.len(), all.len().min(1))] {
+                pass(s, joint, rendering::warmstart);
+            }
+        }
+        Call::Sweep(n) => sweep(s, &all, n),
+        Call::RemoveBias => {
+            let rows = or!(82, count_of(&all), length / 18);
+            for row in s.rows.chunks_exact_mut(18).take(rows) {
+                rendering::remove_bias(row);
+            }
+        }
+        Call::WriteBack => write_back(s, &all),
+        Call::ReadRows(joint) => {
+            let (first, ids) = match all.get(joint as usize) {
+                Some(joint) => (joint.first, &joint.ids[..]),
+                None => (0, &[][..]),
+            };
+            let first = or!(85, first, 0);
+            for (k, id) in ids.iter().enumerate() {
+                let row = &s.rows[18 * (first + k)..][..18];
+                answer.out[18 * k..][..18].copy_from_slice(row);
+                answer.ids[k] = *id;
+            }
+            answer.code = GRANTED + ids.len() as u64;
+        }
+        Call::ReadVelocity(body) => {
+            let [x, y, angular] = velocity(s, body);
+            let read = or!(86, [x, y, angular], [angular, x, y]);
+            answer.out.copy_from_slice(&read);
+        }
+    }
+    s.rows.truncate(length);
+    answer
+}

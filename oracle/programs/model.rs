@@ -1,0 +1,96 @@
+//! The model of several joints: document 01's cases, and the comparison of the model over the
+//! published Rust with the Rattle library and with the second rendering.
+//!
+//!   model cases                     document 01's cases
+//!   model compare SEED CALLS        against the Rattle library (built with RATTLE_LIB)
+//!   model pairs SEED COUNT          two studies side by side, by the Rattle library or, without
+//!                                   it, by the oracle
+//!   model answers                   a fixed list of calls with the oracle's answers
+//!   model replay < ANSWERS          the answers again, by each side that is there
+//!   model rendering SEED CALLS      against the second rendering
+//!   model fault NUMBER SEED CALLS   against the second rendering with one fault
+//!   model faults SEED CALLS PAIRS   each fault in turn: how many calls show it, how many pairs
+
+#[path = "model/answers.rs"]
+mod answers;
+mod bits;
+#[path = "model/cases.rs"]
+mod cases;
+mod draw;
+mod fenced;
+#[path = "model/generator.rs"]
+mod generator;
+#[path = "model/library.rs"]
+mod library;
+#[path = "../model.rs"]
+mod model;
+#[path = "../model_rendering.rs"]
+mod model_rendering;
+#[path = "model/pairs.rs"]
+mod pairs;
+#[path = "../rendering.rs"]
+mod rendering;
+#[path = "model/run.rs"]
+mod run;
+mod studies;
+
+use std::process::exit;
+
+fn main() {
+    let arguments: Vec<String> = std::env::args().skip(1).collect();
+    let number = |i: usize, default: u64| match arguments.get(i) {
+        None => default,
+        Some(text) => text.parse().unwrap_or_else(|_| {
+            eprintln!("model: {text} is not a number");
+            exit(2)
+        }),
+    };
+    let calls = 100_000;
+    match arguments.first().map(String::as_str) {
+        Some("cases") => cases::cases(),
+        Some("compare") => match library::RATTLE {
+            Some(rattle) => run::compare(rattle, number(1, 1), number(2, calls)),
+            None => {
+                println!("built without RATTLE_LIB: nothing to compare with");
+                exit(2)
+            }
+        },
+        Some("pairs") => {
+            let (side, by) = match library::RATTLE {
+                Some(rattle) => (rattle, "the Rattle library"),
+                None => (library::ORACLE, "the oracle"),
+            };
+            pairs::pairs(side, by, number(1, 1), number(2, 10_000))
+        }
+        Some("answers") => answers::answers(),
+        Some("replay") => {
+            let text = std::io::read_to_string(std::io::stdin()).unwrap();
+            for (name, side) in library::sides() {
+                let (agree, difference) = answers::replay(side, &text);
+                if let Some(what) = difference {
+                    println!("{what}, by {name}");
+                    exit(1)
+                }
+                println!("{agree} lines agree by {name}");
+            }
+        }
+        Some("rendering") => run::compare(library::RENDERING, number(1, 1), number(2, calls)),
+        Some("fault") => {
+            let fault = number(1, 0);
+            if fault > model_rendering::FAULTS.len() as u64 {
+                eprintln!("model: there are {} faults", model_rendering::FAULTS.len());
+                exit(2)
+            }
+            model_rendering::carry(fault as u32);
+            run::compare(library::RENDERING, number(2, 1), number(3, calls))
+        }
+        Some("faults") => run::faults(number(1, 1), number(2, calls), number(3, 1_000)),
+        _ => {
+            eprintln!(
+                "model: cases | compare SEED CALLS | pairs SEED COUNT | answers | replay | rendering SEED CALLS | \
+                 fault NUMBER SEED CALLS | faults SEED CALLS PAIRS"
+            );
+            exit(2)
+        }
+    }
+}

@@ -1,0 +1,644 @@
+//! A fixed list of calls with the oracle's answers, as text that a very simple program can read,
+//! and its replay.
+
+use crate::bits::bits;
+use crate::generator::{Generator, Size, total};
+use crate::library::{ORACLE, Side};
+use crate::model::{Answer, BODY, Call, FINITE, JOINT, KINDS, NUMBER, ROW, Study, WORDS, WORLD};
+use std::fmt::Write;
+
+const SEED: u64 = 20;
+const STUDIES: usize = 140;
+
+/// One line of a list.
+#[derive(Copy, Clone)]
+enum Line {
+    Call(Call),
+    /// The caller writes one number, word, setting or the mark.
+    Set {
+        slice: Slice,
+        index: u32,
+        value: u32,
+    },
+    /// From here on the caller hands over the first so many of bodies, words, numbers and rows.
+    Hand([u32; 4]),
+}
+
+#[derive(Copy, Clone, Debug)]
+enum Slice {
+    Bodies,
+    Words,
+    Numbers,
+    Rows,
+    Settings,
+    Mark,
+}
+
+const SLICES: [Slice; 6] = [
+    Slice::Bodies,
+    Slice::Words,
+    Slice::Numbers,
+    Slice::Rows,
+    Slice::Settings,
+    Slice::Mark,
+];
+
+impl Line {
+    /// Opcode and five arguments.
+    fn tokens(&self) -> [u32; 6] {
+        match *self {
+            Line::Call(call) => {
+                let op = call.kind() as u32;
+                match call {
+                    Call::Place { body, pose } => {
+                        let [re, im, x, y] = pose.map(bits);
+                        [op, body, re, im, x, y]
+                    }
+                    Call::Build {
+                        warm,
+                        coefficient,
+                        substep,
+                    } => [op, warm as u32, bits(coefficient), substep, 0, 0],
+                    Call::Sweep(i) | Call::ReadRows(i) | Call::ReadVelocity(i) => {
+                        [op, i, 0, 0, 0, 0]
+                    }
+                    _ => [op, 0, 0, 0, 0, 0],
+                }
+            }
+            Line::Set {
+                slice,
+                index,
+                value,
+            } => [9, slice as u32, index, value, 0, 0],
+            Line::Hand([b, w, n, r]) => [10, b, w, n, r, 0],
+        }
+    }
+
+    fn from_tokens([op, a, b, c, d, e]: [u32; 6]) -> Line {
+        let call = match op {
+            0 => Call::Load,
+            1 => Call::Place {
+                body: a,
+                pose: [b, c, d, e].map(f32::from_bits),
+            },
+            2 => Call::Build {
+                warm: a != 0,
+                coefficient: f32::from_bits(b),
+                substep: c,
+            },
+            3 => Call::WarmStart,
+            4 => Call::Sweep(a),
+            5 => Call::RemoveBias,
+            6 => Call::WriteBack,
+            7 => Call::ReadRows(a),
+            8 => Call::ReadVelocity(a),
+            9 => {
+                return Line::Set {
+                    slice: SLICES[a as usize],
+                    index: b,
+                    value: c,
+                };
+            }
+            _ => return Line::Hand([a, b, c, d]),
+        };
+        Line::Call(call)
+    }
+}
+
+/// A study in storage of fixed size, and how much of it is handed over.
+struct Held {
+    all: Study,
+    lengths: [usize; 4],
+}
+
+impl Held {
+    fn new(all: Study) -> Held {
+        let lengths = [
+            all.bodies.len(),
+            all.words.len(),
+            all.numbers.len(),
+            all.rows.len(),
+        ];
+        Held { all, lengths }
+    }
+
+    fn handed(&self) -> Study {
+        let [b, w, n, r] = self.lengths;
+        let all = &self.all;
+        Study {
+            settings: all.settings,
+            built: all.built,
+            bodies: all.bodies[..b].to_vec(),
+            words: all.words[..w].to_vec(),
+            numbers: all.numbers[..n].to_vec(),
+            rows: all.rows[..r].to_vec(),
+        }
+    }
+
+    /// Does what the line says; the answer's code and the checksum.
+    fn run(&mut self, side: Side, line: &Line) -> (u64, u32) {
+        match *line {
+            Line::Call(call) => {
+                let mut s = self.handed();
+                let answer = side(&mut s, &call);
+                let [b, w, n, r] = self.lengths;
+                self.all.bodies[..b].copy_from_slice(&s.bodies);
+                self.all.words[..w].copy_from_slice(&s.words);
+                self.all.numbers[..n].copy_from_slice(&s.numbers);
+                self.all.rows[..r].copy_from_slice(&s.rows);
+                self.all.built = s.built;
+                (answer.code, self.checksum(Some((&call, &answer))))
+            }
+            Line::Set {
+                slice,
+                index,
+                value,
+            } => {
+                let (i, x) = (index as usize, f32::from_bits(value));
+                match slice {
+                    Slice::Bodies => self.all.bodies[i] = x,
+                    Slice::Words => self.all.words[i] = value,
+                    Slice::Numbers => self.all.numbers[i] = x,
+                    Slice::Rows => self.all.rows[i] = x,
+                    Slice::Settings => self.all.settings[i] = x,
+                    Slice::Mark => self.all.built = value != 0,
+                }
+                (0, self.checksum(None))
+            }
+            Line::Hand(lengths) => {
+                self.lengths = lengths.map(|n| n as usize);
+                (0, self.checksum(None))
+            }
+        }
+    }
+
+    fn checksum(&self, answered: Option<(&Call, &Answer)>) -> u32 {
+        let mut h: u32 = 0;
+        let mut add = |x: u32| h = h.wrapping_mul(31).wrapping_add(x);
+        self.all.bodies.iter().for_each(|x| add(bits(*x)));
+        self.all.words.iter().for_each(|x| add(*x));
+        self.all.numbers.iter().for_each(|x| add(bits(*x)));
+        self.all.rows.iter().for_each(|x| add(bits(*x)));
+        if let Some((call, answer)) = answered {
+            if answer.granted() {
+                let count = match call {
+                    Call::ReadRows(_) => answer.code as u32 as usize,
+                    _ => 0,
+                };
+                let numbers = match call {
+                    Call::ReadVelocity(_) => 3,
+                    _ => count * ROW,
+                };
+                answer.out[..numbers].iter().for_each(|x| add(bits(*x)));
+                answer.ids[..count].iter().for_each(|x| add(*x));
+            }
+        }
+        h
+    }
+}
+
+/// What a study's list has met, and its text.
+struct Writer {
+    text: String,
+    lines: u32,
+    by_kind: [[u64; 12]; 9],
+}
+
+impl Writer {
+    fn line(&mut self, h: &mut Held, line: Line) -> u64 {
+        let (code, checksum) = h.run(ORACLE, &line);
+        if let Line::Call(call) = line {
+            let column = if code < 12 { code as usize } else { 0 };
+            self.by_kind[call.kind()][column] += 1;
+        }
+        let tokens = line.tokens();
+        let answer = [(code >> 32) as u32, code as u32, checksum];
+        self.tokens(tokens.into_iter().chain(answer));
+        self.lines += 1;
+        code
+    }
+
+    /// One text line.
+    fn tokens(&mut self, tokens: impl IntoIterator<Item = u32>) {
+        let mut separator = "";
+        for token in tokens {
+            write!(self.text, "{separator}{token:08X}").unwrap();
+            separator = " ";
+        }
+        self.text.push('\n');
+    }
+
+    fn records(&mut self, tokens: Vec<u32>, width: usize) {
+        for line in tokens.chunks(width) {
+            self.tokens(line.iter().copied());
+        }
+    }
+
+    /// A study and its list of lines.
+    fn study(&mut self, s: Study, list: impl FnOnce(&mut Writer, &mut Held)) {
+        let mut body = Writer {
+            text: String::new(),
+            lines: 0,
+            by_kind: self.by_kind,
+        };
+        list(&mut body, &mut Held::new(s.clone()));
+        self.by_kind = body.by_kind;
+        self.lines += body.lines;
+        let lengths = [s.bodies.len(), s.words.len(), s.numbers.len(), s.rows.len()];
+        let header = lengths.map(|n| n as u32).into_iter();
+        let settings = s.settings.map(bits);
+        self.tokens(header.chain([body.lines]).chain(settings));
+        let all = |n: &[f32]| n.iter().map(|x| bits(*x)).collect();
+        self.records(all(&s.bodies), BODY);
+        self.records(s.words.clone(), WORDS);
+        self.records(all(&s.numbers), JOINT);
+        self.records(all(&s.rows), ROW);
+        self.text.push_str(&body.text);
+    }
+}
+
+/// A write by which the caller breaks a rule, or changes what no rule looks at.
+fn write_any(g: &mut Generator, s: &Study) -> Option<Line> {
+    let (bodies, joints) = (s.body_count() as u64, s.joint_count() as u64);
+    let d = &mut g.d;
+    let (slice, index, value) = match d.below(14) {
+        0 | 1 if joints > 0 => {
+            let mask = [8, 9, 263, u32::MAX, 7, 7, 0, 1, 2, 3, 4, 5, 6];
+            let at = d.below(joints) * 9 + 2 + d.below(4);
+            (Slice::Words, at, d.pick(&mask))
+        }
+        2 | 3 if joints > 0 => {
+            let body = [bodies as u32, WORLD - 1, WORLD, 0, 1];
+            let at = d.below(joints) * 9 + d.below(2);
+            (Slice::Words, at, d.pick(&body))
+        }
+        4 | 5 if joints > 0 => {
+            let at = d.below(joints) * 42;
+            let infinite = d.pick(&[f32::NAN, f32::INFINITY, f32::NEG_INFINITY]);
+            let place = match d.below(3) {
+                0 => d.pick(&NUMBER),
+                1 => d.pick(&FINITE),
+                _ => d.below(42) as usize,
+            };
+            (Slice::Numbers, at + place as u64, bits(infinite))
+        }
+        6 if bodies > 0 => {
+            let at = d.below(bodies * 10);
+            (Slice::Bodies, at, bits(d.number()))
+        }
+        7 => {
+            let dt = [-1.0, -0.0, 0.0, f32::NAN, 1.0, -1.0e-40, f32::MAX];
+            (Slice::Settings, 0, bits(d.pick(&dt)))
+        }
+        8 => (
+            Slice::Settings,
+            1 + d.below(2),
+            bits(d.pick(&[f32::INFINITY, f32::MAX, 0.0])),
+        ),
+        9 | 10 => (Slice::Mark, 0, d.below(2) as u32),
+        _ if !s.rows.is_empty() => {
+            let at = d.below(s.rows.len() as u64);
+            (Slice::Rows, at, bits(d.number()))
+        }
+        _ => return None,
+    };
+    Some(Line::Set {
+        slice,
+        index: index as u32,
+        value,
+    })
+}
+
+/// The write that takes back `line`.
+fn undo(all: &Study, line: &Line) -> Line {
+    let Line::Set { slice, index, .. } = *line else {
+        unreachable!()
+    };
+    let i = index as usize;
+    let value = match slice {
+        Slice::Bodies => bits(all.bodies[i]),
+        Slice::Words => all.words[i],
+        Slice::Numbers => bits(all.numbers[i]),
+        Slice::Rows => bits(all.rows[i]),
+        Slice::Settings => bits(all.settings[i]),
+        Slice::Mark => all.built as u32,
+    };
+    Line::Set {
+        slice,
+        index,
+        value,
+    }
+}
+
+/// Storage shorter than the total, or bodies and joints cut off.
+fn hand_less(g: &mut Generator, h: &Held) -> Line {
+    let s = h.handed();
+    let [mut b, mut w, mut n, mut r] = h.lengths;
+    let whole = total(&s) * ROW;
+    match g.d.below(6) {
+        0 => b = g.d.below(b as u64 + 1) as usize,
+        1 => w = g.d.below(w as u64 + 1) as usize,
+        2 => n = g.d.below(n as u64 + 1) as usize,
+        3 => r = whole.saturating_sub(1),
+        4 => r = whole.saturating_sub(ROW),
+        _ => r = whole,
+    }
+    Line::Hand([b, w, n, r.min(h.lengths[3])].map(|x| x as u32))
+}
+
+/// Calls with writes and shorter slices between them, most of which are taken back.
+fn any_list(g: &mut Generator, w: &mut Writer, h: &mut Held) {
+    w.line(h, Line::Call(Call::Load));
+    for _ in 0..8 + g.d.below(24) {
+        let mut back = None;
+        if g.d.one_in(4) {
+            if g.d.one_in(4) {
+                back = Some(Line::Hand(h.lengths.map(|x| x as u32)));
+                let line = hand_less(g, h);
+                w.line(h, line);
+            } else if let Some(line) = write_any(g, &h.all) {
+                back = (!g.d.one_in(6)).then(|| undo(&h.all, &line));
+                w.line(h, line);
+            }
+        }
+        let s = h.handed();
+        let mut call = g.call(&s);
+        if g.d.one_in(16) {
+            let rule = g.d.pick(&[9, 10, 11]);
+            let mut s = s.clone();
+            g.break_rule(rule, &mut s, &mut call);
+        }
+        let granted_build = w.line(h, Line::Call(call)) >= 12 && matches!(call, Call::Build { .. });
+        if let Some(line) = back {
+            w.line(h, line);
+        }
+        if granted_build && g.d.one_in(2) {
+            w.line(h, Line::Call(Call::Sweep(2)));
+        }
+    }
+}
+
+const COLD: Call = Call::Build {
+    warm: false,
+    coefficient: 0.0,
+    substep: 0,
+};
+
+fn set(slice: Slice, index: usize, value: u32) -> Line {
+    Line::Set {
+        slice,
+        index: index as u32,
+        value,
+    }
+}
+
+/// 129 bodies and 129 joints, of which few make rows: handed over whole, with 128 bodies, with
+/// 128 joints; then every rule broken, and one after the other mended.
+fn many(g: &mut Generator, w: &mut Writer) {
+    let mut s = g.study_of(Size {
+        bodies: 129,
+        joints: 129,
+    });
+    for (j, words) in s.words.chunks_exact_mut(WORDS).enumerate() {
+        if j % 16 != 15 {
+            words[2..6].fill(0);
+        }
+        // Body 128 has no joint.
+        for end in &mut words[..2] {
+            if *end == 128 {
+                *end = WORLD;
+            }
+        }
+        if words[0] == words[1] {
+            words[..2].copy_from_slice(&[5, WORLD]);
+        }
+    }
+    s.rows = g.storage(total(&s));
+    let calls = [
+        Call::Load,
+        Call::Build {
+            warm: true,
+            coefficient: 0.5,
+            substep: 0,
+        },
+        Call::WarmStart,
+        Call::Sweep(3),
+        Call::ReadVelocity(127),
+        Call::ReadRows(127),
+        Call::Place {
+            body: 127,
+            pose: [1.0, 0.0, 0.5, -0.5],
+        },
+        Call::WriteBack,
+        Call::RemoveBias,
+        Call::Sweep(1000),
+    ];
+    w.study(s, |w, h| {
+        let all = h.lengths.map(|x| x as u32);
+        let [bodies, words] = [128 * BODY as u32 + 9, 128 * WORDS as u32 + 8];
+        let numbers = 128 * JOINT as u32 + 41;
+        for handed in [
+            all,
+            [bodies, all[1], all[2], all[3]],
+            [all[0], words, all[2], all[3]],
+            [bodies, words, all[2], all[3]],
+            [bodies, all[1], numbers, all[3]],
+        ] {
+            w.line(h, Line::Hand(handed));
+            for call in calls {
+                w.line(h, Line::Call(call));
+            }
+        }
+
+        let asked = [
+            Call::Load,
+            Call::Sweep(1001),
+            Call::Sweep(1000),
+            Call::ReadRows(200),
+            Call::ReadVelocity(WORLD),
+            Call::Place {
+                body: 200,
+                pose: [1.0, 0.0, 0.0, f32::NAN],
+            },
+            Call::Place {
+                body: WORLD,
+                pose: [1.0, 0.0, 0.0, 0.0],
+            },
+        ];
+        let short = (total(&h.handed()) * ROW - 1) as u32;
+        let mut mends = vec![
+            Line::Hand([bodies, all[1], all[2], short]),
+            Line::Hand([bodies, words, all[2], short]),
+        ];
+        for line in [
+            set(Slice::Words, 2 * WORDS + 5, 8),
+            set(Slice::Words, WORDS, 200),
+            set(Slice::Words, 0, h.all.words[1]),
+            set(Slice::Bodies, 1, bits(f32::NAN)),
+            set(Slice::Settings, 0, bits(-1.0)),
+        ] {
+            mends.push(undo(&h.all, &line));
+            w.line(h, line);
+        }
+        mends.push(Line::Hand([bodies, words, all[2], all[3]]));
+        mends.push(set(Slice::Mark, 0, 1));
+        w.line(h, set(Slice::Mark, 0, 0));
+        w.line(h, Line::Hand([all[0], all[1], all[2], short]));
+        for line in mends {
+            for call in asked {
+                w.line(h, Line::Call(call));
+            }
+            w.line(h, line);
+        }
+        for call in asked {
+            w.line(h, Line::Call(call));
+        }
+    });
+}
+
+/// Row 0 pushes the world alone, row 1 looks at the velocity between its body and the world.
+fn world_reads_zero(g: &mut Generator, w: &mut Writer) {
+    let mut s = g.study_of(Size {
+        bodies: 1,
+        joints: 1,
+    });
+    s.words[..6].copy_from_slice(&[0, WORLD, 3, 0, 0, 0]);
+    s.rows = vec![0.0; 2 * ROW];
+    w.study(s, |w, h| {
+        w.line(h, Line::Call(COLD));
+        let mut rows = [0.0; 2 * ROW];
+        rows[1..4].copy_from_slice(&[1.0, 1.0, 1.0]);
+        rows[16] = 1.0;
+        rows[ROW + 1..ROW + 4].copy_from_slice(&[-10.0, 10.0, 1.0]);
+        rows[ROW + 9] = 1.0;
+        for (i, x) in rows.into_iter().enumerate() {
+            w.line(h, set(Slice::Rows, i, bits(x)));
+        }
+        for i in 0..3 {
+            w.line(h, set(Slice::Bodies, 7 + i, bits(1.0)));
+        }
+        for call in [Call::Sweep(1), Call::ReadRows(0), Call::ReadVelocity(0)] {
+            w.line(h, Line::Call(call));
+        }
+    });
+}
+
+/// Each place of the settings, the last body and the last joint, NaN or infinite for one load.
+fn finite(g: &mut Generator, w: &mut Writer) {
+    let mut s = g.study_of(Size {
+        bodies: 2,
+        joints: 2,
+    });
+    s.rows = g.storage(total(&s));
+    w.study(s, |w, h| {
+        for bad in [f32::NAN, f32::INFINITY] {
+            let settings = (0..3).map(|i| (Slice::Settings, i));
+            let body = (0..BODY).map(|i| (Slice::Bodies, BODY + i));
+            let joint = (0..JOINT).map(|i| (Slice::Numbers, JOINT + i));
+            for (slice, i) in settings.chain(body).chain(joint) {
+                let line = set(slice, i, bits(bad));
+                let back = undo(&h.all, &line);
+                w.line(h, line);
+                w.line(h, Line::Call(Call::Load));
+                w.line(h, back);
+            }
+            for (warm, substep) in [(true, 0), (true, 1), (false, 0)] {
+                let call = Call::Build {
+                    warm,
+                    coefficient: bad,
+                    substep,
+                };
+                w.line(h, Line::Call(call));
+            }
+        }
+    });
+}
+
+/// The text, and what was met.
+fn made() -> Writer {
+    let g = &mut Generator::new(SEED);
+    let mut w = Writer {
+        text: String::new(),
+        lines: 0,
+        by_kind: [[0; 12]; 9],
+    };
+    w.tokens([STUDIES as u32]);
+    many(g, &mut w);
+    world_reads_zero(g, &mut w);
+    finite(g, &mut w);
+    for _ in 3..STUDIES {
+        let size = g.small();
+        let mut s = g.study_of(size);
+        s.rows = g.storage(total(&s));
+        g.leftovers(&mut s);
+        w.study(s, |w, h| any_list(g, w, h));
+    }
+    w
+}
+
+pub fn text() -> String {
+    made().text
+}
+
+pub fn answers() {
+    let w = made();
+    print!("{}", w.text);
+    eprintln!("{} lines, {} bytes", w.lines, w.text.len());
+    eprintln!("granted, then refused by 1 to 11:");
+    for (kind, by) in KINDS.iter().zip(&w.by_kind) {
+        eprintln!("  {kind:13} {by:?}");
+    }
+}
+
+/// Token after token; each is eight digits and one byte.
+struct Reader<'a>(&'a [u8]);
+
+impl Reader<'_> {
+    fn token(&mut self) -> u32 {
+        let (token, rest) = self.0.split_at(9);
+        self.0 = rest;
+        let digits = std::str::from_utf8(&token[..8]).unwrap();
+        u32::from_str_radix(digits, 16).unwrap()
+    }
+
+    fn words(&mut self, n: u32) -> Vec<u32> {
+        (0..n).map(|_| self.token()).collect()
+    }
+
+    fn numbers(&mut self, n: u32) -> Vec<f32> {
+        (0..n).map(|_| f32::from_bits(self.token())).collect()
+    }
+}
+
+/// Replays the text; how many lines agree, and what stands in the first that does not.
+pub fn replay(side: Side, text: &str) -> (u64, Option<String>) {
+    let mut r = Reader(text.as_bytes());
+    let mut agree = 0;
+    for study in 0..r.token() {
+        let [b, w, n, rows, lines] = [0; 5].map(|_| r.token());
+        let settings = [0; 3].map(|_| f32::from_bits(r.token()));
+        let mut h = Held::new(Study {
+            settings,
+            built: false,
+            bodies: r.numbers(b),
+            words: r.words(w),
+            numbers: r.numbers(n),
+            rows: r.numbers(rows),
+        });
+        for k in 0..lines {
+            let tokens = [0; 6].map(|_| r.token());
+            let [high, low, checksum] = [0; 3].map(|_| r.token());
+            let (code, sum) = h.run(side, &Line::from_tokens(tokens));
+            if (code, sum) != ((high as u64) << 32 | low as u64, checksum) {
+                let what = format!(
+                    "study {study}, line {k}: {tokens:X?} answers {code}, checksum {sum:08X}; \
+                     stored are {high:08X} {low:08X}, {checksum:08X}"
+                );
+                return (agree, Some(what));
+            }
+            agree += 1;
+        }
+    }
+    assert!(r.0.is_empty());
+    (agree, None)
+}

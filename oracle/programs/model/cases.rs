@@ -1,0 +1,515 @@
+//! Document 01's cases about the model, on every side that is there.
+
+use crate::library::{Side, same, same_study, sides};
+use crate::model::{Answer, BODY, Call, FINITE, GRANTED, JOINT, NUMBER, ROW, Study, WORDS, WORLD};
+use std::process::exit;
+
+const INF: f32 = f32::INFINITY;
+const COLD: Call = build(None, 0);
+
+const fn build(warm: Option<f32>, substep: u32) -> Call {
+    let (warm, coefficient) = match warm {
+        Some(coefficient) => (true, coefficient),
+        None => (false, 0.0),
+    };
+    Call::Build {
+        warm,
+        coefficient,
+        substep,
+    }
+}
+
+/// A body of mass and inertia 1 at (x, 0).
+fn body(x: f32) -> [f32; BODY] {
+    [1.0, 0.0, x, 0.0, 1.0, 1.0, 1.0, 0.0, 0.0, 0.0]
+}
+
+/// Identity frames, limits [−1, 1], motors of force 1, stored impulses 1 to 9.
+fn numbers() -> [f32; JOINT] {
+    let mut n = [0.0; JOINT];
+    for i in 0..3 {
+        n[8 + 3 * i..][..3].copy_from_slice(&[-1.0, 1.0, 1.0 + i as f32]);
+        n[17 + 6 * i..][..6].copy_from_slice(&[1.0, 0.0, 1.0, 1.0, 1.0, 4.0 + i as f32]);
+        n[37 + i] = 7.0 + i as f32;
+    }
+    n[0] = 1.0;
+    n[4] = 1.0;
+    n[35..37].copy_from_slice(&[1.0e6, 1.0]);
+    n[40] = 1.0;
+    n
+}
+
+/// Bodies in a line, two apart; joints with these ends and masks; storage of just the total.
+fn study(bodies: usize, joints: &[([u32; 2], [u32; 4])]) -> Study {
+    let mut s = Study {
+        settings: [1.0 / 64.0, 1.0, 3.0],
+        built: false,
+        bodies: (0..bodies).flat_map(|i| body(2.0 * i as f32)).collect(),
+        words: Vec::new(),
+        numbers: Vec::new(),
+        rows: Vec::new(),
+    };
+    for (ends, masks) in joints {
+        s.words.extend(ends);
+        s.words.extend(masks);
+        s.words.extend([0; 3]);
+        s.numbers.extend(numbers());
+    }
+    s.rows = vec![0.5; s.total() * ROW];
+    s
+}
+
+/// Two bodies, a joint between them and one to the world: 2 and 4 rows.
+fn leg() -> Study {
+    let mut s = study(2, &[([0, 1], [3, 0, 0, 0]), ([1, WORLD], [3, 4, 4, 0])]);
+    for (i, n) in s.bodies.chunks_exact_mut(BODY).enumerate() {
+        n[7..].copy_from_slice(&[1.0, 2.0 + i as f32, 3.0]);
+    }
+    s
+}
+
+struct Cases {
+    side: Side,
+    name: &'static str,
+    count: u32,
+}
+
+impl Cases {
+    fn expect(&mut self, what: &str, holds: bool) {
+        self.count += 1;
+        if !holds {
+            println!("{what}: not so by {}", self.name);
+            exit(1)
+        }
+    }
+
+    /// The call's answer on the study as it is; a refused call changes nothing.
+    fn code(&mut self, s: &Study, call: &Call) -> u64 {
+        let mut after = s.clone();
+        let answer = (self.side)(&mut after, call);
+        if !answer.granted() {
+            let blank = Answer::none(call);
+            let left = same_study(s, &after) && same(&blank.out, &answer.out);
+            self.expect(&format!("{call:?} refused changes nothing"), left);
+        }
+        answer.code
+    }
+
+    fn refused(&mut self, what: &str, s: &Study, call: &Call, rule: u64) {
+        let code = self.code(s, call);
+        self.expect(&format!("{what}: {call:?} refused by {rule}"), code == rule);
+    }
+
+    fn granted(&mut self, what: &str, s: &Study, call: &Call) {
+        let code = self.code(s, call);
+        let holds = code == 0 || code >= GRANTED;
+        self.expect(&format!("{what}: {call:?} granted"), holds);
+    }
+
+    /// A granted call.
+    fn done(&mut self, s: &mut Study, call: &Call) -> Answer {
+        let answer = (self.side)(s, call);
+        self.expect(&format!("{call:?} granted"), answer.granted());
+        answer
+    }
+
+    fn built(&mut self, mut s: Study) -> Study {
+        self.done(&mut s, &COLD);
+        s
+    }
+
+    /// Bounds and masks: rules 1 to 5, and what a slice holds.
+    fn counts(&mut self) {
+        let load = &Call::Load;
+        let empty = study(0, &[]);
+        self.granted("nothing at all", &empty, load);
+        let code = self.code(&empty, &COLD);
+        self.expect("no joint makes no row", code == GRANTED);
+
+        self.granted("128 bodies", &study(128, &[]), load);
+        self.refused("129 bodies", &study(129, &[]), load, 1);
+        let mut part = study(128, &[]);
+        part.bodies.extend([f32::NAN; 9]);
+        self.granted("128 bodies and nine numbers", &part, load);
+        self.refused("a part of a body", &part, &Call::ReadVelocity(128), 11);
+        part.words = vec![0, 128, 0, 0, 0, 0, 0, 0, 0];
+        part.numbers = numbers().to_vec();
+        self.refused("a joint to a part of a body", &part, load, 4);
+
+        let many = |n: usize| study(1, &vec![([0, WORLD], [1, 0, 0, 0]); n]);
+        self.granted("128 joints", &many(128), load);
+        let code = self.code(&many(128), &COLD);
+        self.expect("128 joints of one row", code == GRANTED + 128);
+        self.refused("129 joints", &many(129), load, 2);
+        let mut words = many(128);
+        words.words.extend([9; 2 * WORDS]);
+        self.granted("128 joints and words without numbers", &words, load);
+        let mut numbers = many(128);
+        numbers.numbers.extend([f32::NAN; 2 * JOINT]);
+        self.granted("128 joints and numbers without words", &numbers, load);
+
+        for mask in 0..4 {
+            let mut s = leg();
+            s.rows = vec![0.5; 12 * ROW];
+            s.words[WORDS + 2 + mask] = 7;
+            self.granted("mask 7", &s, load);
+            for bad in [8, 9, 256, 263, 1 << 31, u32::MAX] {
+                s.words[WORDS + 2 + mask] = bad;
+                self.refused(&format!("mask {bad}"), &s, load, 3);
+            }
+        }
+        for (ends, rule) in [
+            ([2, 0], 4),
+            ([0, 2], 4),
+            ([WORLD - 1, 0], 4),
+            ([2, 2], 4),
+            ([WORLD, WORLD], 5),
+            ([1, 1], 5),
+        ] {
+            let s = study(2, &[([0, 1], [0; 4]), (ends, [0; 4])]);
+            self.refused(&format!("a joint between {ends:?}"), &s, load, rule);
+        }
+        for ends in [[0, WORLD], [WORLD, 0], [0, 1], [1, 0]] {
+            let s = study(2, &[(ends, [0; 4])]);
+            self.granted(&format!("a joint between {ends:?}"), &s, load);
+        }
+        let s = study(0, &[([WORLD, WORLD], [0; 4])]);
+        self.refused("a joint of the world without bodies", &s, load, 5);
+    }
+
+    /// Rules 6 and 7.
+    fn finite(&mut self) {
+        let load = &Call::Load;
+        for bad in [f32::NAN, INF, -INF] {
+            let check = |cases: &mut Self, what: String, s: &Study, refused: bool| {
+                if refused {
+                    cases.refused(&what, s, load, 6)
+                } else {
+                    cases.granted(&what, s, load)
+                }
+            };
+            for i in 0..3 {
+                let mut s = leg();
+                s.settings[i] = bad;
+                check(self, format!("setting {i} is {bad}"), &s, true);
+            }
+            for i in 0..BODY {
+                let mut s = leg();
+                s.bodies[BODY + i] = bad;
+                check(self, format!("a body's number {i} is {bad}"), &s, i < 7);
+            }
+            for i in 0..JOINT {
+                let mut s = leg();
+                s.numbers[JOINT + i] = bad;
+                let refused = FINITE.contains(&i) || NUMBER.contains(&i) && bad.is_nan();
+                check(self, format!("a joint's number {i} is {bad}"), &s, refused);
+            }
+            for i in 0..4 {
+                let mut pose = [1.0, 0.0, 0.0, 0.0];
+                pose[i] = bad;
+                for body in [0, 2, WORLD] {
+                    self.refused("a new pose", &leg(), &Call::Place { body, pose }, 6);
+                }
+            }
+            self.refused("the coefficient", &leg(), &build(Some(bad), 0), 6);
+            self.refused("6 before 10", &leg(), &build(Some(bad), 1), 6);
+            let cold = Call::Build {
+                warm: false,
+                coefficient: bad,
+                substep: 3,
+            };
+            self.granted("no coefficient", &leg(), &cold);
+        }
+        for (dt, rule) in [
+            (0.0, 0),
+            (-0.0, 0),
+            (1.0e-45, 0),
+            (f32::MAX, 0),
+            (-1.0e-45, 7),
+            (-f32::MAX, 7),
+            (-INF, 6),
+        ] {
+            let mut s = leg();
+            s.settings[0] = dt;
+            for call in [
+                Call::Load,
+                COLD,
+                Call::ReadVelocity(0),
+                Call::Place {
+                    body: 0,
+                    pose: [1.0, 0.0, 0.0, 0.0],
+                },
+            ] {
+                if rule == 0 {
+                    self.granted(&format!("dt = {dt:?}"), &s, &call)
+                } else {
+                    self.refused(&format!("dt = {dt:?}"), &s, &call, rule)
+                }
+            }
+        }
+    }
+
+    /// Rules 8 to 11, and the mark.
+    fn calls(&mut self) {
+        let place = |body| Call::Place {
+            body,
+            pose: [0.0, 1.0, 3.0, 4.0],
+        };
+        let with_storage = [
+            Call::Load,
+            COLD,
+            Call::WarmStart,
+            Call::Sweep(1),
+            Call::RemoveBias,
+            Call::WriteBack,
+            Call::ReadRows(0),
+        ];
+        let built = self.built(leg());
+        for call in with_storage {
+            self.granted("storage of just the total", &built, &call);
+            for cut in [1, ROW, 6 * ROW] {
+                let mut s = built.clone();
+                s.rows.truncate(6 * ROW - cut);
+                self.refused(&format!("storage {cut} numbers short"), &s, &call, 8);
+                self.granted("no storage is handed over", &s, &place(0));
+                self.granted("no storage is handed over", &s, &Call::ReadVelocity(0));
+                self.refused("8 before 9", &s, &Call::Sweep(1001), 8);
+            }
+        }
+
+        for n in [1001, 1002, u32::MAX] {
+            self.refused("9", &built, &Call::Sweep(n), 9);
+            self.refused("9 before 10", &leg(), &Call::Sweep(n), 9);
+        }
+        let mut s = built.clone();
+        self.done(&mut s, &Call::Sweep(0));
+        self.expect("a sweep of 0 changes nothing", same_study(&s, &built));
+        for n in [2, 1000] {
+            let (mut at_once, mut singly) = (built.clone(), built.clone());
+            self.done(&mut at_once, &Call::Sweep(n));
+            for _ in 0..n {
+                self.done(&mut singly, &Call::Sweep(1));
+            }
+            self.expect("a sweep of n is n of 1", same_study(&at_once, &singly));
+            self.expect("a sweep moves", !same(&at_once.bodies, &built.bodies));
+        }
+
+        for call in &with_storage[2..] {
+            self.refused("not built", &leg(), call, 10);
+        }
+        self.refused("10 before 11", &leg(), &Call::ReadRows(2), 10);
+        for substep in [1, 2, u32::MAX] {
+            self.refused("not built", &leg(), &build(Some(1.0), substep), 10);
+            self.granted("built", &built, &build(Some(1.0), substep));
+            self.granted("cold", &leg(), &build(None, substep));
+        }
+        self.granted("warm in substep 0", &leg(), &build(Some(1.0), 0));
+        for body in [2, 3, WORLD, WORLD - 1] {
+            self.refused("absent", &leg(), &place(body), 11);
+            self.refused("absent", &leg(), &Call::ReadVelocity(body), 11);
+            self.refused("absent", &built, &Call::ReadRows(body), 11);
+        }
+
+        // The mark.
+        let mut s = built.clone();
+        self.done(&mut s, &place(1));
+        self.expect("place keeps the mark", s.built);
+        let moved = [0.0, 1.0, 3.0, 4.0, 1.0, 1.0, 1.0, 1.0, 3.0, 3.0];
+        let rest = same(&s.bodies[..BODY], &built.bodies[..BODY]) && same(&s.rows, &built.rows);
+        self.expect("place", same(&s.bodies[BODY..], &moved) && rest);
+        self.done(&mut s, &Call::Load);
+        self.expect("load clears the mark", !s.built);
+        self.done(&mut s, &place(1));
+        self.expect("place keeps the mark", !s.built);
+        let mut s = built.clone();
+        s.rows.clear();
+        for call in [Call::Load, COLD] {
+            (self.side)(&mut s, &call);
+            self.expect("a refused call keeps the mark", s.built);
+        }
+        let mut s = leg();
+        (self.side)(&mut s, &build(Some(1.0), 1));
+        self.expect("a refused call keeps the mark", !s.built);
+
+        // Every rule broken, 3 to 5 in joints 2, 1 and 0: the first in order is told, and the
+        // next when that is mended.
+        for call in [Call::Sweep(1001), Call::ReadRows(200)] {
+            let whole = study(3, &[([0, 1], [3, 0, 0, 0]); 3]);
+            let mut s = whole.clone();
+            s.bodies.resize(129 * BODY, 0.0);
+            s.words.resize(129 * WORDS, 0);
+            s.numbers.resize(129 * JOINT, 0.0);
+            s.words[2 * WORDS + 5] = 8;
+            s.words[WORDS] = 200;
+            s.words[1] = 0;
+            s.bodies[1] = f32::NAN;
+            s.settings[0] = -1.0;
+            s.rows.clear();
+            self.refused("all broken", &s, &call, 1);
+            s.bodies.truncate(3 * BODY);
+            self.refused("all but 1 broken", &s, &call, 2);
+            s.words.truncate(3 * WORDS);
+            self.refused("3 to 11 broken", &s, &call, 3);
+            s.words[2 * WORDS + 5] = 0;
+            self.refused("4 to 11 broken", &s, &call, 4);
+            s.words[WORDS] = 0;
+            self.refused("5 to 11 broken", &s, &call, 5);
+            s.words[1] = 1;
+            self.refused("6 to 11 broken", &s, &call, 6);
+            s.bodies[1] = 0.0;
+            self.refused("7 to 11 broken", &s, &call, 7);
+            s.settings[0] = 1.0;
+            self.refused("8 to 11 broken", &s, &call, 8);
+            s.rows = whole.rows;
+            if let Call::Sweep(_) = call {
+                self.refused("9 to 11 broken", &s, &call, 9);
+                self.refused("10 and 11 broken", &s, &Call::Sweep(1000), 10);
+            } else {
+                self.refused("10 and 11 broken", &s, &call, 10);
+            }
+            s.built = true;
+            self.refused("11 broken", &s, &Call::ReadRows(3), 11);
+            self.granted("nothing broken", &s, &Call::ReadRows(2));
+        }
+    }
+
+    /// What build, write-back and reads do.
+    fn rows(&mut self) {
+        let masks: [([u32; 4], &[u32]); 8] = [
+            ([3, 4, 4, 0], &[10, 0, 1, 6]),
+            ([0, 7, 7, 0], &[10, 8, 9, 6, 4, 5]),
+            ([0, 1, 0, 3], &[4]),
+            ([0, 2, 0, 3], &[]),
+            ([0, 0, 2, 3], &[8]),
+            ([0, 4, 4, 4], &[]),
+            ([1, 3, 3, 3], &[8, 0]),
+            ([7, 7, 7, 0], &[2, 0, 1]),
+        ];
+        // All of them one after the other, on three bodies and the world.
+        let joints: Vec<_> = (0..8)
+            .map(|j| {
+                let ends = [[0, 1], [1, 2], [WORLD, 0], [2, WORLD]][j % 4];
+                (ends, masks[j].0)
+            })
+            .collect();
+        let mut s = study(3, &joints);
+        s.rows.extend((0..40).map(|i| i as f32));
+        let past = s.rows[17 * ROW..].to_vec();
+        for (i, n) in s.bodies.chunks_exact_mut(BODY).enumerate() {
+            n[7..].copy_from_slice(&[i as f32, 1.0, -1.0]);
+        }
+        let answer = self.done(&mut s, &build(Some(0.5), 0));
+        self.expect("the total is the sum", answer.code == GRANTED + 17);
+
+        let stored = |id: u32| match (id / 4, (id % 4) as f32) {
+            (0, axis) => 7.0 + axis,
+            (1, axis) => 1.0 + axis,
+            (_, axis) => 4.0 + axis,
+        };
+        let mut first = 0;
+        for (j, (_, ids)) in masks.iter().enumerate() {
+            let answer = self.done(&mut s, &Call::ReadRows(j as u32));
+            let count = ids.len();
+            let told = answer.code == GRANTED + count as u64 && answer.ids[..count] == **ids;
+            self.expect(&format!("the ids of masks {:?}", masks[j].0), told);
+            let own = &s.rows[first * ROW..][..count * ROW];
+            self.expect("a joint's rows", same(&answer.out[..count * ROW], own));
+            let unwritten = answer.out[count * ROW..].iter().all(|x| *x == 12345.678)
+                && answer.ids[count..].iter().all(|x| *x == 0xDEAD_BEEF);
+            self.expect("what is past a joint's rows stays", unwritten);
+            let seeds = own.chunks(ROW).zip(*ids);
+            let half = seeds.clone().all(|(row, id)| row[0] == 0.5 * stored(*id));
+            self.expect("seeds times the coefficient", half);
+            first += count;
+        }
+
+        let before = s.clone();
+        self.done(&mut s, &build(Some(0.5), 1));
+        let halved = |a: &Study, b: &Study| {
+            let rows = a.rows.chunks(ROW).zip(b.rows.chunks(ROW)).take(17);
+            rows.clone().all(|(a, b)| b[0] == 0.5 * a[0])
+        };
+        self.expect("last impulses times the coefficient", halved(&before, &s));
+        self.done(&mut s, &Call::WarmStart);
+        self.done(&mut s, &Call::Sweep(3));
+        self.done(&mut s, &Call::RemoveBias);
+        let freed = s.rows.chunks(ROW).take(17).all(|row| row[10] == row[11]);
+        self.expect("bias removal", freed);
+        self.done(&mut s, &Call::Sweep(1));
+        let old = s.numbers.clone();
+        self.done(&mut s, &Call::WriteBack);
+        let mut wanted = old;
+        let mut k = 0;
+        for (j, (_, ids)) in masks.iter().enumerate() {
+            for id in *ids {
+                let at = match (id / 4, (id % 4) as usize) {
+                    (0, axis) => 37 + axis,
+                    (1, axis) => 10 + 3 * axis,
+                    (_, axis) => 22 + 6 * axis,
+                };
+                wanted[j * JOINT + at] = s.rows[k * ROW];
+                k += 1;
+            }
+        }
+        self.expect("write-back", same(&s.numbers, &wanted));
+        self.done(&mut s, &COLD);
+        let cold = s.rows.chunks(ROW).take(17).all(|row| row[0].to_bits() == 0);
+        self.expect("no coefficient, no impulse", cold);
+        self.expect("storage past the total", same(&s.rows[17 * ROW..], &past));
+        for i in 0..3 {
+            let answer = self.done(&mut s, &Call::ReadVelocity(i));
+            let own = &s.bodies[i as usize * BODY + 7..][..3];
+            self.expect("a velocity", same(&answer.out, own));
+        }
+
+        // Limits equal to the distance.
+        let mut s = study(2, &[([0, 1], [0, 1, 0, 0])]);
+        for (ends, bounds) in [
+            ([2.0, 2.0], [-INF, INF]),
+            ([1.0, 3.0], [0.0, 0.0]),
+            ([2.0, 3.0], [-INF, 0.0]),
+            ([1.0, 2.0], [0.0, INF]),
+        ] {
+            s.numbers[8..10].copy_from_slice(&ends);
+            self.done(&mut s, &COLD);
+            let answer = self.done(&mut s, &Call::ReadRows(0));
+            let told = same(&answer.out[1..3], &bounds);
+            self.expect(&format!("limits {ends:?} at distance 2"), told);
+        }
+
+        // A warm start runs at impulse zero as well: −0 becomes +0.
+        let mut s = study(2, &[([0, 1], [1, 0, 0, 0])]);
+        s.bodies[7] = -0.0;
+        self.done(&mut s, &COLD);
+        self.done(&mut s, &Call::WarmStart);
+        self.expect("a warm start at impulse zero", s.bodies[7].to_bits() == 0);
+
+        // The world's velocity reads zero at each row, whatever the row before gave it: row 0
+        // pushes the world alone, row 1 looks at the velocity between.
+        let mut s = study(1, &[([0, WORLD], [3, 0, 0, 0])]);
+        self.done(&mut s, &COLD);
+        s.rows.fill(0.0);
+        s.rows[1..4].copy_from_slice(&[1.0, 1.0, 1.0]);
+        s.rows[16] = 1.0;
+        s.rows[ROW + 1..ROW + 4].copy_from_slice(&[-10.0, 10.0, 1.0]);
+        s.rows[ROW + 9] = 1.0;
+        s.bodies[7] = 1.0;
+        self.done(&mut s, &Call::Sweep(1));
+        self.expect("the world's velocity reads zero", s.rows[ROW] == -1.0);
+    }
+}
+
+pub fn cases() {
+    for (name, side) in sides() {
+        let mut cases = Cases {
+            side,
+            name,
+            count: 0,
+        };
+        cases.counts();
+        cases.finite();
+        cases.calls();
+        cases.rows();
+        println!("{} cases by {name}", cases.count);
+    }
+}

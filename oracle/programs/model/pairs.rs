@@ -1,0 +1,444 @@
+//! Two studies side by side: they agree on a closed set of bodies and differ in all else that
+//! document 01 allows; the same list of calls goes through both, and what they share is compared
+//! after each call.
+
+use crate::generator::{Generator, STORED, total};
+use crate::library::{ORACLE, RENDERING, Side, same};
+use crate::model::{Answer, BODY, Call, FINITE, JOINT, KINDS, ROW, Study, WORDS, WORLD, refusal};
+use crate::run::show_study;
+use std::process::exit;
+
+/// What the pairs have met.
+#[derive(Default)]
+struct Tally {
+    pairs: u64,
+    calls: u64,
+    granted: [u64; 9],
+    refused: [u64; 9],
+    /// Sets: empty, of some bodies, of all in both studies.
+    sets: [u64; 3],
+    /// Pairs that differ in their numbers of bodies or joints.
+    other_counts: u64,
+    /// Pairs whose list has no granted build, so that nothing is named.
+    nameless: u64,
+    /// Rows of the set's joints compared, and those at different places in the two storages.
+    rows: u64,
+    moved_rows: u64,
+    /// Numbers of the set's joints that nothing names and that were drawn anew.
+    unnamed: u64,
+    swaps: u64,
+}
+
+struct Pair {
+    studies: [Study; 2],
+    /// Whether body i is in the set.
+    set: Vec<bool>,
+    /// Whether joint j is the set's.
+    own: Vec<bool>,
+    /// The places in the set's joints' numbers that must be equal throughout.
+    shared: Vec<[bool; JOINT]>,
+    list: Vec<Call>,
+    /// The larger of the totals.
+    room: usize,
+}
+
+/// A shared thing that differs.
+struct Difference {
+    what: String,
+    at: usize,
+    before: [Study; 2],
+    after: [Study; 2],
+}
+
+/// Each body's component, named by one of its bodies. A joint ties its two bodies, the world
+/// nothing.
+fn components(s: &Study) -> Vec<usize> {
+    let mut of: Vec<usize> = (0..s.body_count()).collect();
+    for j in 0..s.joint_count() {
+        let [one, two] = [s.joint(j)[0], s.joint(j)[1]];
+        if one != WORLD && two != WORLD {
+            let (from, to) = (of[one as usize], of[two as usize]);
+            for c in &mut of {
+                if *c == from {
+                    *c = to;
+                }
+            }
+        }
+    }
+    of
+}
+
+/// Whether each body of joint j is in the set or the world.
+fn is_own(s: &Study, j: usize, set: &[bool]) -> bool {
+    let inside = |b: u32| b == WORLD || set.get(b as usize) == Some(&true);
+    inside(s.joint(j)[0]) && inside(s.joint(j)[1])
+}
+
+impl Pair {
+    fn new(g: &mut Generator, t: &mut Tally) -> Pair {
+        let mut one = loop {
+            let size = g.small();
+            let s = if g.d.one_in(8) {
+                g.study_of(size)
+            } else {
+                g.parted(size)
+            };
+            if refusal(&with_room(&s), &Call::Load) == 0 {
+                break s;
+            }
+        };
+        let of = components(&one);
+        // Some components; the one of a body drawn is among them, but for one set in 16.
+        let chosen: Vec<bool> = of.iter().map(|_| g.d.one_in(3)).collect();
+        let sure = g.d.below(of.len() as u64) as usize;
+        let sure = (!g.d.one_in(16)).then_some(of[sure]);
+        let set: Vec<bool> = of.iter().map(|c| sure == Some(*c) || chosen[*c]).collect();
+        let own: Vec<bool> = (0..one.joint_count())
+            .map(|j| is_own(&one, j, &set))
+            .collect();
+        let mut two = other_study(g, &one, &set, &own);
+        let room = total(&one).max(total(&two));
+
+        let list = draw_list(g, &one, room);
+        let mut trial = one.clone();
+        trial.rows = vec![0.0; room * ROW];
+        let mut made = false;
+        for call in &list {
+            let answer = ORACLE(&mut trial, call);
+            made |= matches!(call, Call::Build { .. }) && answer.granted();
+        }
+        let mut shared = Vec::new();
+        for (j, own) in own.iter().enumerate() {
+            let mut equal = [true; JOINT];
+            if *own {
+                let ids = if made { one.ids(j) } else { Vec::new() };
+                t.unnamed += redraw_unnamed(g, &mut two, j, &ids, &mut equal);
+            }
+            shared.push(equal);
+        }
+
+        // All NaNs are one.
+        for (x, y) in two.bodies.iter_mut().zip(&one.bodies) {
+            if x.is_nan() && y.is_nan() {
+                *x = f32::from_bits(0xFFC0_0001);
+            }
+        }
+        for s in [&mut one, &mut two] {
+            s.rows = storage(g, room);
+            g.leftovers(s);
+            assert!(refusal(s, &Call::Load) == 0);
+        }
+        for j in 0..two.joint_count() {
+            let own = own.get(j) == Some(&true);
+            assert!(is_own(&two, j, &set) == own);
+        }
+
+        t.pairs += 1;
+        t.nameless += !made as u64;
+        let inside = set.iter().filter(|b| **b).count();
+        let whole = one.body_count().max(two.body_count());
+        t.sets[(inside > 0) as usize + (inside > 0 && inside == whole) as usize] += 1;
+        t.other_counts +=
+            (one.body_count() != two.body_count() || one.joint_count() != two.joint_count()) as u64;
+        Pair {
+            studies: [one, two],
+            set,
+            own,
+            shared,
+            list,
+            room,
+        }
+    }
+
+    /// Whether what a call answers is about the set.
+    fn is_about(&self, call: &Call) -> bool {
+        match call {
+            Call::Place { body, .. } | Call::ReadVelocity(body) => {
+                self.set.get(*body as usize) == Some(&true)
+            }
+            Call::ReadRows(joint) => self.own.get(*joint as usize) == Some(&true),
+            _ => false,
+        }
+    }
+
+    /// The first shared thing in which the answers or the studies differ.
+    fn differs(
+        &self,
+        call: &Call,
+        now: &[Study; 2],
+        answers: &[Answer; 2],
+        made: bool,
+        t: &mut Tally,
+    ) -> Option<String> {
+        let [one, two] = now;
+        let [a, b] = answers;
+        if a.outside || b.outside {
+            return Some("something outside the lent storage".into());
+        }
+        if one.built != two.built {
+            return Some("the mark".into());
+        }
+        if self.is_about(call) {
+            if a.code != b.code || a.ids != b.ids || !same(&a.out, &b.out) {
+                return Some("the answer about the set".into());
+            }
+        } else {
+            // An index past the smaller count may be absent in one study alone.
+            let count = |s: &Study| match call {
+                Call::ReadRows(_) => s.joint_count(),
+                _ => s.body_count(),
+            };
+            let index = match call {
+                Call::Place { body: i, .. } | Call::ReadVelocity(i) | Call::ReadRows(i) => {
+                    Some(*i as usize)
+                }
+                _ => None,
+            };
+            let present = |s: &Study| index.is_none_or(|i| i < count(s));
+            let refused = |x: &Answer| if x.granted() { 0 } else { x.code };
+            if present(one) == present(two) && refused(a) != refused(b) {
+                return Some("the refusal".into());
+            }
+        }
+        for (i, inside) in self.set.iter().enumerate() {
+            let of = |s: &Study| s.bodies[i * BODY..][..BODY].to_vec();
+            if *inside && !same(&of(one), &of(two)) {
+                return Some(format!("body {i}"));
+            }
+        }
+        for (j, own) in self.own.iter().enumerate() {
+            if !*own {
+                continue;
+            }
+            for k in 0..JOINT {
+                let of = |s: &Study| [s.numbers[j * JOINT + k]];
+                if self.shared[j][k] && !same(&of(one), &of(two)) {
+                    return Some(format!("number {k} of joint {j}"));
+                }
+            }
+            if one.built && made {
+                let ids = one.ids(j);
+                let (first, second) = (one.first_row(j), two.first_row(j));
+                let of =
+                    |s: &Study, first: usize| s.rows[first * ROW..][..ids.len() * ROW].to_vec();
+                if !same(&of(one, first), &of(two, second)) {
+                    return Some(format!("the rows of joint {j}"));
+                }
+                t.rows += ids.len() as u64;
+                t.moved_rows += (first != second) as u64 * ids.len() as u64;
+            }
+        }
+        None
+    }
+
+    /// The list through both studies.
+    fn run(&self, g: &mut Generator, side: Side, t: &mut Tally) -> Option<Box<Difference>> {
+        let mut now = self.studies.clone();
+        let mut made = false;
+        for (at, call) in self.list.iter().enumerate() {
+            for s in &mut now {
+                // A model that is not built may get any storage.
+                if !s.built && g.d.one_in(3) {
+                    s.rows = storage(g, self.room);
+                    t.swaps += 1;
+                }
+            }
+            let before = now.clone();
+            let [one, two] = &mut now;
+            let answers = [side(one, call), side(two, call)];
+            t.calls += 1;
+            let granted = answers[0].granted();
+            made |= granted && matches!(call, Call::Build { .. });
+            let by = if granted {
+                &mut t.granted
+            } else {
+                &mut t.refused
+            };
+            by[call.kind()] += 1;
+            if let Some(what) = self.differs(call, &now, &answers, made, t) {
+                return Some(Box::new(Difference {
+                    what,
+                    at,
+                    before,
+                    after: now,
+                }));
+            }
+        }
+        None
+    }
+}
+
+/// The study with storage for its rows.
+fn with_room(s: &Study) -> Study {
+    let mut s = s.clone();
+    s.rows = vec![0.0; total(&s) * ROW];
+    s
+}
+
+/// Storage for `room` rows or some more.
+fn storage(g: &mut Generator, room: usize) -> Vec<f32> {
+    let more = g.d.below(3) as usize;
+    g.storage(room + more)
+}
+
+/// A study with the set's bodies and joints as they stand, and all else drawn anew.
+fn other_study(g: &mut Generator, one: &Study, set: &[bool], own: &[bool]) -> Study {
+    let last = |of: &[bool]| of.iter().rposition(|x| *x).map_or(0, |i| i + 1);
+    let (mut bodies, mut joints) = (one.body_count(), one.joint_count());
+    if g.d.one_in(4) {
+        bodies = last(set) + g.d.below(4) as usize;
+        joints = last(own) + g.d.below(4) as usize;
+    }
+    let outside = |bodies: usize| {
+        let far = |i: &usize| set.get(*i) != Some(&true);
+        (0..bodies)
+            .filter(far)
+            .map(|i| i as u32)
+            .collect::<Vec<_>>()
+    };
+    // Joints that are not the set's need a body outside it.
+    let strangers = (0..joints).any(|j| own.get(j) != Some(&true));
+    if strangers && outside(bodies).is_empty() {
+        bodies += 1;
+    }
+    let outside = outside(bodies);
+
+    let mut two = one.clone();
+    two.bodies.clear();
+    two.words.clear();
+    two.numbers.clear();
+    for i in 0..bodies {
+        if set.get(i) == Some(&true) {
+            two.bodies.extend(&one.bodies[i * BODY..][..BODY]);
+        } else {
+            let body = g.body(false);
+            two.bodies.extend(body);
+        }
+    }
+    for j in 0..joints {
+        if own.get(j) == Some(&true) {
+            two.words.extend(&one.words[j * WORDS..][..WORDS]);
+            two.numbers.extend(&one.numbers[j * JOINT..][..JOINT]);
+        } else {
+            let mut ends = [g.d.pick(&outside), g.d.pick(&outside)];
+            if ends[0] == ends[1] {
+                ends[g.d.below(2) as usize] = WORLD;
+            }
+            let (words, numbers) = g.joint(&two, ends, false);
+            two.words.extend(words);
+            two.numbers.extend(numbers);
+        }
+    }
+    g.mend(&mut two);
+    two
+}
+
+/// Calls as they may come; each is drawn for the study as the calls before it left it.
+fn draw_list(g: &mut Generator, one: &Study, room: usize) -> Vec<Call> {
+    let mut s = one.clone();
+    s.rows = vec![0.0; room * ROW];
+    let builds = !g.d.one_in(8);
+    let mut list = Vec::new();
+    for _ in 0..4 + g.d.below(28) {
+        let call = g.call(&s);
+        if matches!(call, Call::Build { .. }) && !builds {
+            continue;
+        }
+        ORACLE(&mut s, &call);
+        list.push(call);
+    }
+    list
+}
+
+/// Draws anew what joint j does not name, and takes it off `equal`. Returns how many numbers.
+fn redraw_unnamed(
+    g: &mut Generator,
+    s: &mut Study,
+    j: usize,
+    ids: &[u32],
+    equal: &mut [bool; JOINT],
+) -> u64 {
+    let mut places = Vec::new();
+    for axis in 0..3 {
+        if !ids.contains(&(axis as u32)) {
+            places.push(37 + axis);
+        }
+        if !ids.contains(&(4 + axis as u32)) {
+            places.extend(8 + 3 * axis..11 + 3 * axis);
+            if axis == 2 {
+                places.extend([40, 41]);
+            }
+        }
+        if !ids.contains(&(8 + axis as u32)) {
+            places.extend(17 + 6 * axis..23 + 6 * axis);
+            s.words[j * WORDS + 6 + axis] = g.d.word() as u32;
+        }
+    }
+    for place in &places {
+        let any = g.d.number();
+        let x = if FINITE.contains(place) {
+            g.d.finite()
+        } else if STORED.contains(place) || !any.is_nan() {
+            any
+        } else {
+            f32::NEG_INFINITY
+        };
+        s.numbers[j * JOINT + place] = x;
+        equal[*place] = false;
+    }
+    places.len() as u64
+}
+
+/// Runs up to `count` pairs; what stopped them.
+fn run(side: Side, seed: u64, count: u64, t: &mut Tally) -> Option<(Pair, Box<Difference>)> {
+    let g = &mut Generator::new(seed);
+    while t.pairs < count {
+        let pair = Pair::new(g, t);
+        if let Some(difference) = pair.run(g, side, t) {
+            return Some((pair, difference));
+        }
+    }
+    None
+}
+
+pub fn pairs(side: Side, by: &str, seed: u64, count: u64) {
+    let t = &mut Tally::default();
+    if let Some((pair, d)) = run(side, seed, count, t) {
+        println!(
+            "pair {} by {by}: {} differs after {:?}",
+            t.pairs, d.what, pair.list[d.at]
+        );
+        println!("set {:?}, its joints {:?}", pair.set, pair.own);
+        println!("calls before: {:?}", &pair.list[..d.at]);
+        let names = ["first study", "second study"];
+        for (when, studies) in [("before", &d.before), ("after", &d.after)] {
+            for (name, s) in names.iter().zip(studies) {
+                println!("{name}, {when} the call:");
+                show_study(s);
+            }
+        }
+        exit(1)
+    }
+    println!(
+        "{} pairs by {by}, {} calls, no difference, seed {seed}",
+        t.pairs, t.calls
+    );
+    let [empty, some, all] = t.sets;
+    println!(
+        "sets: {empty} empty, {some} of some bodies, {all} of all; {} pairs with other counts; {} lists that name nothing",
+        t.other_counts, t.nameless
+    );
+    println!(
+        "{} rows of sets compared, {} of them at other places; {} unnamed numbers drawn anew; {} storages swapped",
+        t.rows, t.moved_rows, t.unnamed, t.swaps
+    );
+    for (kind, (granted, refused)) in KINDS.iter().zip(t.granted.iter().zip(t.refused)) {
+        println!("  {kind:13} {granted} granted, {refused} refused");
+    }
+}
+
+/// How many pairs it takes to see the fault that the second rendering carries.
+pub fn seen(seed: u64, count: u64) -> Option<u64> {
+    let t = &mut Tally::default();
+    run(RENDERING, seed, count, t).map(|_| t.pairs)
+}

@@ -1,0 +1,291 @@
+//! Runs lists of calls on both sides and compares after each call.
+
+use crate::answers;
+use crate::bits::{bits, hex};
+use crate::generator::Generator;
+use crate::library::{ORACLE, RENDERING, Side, same_answer, same_study};
+use crate::model::{Answer, Call, KINDS, ROW, Study, refusal};
+use crate::model_rendering;
+use crate::pairs;
+use std::process::exit;
+
+/// What the lists have met.
+struct Tally {
+    studies: u64,
+    calls: u64,
+    alterations: u64,
+    /// By kind of call: granted, then refused by rule.
+    by_kind: [[u64; 12]; 9],
+    /// Mask choices of joints that were built.
+    choices: Vec<bool>,
+    rows: u64,
+    rows_with_nan: u64,
+    /// Sweeps of one round or more, and those that left a NaN in a velocity.
+    sweeps: u64,
+    sweeps_with_nan: u64,
+    largest: [usize; 3],
+}
+
+/// A call on which the sides differ: what was handed over, and what each side answered and left.
+pub struct Difference {
+    pub before: Study,
+    pub call: Call,
+    pub sides: [(Study, Answer); 2],
+}
+
+struct Run {
+    other: Side,
+    tally: Tally,
+    /// Calls to make in all.
+    limit: u64,
+}
+
+type Outcome<T> = Result<T, Box<Difference>>;
+
+impl Run {
+    fn new(other: Side, limit: u64) -> Run {
+        Run {
+            other,
+            tally: Tally {
+                studies: 0,
+                calls: 0,
+                alterations: 0,
+                by_kind: [[0; 12]; 9],
+                choices: vec![false; 4096],
+                rows: 0,
+                rows_with_nan: 0,
+                sweeps: 0,
+                sweeps_with_nan: 0,
+                largest: [0; 3],
+            },
+            limit,
+        }
+    }
+
+    /// Makes the call on both sides; the study goes on as it was left, where they agree.
+    fn both(&mut self, s: &mut Study, call: &Call) -> Outcome<()> {
+        let (mut here, mut there) = (s.clone(), s.clone());
+        let answer = ORACLE(&mut here, call);
+        let other = (self.other)(&mut there, call);
+        self.tally.calls += 1;
+        if !same_answer(&answer, &other) || !same_study(&here, &there) {
+            return Err(Box::new(Difference {
+                before: s.clone(),
+                call: *call,
+                sides: [(here, answer), (there, other)],
+            }));
+        }
+        self.count(&here, call, &answer);
+        *s = here;
+        Ok(())
+    }
+
+    fn count(&mut self, s: &Study, call: &Call, answer: &Answer) {
+        let t = &mut self.tally;
+        let granted = answer.granted();
+        let column = if granted { 0 } else { answer.code as usize };
+        t.by_kind[call.kind()][column] += 1;
+        if !granted {
+            return;
+        }
+        match call {
+            Call::Build { .. } => {
+                let total = s.total();
+                let rows = s.rows.chunks(ROW).take(total);
+                t.rows += total as u64;
+                t.rows_with_nan += rows.filter(|r| r.iter().any(|x| x.is_nan())).count() as u64;
+                for j in 0..s.joint_count() {
+                    let w = s.joint(j);
+                    t.choices[(w[2] << 9 | w[3] << 6 | w[4] << 3 | w[5]) as usize] = true;
+                }
+                for (most, now) in
+                    t.largest
+                        .iter_mut()
+                        .zip([s.body_count(), s.joint_count(), total])
+                {
+                    *most = now.max(*most);
+                }
+            }
+            Call::Sweep(n) if *n > 0 => {
+                t.sweeps += 1;
+                t.sweeps_with_nan +=
+                    s.bodies
+                        .chunks_exact(10)
+                        .any(|n| n[7..].iter().any(|x| x.is_nan())) as u64;
+            }
+            _ => {}
+        }
+    }
+
+    /// One study and its list of calls.
+    fn list(&mut self, g: &mut Generator) -> Outcome<()> {
+        let mut s = g.study();
+        self.tally.studies += 1;
+        if !g.d.one_in(8) {
+            self.both(&mut s, &Call::Load)?;
+        }
+        let mut sound = s.clone();
+        for _ in 0..4 + g.d.below(36) {
+            if refusal(&s, &Call::Load) == 0 {
+                sound.clone_from(&s);
+            } else if g.d.one_in(3) {
+                s.clone_from(&sound);
+            }
+            if g.d.one_in(6) {
+                g.alter(&mut s);
+                self.tally.alterations += 1;
+            }
+            if g.d.one_in(5) {
+                // Broken for a while, then as it was.
+                let mut broken = s.clone();
+                for _ in 0..1 + g.d.below(2) {
+                    let mut call = g.call(&broken);
+                    g.break_some(&mut broken, &mut call);
+                    self.both(&mut broken, &call)?;
+                }
+                if g.d.one_in(16) {
+                    s = broken;
+                }
+            }
+            let call = g.call(&s);
+            self.both(&mut s, &call)?;
+            if self.tally.calls >= self.limit {
+                break;
+            }
+        }
+        Ok(())
+    }
+
+    /// Lists until `limit` calls are made or the sides differ.
+    fn lists(&mut self, seed: u64) -> Option<Box<Difference>> {
+        let g = &mut Generator::new(seed);
+        while self.tally.calls < self.limit {
+            if let Err(difference) = self.list(g) {
+                return Some(difference);
+            }
+        }
+        None
+    }
+}
+
+fn places(of: &str, here: &[f32], there: &[f32]) {
+    for (i, (a, b)) in here.iter().zip(there).enumerate() {
+        if bits(*a) != bits(*b) {
+            println!("  {of}[{i}]: {} here, {} there", hex(&[*a]), hex(&[*b]));
+        }
+    }
+    if here.len() != there.len() {
+        println!("  {of}: {} numbers here, {} there", here.len(), there.len());
+    }
+}
+
+pub fn show_study(s: &Study) {
+    println!("  settings {}, built {}", hex(&s.settings), s.built);
+    for n in s.bodies.chunks(10) {
+        println!("  body {}", hex(n));
+    }
+    for (j, w) in s.words.chunks(9).enumerate() {
+        println!("  words {j} {w:?}");
+    }
+    for (j, n) in s.numbers.chunks(42).enumerate() {
+        println!("  numbers {j} {}", hex(n));
+    }
+    for n in s.rows.chunks(ROW) {
+        println!("  row {}", hex(n));
+    }
+}
+
+pub fn show(difference: &Difference) {
+    let Difference {
+        before,
+        call,
+        sides: [(here, answer), (there, other)],
+    } = difference;
+    println!("{call:?} differs. Handed over:");
+    show_study(before);
+    for (side, answer) in [("here", answer), ("there", other)] {
+        println!("{side}: answer {}", answer.code);
+        if answer.outside {
+            println!("  wrote outside the lent storage");
+        }
+    }
+    if answer.ids != other.ids {
+        println!("  ids {:?} here, {:?} there", answer.ids, other.ids);
+    }
+    if here.built != there.built {
+        println!("  built {} here, {} there", here.built, there.built);
+    }
+    if here.words != there.words {
+        println!("  words {:?} here, {:?} there", here.words, there.words);
+    }
+    places("out", &answer.out, &other.out);
+    places("settings", &here.settings, &there.settings);
+    places("bodies", &here.bodies, &there.bodies);
+    places("numbers", &here.numbers, &there.numbers);
+    places("rows", &here.rows, &there.rows);
+}
+
+fn share(part: u64, whole: u64) -> f64 {
+    100.0 * part as f64 / whole.max(1) as f64
+}
+
+pub fn compare(other: Side, seed: u64, calls: u64) {
+    let mut run = Run::new(other, calls);
+    let difference = run.lists(seed);
+    let t = &run.tally;
+    if let Some(difference) = difference {
+        println!("study {}, call {} of all:", t.studies, t.calls);
+        show(&difference);
+        exit(1)
+    }
+    println!(
+        "{} calls on {} studies, {} alterations, no difference, seed {seed}",
+        t.calls, t.studies, t.alterations
+    );
+    println!("granted, then refused by 1 to 11:");
+    for (kind, by) in KINDS.iter().zip(&t.by_kind) {
+        println!("  {kind:13} {by:?}");
+    }
+    let covered = t.choices.iter().filter(|c| **c).count();
+    let [bodies, joints, rows] = t.largest;
+    println!(
+        "{covered} of 4096 mask choices built; at most {bodies} bodies, {joints} joints, {rows} rows"
+    );
+    println!(
+        "{} rows built, with a NaN {:.1} %; {} sweeps, with a NaN in a velocity {:.1} %",
+        t.rows,
+        share(t.rows_with_nan, t.rows),
+        t.sweeps,
+        share(t.sweeps_with_nan, t.sweeps)
+    );
+}
+
+/// Each fault's number of calls until a difference, of pairs, and of lines in the stored answers.
+pub fn faults(seed: u64, calls: u64, pairs: u64) {
+    println!("| fault | calls | seen in | pairs | answers |\n|---|---|---|---|---|");
+    let text = answers::text();
+    let mut unseen = 0;
+    for (i, what) in model_rendering::FAULTS.iter().enumerate() {
+        model_rendering::carry(i as u32 + 1);
+        let mut run = Run::new(RENDERING, calls);
+        let difference = run.lists(seed);
+        let (number, seen) = match &difference {
+            Some(d) => (run.tally.calls.to_string(), KINDS[d.call.kind()]),
+            None => (format!("none in {}", run.tally.calls), ""),
+        };
+        unseen += difference.is_none() as u32;
+        let pairs = pairs::seen(seed, pairs).map_or(String::new(), |n| n.to_string());
+        let stored = match answers::replay(RENDERING, &text) {
+            (agree, Some(_)) => (agree + 1).to_string(),
+            _ => String::new(),
+        };
+        println!(
+            "| {}: {what} | {number} | {seen} | {pairs} | {stored} |",
+            i + 1
+        );
+    }
+    println!(
+        "\n{} faults, {unseen} not seen",
+        model_rendering::FAULTS.len()
+    );
+}

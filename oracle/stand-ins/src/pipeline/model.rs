@@ -1,0 +1,141 @@
+//! Several joints: their builders over one row storage, and the Rust's own rows on many bodies.
+//! Slices hold whole records, and the storage all rows; nothing here refuses.
+
+use super::records::{self, JOINT, JOINT_WORDS, ROW, VEL};
+use super::rows::generated;
+use crate::alloc_prelude::*;
+use crate::dynamics::JointGraphEdge;
+use crate::dynamics::solver::joint_constraint::{JointConstraint, tried};
+use crate::dynamics::solver::solver_body::SolverBodies;
+use crate::math::Real;
+
+/// A body's numbers as in `records`, then its velocity.
+pub const BODY: usize = records::BODY + VEL;
+/// The numbers of a joint's two bodies, u32::MAX for the world, then its words as in `records`.
+pub const WORDS: usize = 2 + JOINT_WORDS;
+
+fn solver_bodies(bodies: &[Real]) -> SolverBodies {
+    let mut all = SolverBodies::default();
+    all.resize(bodies.len() / BODY);
+    for (i, n) in bodies.chunks_exact(BODY).enumerate() {
+        all.poses[i] = records::body(n);
+        all.vels[i] = records::vel(&n[records::BODY..]);
+    }
+    all
+}
+
+fn put_vels(all: &SolverBodies, bodies: &mut [Real]) {
+    for (vel, n) in all.vels.iter().zip(bodies.chunks_exact_mut(BODY)) {
+        records::put_vel(vel, &mut n[records::BODY..]);
+    }
+}
+
+fn edges(words: &[u32], numbers: &[Real]) -> Vec<JointGraphEdge> {
+    let joints = words.chunks_exact(WORDS).zip(numbers.chunks_exact(JOINT));
+    joints
+        .map(|(w, n)| records::joint(&w[2..], n, [w[0], w[1]]))
+        .collect()
+}
+
+/// The ids that `update` gives a joint's rows, 4·kind + axis each.
+pub fn row_ids(words: &[u32]) -> Vec<u32> {
+    let (rows, count) = tried(
+        &records::joint(&words[2..], &[0.0; JOINT], [0, 1])
+            .weight
+            .data,
+    );
+    let made = rows[..count].iter();
+    made.map(|row| records::id_word(row.writeback_id)).collect()
+}
+
+/// The stored rows; their bodies, joints and ids come from the joints.
+fn stored(words: &[u32], rows: &[Real]) -> Vec<JointConstraint<Real, 1>> {
+    let mut at = rows.chunks_exact(ROW);
+    let mut all = Vec::new();
+    for (j, w) in words.chunks_exact(WORDS).enumerate() {
+        for id in row_ids(w) {
+            let mut row = records::row(at.next().unwrap());
+            row.solver_vel1 = [w[0]];
+            row.solver_vel2 = [w[1]];
+            row.joint_id = [j];
+            row.writeback_id = records::id(id);
+            all.push(row);
+        }
+    }
+    all
+}
+
+fn put_rows(all: &[JointConstraint<Real, 1>], rows: &mut [Real]) {
+    for (row, n) in all.iter().zip(rows.chunks_exact_mut(ROW)) {
+        records::put_row(row, n);
+    }
+}
+
+/// `generate` for each joint, then `update_warmstart_seeds` and `update`. Returns the place past
+/// the last joint's rows.
+pub fn build(
+    settings: &[Real],
+    bodies: &[Real],
+    words: &[u32],
+    numbers: &[Real],
+    rows: &mut [Real],
+    warmstart: Option<Real>,
+    substep: u32,
+) -> usize {
+    let solver_bodies = solver_bodies(bodies);
+    let joints_all = edges(words, numbers);
+    let mut out: Vec<_> = rows.chunks_exact(ROW).map(records::row).collect();
+    let mut next_row = 0;
+    let joints = words.chunks_exact(WORDS).zip(numbers.chunks_exact(JOINT));
+    for (j, (w, n)) in joints.enumerate() {
+        let mut builder = generated(&w[2..], n, [w[0], w[1]], j, &mut next_row);
+        builder.update_warmstart_seeds(&joints_all);
+        builder.update(
+            &records::settings(settings),
+            substep as usize,
+            warmstart,
+            &solver_bodies,
+            &mut out,
+        );
+    }
+    put_rows(&out, rows);
+    next_row
+}
+
+pub fn warmstart(bodies: &mut [Real], words: &[u32], rows: &[Real]) {
+    let mut all = solver_bodies(bodies);
+    for row in &mut stored(words, rows) {
+        row.warmstart(&mut all);
+    }
+    put_vels(&all, bodies);
+}
+
+pub fn solve(bodies: &mut [Real], words: &[u32], rows: &mut [Real], rounds: u32) {
+    let mut all = solver_bodies(bodies);
+    let mut own = stored(words, rows);
+    for _ in 0..rounds {
+        for row in &mut own {
+            row.solve(&mut all);
+        }
+    }
+    put_rows(&own, rows);
+    put_vels(&all, bodies);
+}
+
+pub fn remove_bias(words: &[u32], rows: &mut [Real]) {
+    let mut own = stored(words, rows);
+    for row in &mut own {
+        row.remove_bias_from_rhs();
+    }
+    put_rows(&own, rows);
+}
+
+pub fn writeback(words: &[u32], numbers: &mut [Real], rows: &[Real]) {
+    let mut joints_all = edges(words, numbers);
+    for row in stored(words, rows) {
+        row.writeback_impulses(&mut joints_all);
+    }
+    for (edge, n) in joints_all.iter().zip(numbers.chunks_exact_mut(JOINT)) {
+        records::put_impulses(edge, n);
+    }
+}
