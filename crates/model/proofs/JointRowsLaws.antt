@@ -32,11 +32,18 @@ use Rattle.rows.proofs.RowArrays.{rowsArray-len, rowsArray-rows, rowIdsArray-le
 use Rattle.model.specs.Store.{rowAt, putRow, velAt, putVel, solverPoseAt, jointAt, masksAt, body1At, body2At, putSeed}
 use Rattle.model.specs.JointRows.{State, state, rowCount, rowsList, putRows, buildJoint, impulsesAt, sweepRow, sweepJoint, warmstartRow, warmstartJoint, removeBiasJoint, writeBackIds}
 
-less : (n i : ℕ) → i < n → n - i ≡ suc (n - (i + 1))
+pub less : (n i : ℕ) → i < n → n - i ≡ suc (n - (i + 1))
 less n i h = omega arith
 
-none : (n i : ℕ) → n ≤ i → n - i ≡ 0
+pub none : (n i : ℕ) → n ≤ i → n - i ≡ 0
 none n i h = omega arith
+
+-- A turn of a loop that fills an array: one more at the end of a list that grows by f n at its place n.
+pub fill-turn : {A : Type 0} (x : A) (l : ℕ → List A) (f : ℕ → A) → ((n : ℕ) → length (l n) ≡ n) → ((n : ℕ) → l (suc n) ≡ l n ++ (f n ∷ []))
+    → (m i : ℕ) {out : List A} {y : A} → i < m → out ≡ filled m x (l i) → y ≡ f i → set out i y ≡ filled m x (l (i + 1))
+fill-turn x l f len snoc m i {y = y} h e r =
+    let stored : set (filled m x (l i)) (length (l i)) y ≡ filled m x (l i ++ (y ∷ [])) = set-filled x m (l i) y (omega (arith, len i)) in
+    rw (e, add-one, snoc, ← r) (rw (len i) at stored)
 
 -- ---- impulses read
 
@@ -59,13 +66,8 @@ impulses-snoc s k (suc n) =
 -- one more impulse
 pub impulse-turn : (s : List Float) (k i : ℕ) {out : List Float} → i < 6 → out ≡ filled 6 (bits 0) (impulsesAt s k i)
     → set out i (getD s ((k + i) * 18) nan) ≡ filled 6 (bits 0) (impulsesAt s k (i + 1))
-impulse-turn s k i {out} h e =
-    let l : List Float = impulsesAt s k i in
-    let y : Float = getD s ((k + i) * 18) nan in
-    let q : length l ≡ i = length-impulsesAt s k i in
-    let stored : set (filled 6 (bits 0) l) (length l) y ≡ filled 6 (bits 0) (l ++ (y ∷ [])) = set-filled (bits 0) 6 l y (omega (arith, q)) in
-    let more : impulsesAt s k (i + 1) ≡ l ++ (y ∷ []) = rw add-one (impulses-snoc s k i ∙ rw impulse-read) in
-    rw (e, more) (rw q at stored)
+impulse-turn s k i h e =
+    fill-turn (bits 0) (impulsesAt s k) (λ n. rowAt s (k + n) .impulse) (length-impulsesAt s k) (impulses-snoc s k) 6 i h e (rw impulse-read)
 
 pub no-impulses : (s : List Float) (k : ℕ) → impulsesAt s k 0 ≡ []
 unfolding impulsesAt
@@ -90,7 +92,7 @@ pub few-rows : (words : List ℕ) (j : ℕ) {n : ℕ} → n ≡ rowCount words j
 unfolding rowCount
 few-rows words j e = omega (arith, e, at-most-six (masksAt words j))
 
-length-built : (params : IntegrationParameters) (substep : ℕ) (warm : Warmstart) (body1 body2 : SolverPose) (words : List ℕ) (numbers : List Float) (j : ℕ) (prevs : List Float)
+pub length-built : (params : IntegrationParameters) (substep : ℕ) (warm : Warmstart) (body1 body2 : SolverPose) (words : List ℕ) (numbers : List Float) (j : ℕ) (prevs : List Float)
     → length prevs ≡ 6 → length (builderUpdateOf params substep warm body1 body2 (jointAt words numbers j) prevs) ≡ rowCount words j
 unfolding rowCount jointAt masksAt
 length-built params substep warm body1 body2 words numbers j prevs six = length-builderUpdateOf params substep warm body1 body2 (jointAt words numbers j) prevs six

@@ -101,7 +101,7 @@ unfolding velAt
 velAt-cong b b′ i h =
     ap (cond (eqb i world) rest) (velOf-cong (num 10 b′ i) (num 10 b i) (h 7 (lit< tt) (lit< tt)) (h 8 (lit< tt) (lit< tt)) (h 9 (lit< tt) (lit< tt)))
 
-solverPoseAt-cong : (b b′ : List Float) (i : ℕ) → ((c : ℕ) → c < 7 → num 10 b′ i c ≡ num 10 b i c) → solverPoseAt b′ i ≡ solverPoseAt b i
+pub solverPoseAt-cong : (b b′ : List Float) (i : ℕ) → ((c : ℕ) → c < 7 → num 10 b′ i c ≡ num 10 b i c) → solverPoseAt b′ i ≡ solverPoseAt b i
 unfolding solverPoseAt
 solverPoseAt-cong b b′ i h = ap (cond (eqb i world) worldPose) (bodyOf-cong (num 10 b′ i) (num 10 b i) h)
 

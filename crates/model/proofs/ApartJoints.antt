@@ -1,0 +1,91 @@
+-- The joints of two models that agree on a closed set: the set's joints are there in both, between the same bodies and with as many rows, and every other joint
+-- of either has no body of the set (`split`).
+use Prim.Native.Nat.{ℕ, suc, _+_, _<_}
+use mathlib.Core.Path.{_≡_, refl, sym, _∙_}
+use mathlib.Core.Logic.{_≢_, _⊎_, inl, inr, ⊎-elim, Dec·and}
+use mathlib.Core.Bool.{Bool, true, Bool-discrete}
+use mathlib.Core.List.{List}
+use native.Mathlib.Decide.{ℕ-discrete, decLt, map-dec}
+use native.Mathlib.Omega.{arith}
+use Rattle.model.specs.Store.{world, body1At, body2At}
+use Rattle.model.specs.JointRows.{rowCount}
+use Rattle.model.specs.Model.{Model, bodyCount, jointCount, rowsBefore, Sound}
+use Rattle.model.specs.Studies.{Inside, Mine, Closed, Agree}
+use Rattle.model.proofs.Apart.{Layout, Joint, Foreign, Split}
+
+pub next-first : (words : List ℕ) (j : ℕ) → rowsBefore words (suc j) ≡ rowsBefore words j + rowCount words j
+unfolding rowsBefore
+next-first words j = refl
+
+abbrev pub layoutOf : Model → Layout
+layoutOf m = record {
+  joints = jointCount (m .words) (m .numbers);
+  count = rowCount (m .words);
+  body1 = body1At (m .words);
+  body2 = body2At (m .words);
+  first = rowsBefore (m .words);
+  next = next-first (m .words);
+}
+
+either-dec : {A B : Type 0} → Dec A → Dec B → Dec (A ⊎ B)
+either-dec (yes a) d = yes (inl a)
+either-dec (no f) (yes b) = yes (inr b)
+either-dec (no f) (no g) = no (⊎-elim f g)
+
+abbrev pub IsWorld : ℕ → Type 0
+IsWorld b = b ≡ world
+
+module _ (set : ℕ → Bool) where
+  abbrev pub InSet : ℕ → Type 0
+  InSet b = set b ≡ true
+
+  inside? : (b : ℕ) → Dec (Inside set b)
+  inside? b = either-dec (Bool-discrete (set b) true) (ℕ-discrete b world)
+
+  mine? : (m : Model) (j : ℕ) → Dec (Mine set m j)
+  mine? m j =
+      map-dec (λ t. record { there = t .0; inside1 = t .1 .0; inside2 = t .1 .1 }) (λ t. (t .there, (t .inside1, t .inside2)))
+      (Dec·and (decLt j (jointCount (m .words) (m .numbers))) (Dec·and (inside? (body1At (m .words) j)) (inside? (body2At (m .words) j))))
+
+  -- a body that is of the set where it is not the world
+  inside-other : (b c : ℕ) → InSet b → (c ≢ world → set b ≡ set c) → Inside set c
+  inside-other b c s f = elim (ℕ-discrete c world) [
+    | yes w ↦ inr w
+    | no w ↦ inl (sym (f w) ∙ s)
+  ]
+
+  module _ (m : Model) (ok : Sound m) (present : (b : ℕ) → InSet b → b < bodyCount (m .bodies)) where
+    -- no body of the set is the world
+    pub no-world : (b : ℕ) → InSet b → b ≢ world
+    no-world b s e = omega (arith, present b s, ok .few)
+
+    -- a joint with a body of the set is the set's
+    foreign-of : Closed set m → (j : ℕ) → (Mine set m j → ⊥) → j < jointCount (m .words) (m .numbers) → Foreign (layoutOf m) InSet j
+    foreign-of closed j f h b s =
+        let b1 : ℕ = body1At (m .words) j in
+        let b2 : ℕ = body2At (m .words) j in (
+          λ e. let t : InSet b1 = rw (← e) s in f (record { there = h; inside1 = inl t; inside2 = inside-other b1 b2 t (closed j h (no-world b1 t)) }),
+          λ e. let t : InSet b2 = rw (← e) s in f (record { there = h; inside1 = inside-other b2 b1 t (λ w. sym (closed j h w (no-world b2 t))); inside2 = inl t }),
+        )
+
+  module _ (made : Type 0) (m m′ : Model) (agree : Agree set made m m′) (ok : Sound m) (ok′ : Sound m′) where
+    joint-of : (j : ℕ) → Mine set m j → Joint (layoutOf m) (layoutOf m′) InSet IsWorld j
+    unfolding rowCount
+    joint-of j t = record {
+      there = t .there;
+      there′ = agree .joints j t .there;
+      count-same = rw (agree .contents j t .masks);
+      body1-same = agree .contents j t .body1;
+      body2-same = agree .contents j t .body2;
+      apart = ok .apart j (t .there);
+      inside1 = t .inside1;
+      inside2 = t .inside2;
+    }
+
+    pub split : Split (layoutOf m) (layoutOf m′) InSet IsWorld (Mine set m)
+    split = record {
+      either = mine? m;
+      joint = joint-of;
+      foreign = foreign-of m ok (λ b s. agree .present b s .0) (agree .closed);
+      foreign′ = λ j f. foreign-of m′ ok′ (λ b s. agree .present b s .1) (agree .closed′) j (λ t. f (agree .joints′ j t));
+    }

@@ -1,0 +1,107 @@
+-- Counts: a body, a joint or a row is there exactly where its whole record is in the storage. A joint has at most six rows, and its rows follow those of the
+-- joints before it.
+use Prim.Native.Nat.{ℕ, zero, suc, _+_, _*_, _/_, _≤_, _<_}
+use mathlib.Core.Path.{_≡_, refl}
+use mathlib.Core.Bool.{Bool, true, false, cond}
+use mathlib.Core.List.{List}
+use mathlib.Core.Logic.{⊎-elim}
+use native.Mathlib.Nat.{eq-or-lt-of-le, le-of-suc-le-suc}
+use native.Mathlib.Numerals.{add-one}
+use native.Mathlib.Omega.{arith}
+use borrow.Author.Tests.{ltb-true, ltb-false}
+use lib.Dec.{ltb}
+use lib.ListN.{length}
+use lib.Ieee.{Float}
+use Rattle.model.specs.JointRows.{rowCount}
+use Rattle.model.specs.Model.{bodyCount, jointCount, rowCapacity, rowsBefore}
+use Rattle.model.proofs.JointRowsLaws.{few-rows}
+
+-- ---- bodies
+
+pub body-there : (b : List Float) (i : ℕ) → i < bodyCount b → i * 10 + 10 ≤ length b
+unfolding bodyCount
+body-there b i h = omega arith
+
+pub there-body : (b : List Float) (i : ℕ) → i * 10 + 10 ≤ length b → i < bodyCount b
+unfolding bodyCount
+there-body b i h = omega arith
+
+pub bodies-fit : (b : List Float) → bodyCount b * 10 ≤ length b
+unfolding bodyCount
+bodies-fit b = omega arith
+
+-- ---- rows that a storage has room for
+
+pub rows-fit : (rows : List Float) (t : ℕ) → t ≤ rowCapacity rows → t * 18 ≤ length rows
+unfolding rowCapacity
+rows-fit rows t h = omega arith
+
+pub fit-rows : (rows : List Float) (t : ℕ) → t * 18 ≤ length rows → t ≤ rowCapacity rows
+unfolding rowCapacity
+fit-rows rows t h = omega arith
+
+-- ---- joints
+
+-- the lesser of two numbers, as a test picks it
+module _ (a b : ℕ) where
+  lesser-left : cond (ltb a b) a b ≤ a
+  lesser-left = go (ltb a b) refl
+    where
+      go : (t : Bool) → ltb a b ≡ t → cond t a b ≤ a
+      go true e = omega arith
+      go false e = ltb-false a b e
+
+  lesser-right : cond (ltb a b) a b ≤ b
+  lesser-right = go (ltb a b) refl
+    where
+      go : (t : Bool) → ltb a b ≡ t → cond t a b ≤ b
+      go true e = omega (arith, ltb-true a b e)
+      go false e = omega arith
+
+  below-lesser : (j : ℕ) → j < a → j < b → j < cond (ltb a b) a b
+  below-lesser j h g = go (ltb a b)
+    where
+      go : (t : Bool) → j < cond t a b
+      go true = h
+      go false = g
+
+module _ (words : List ℕ) (numbers : List Float) where
+  pub joints-words : jointCount words numbers * 9 ≤ length words
+  unfolding jointCount
+  joints-words = omega (arith, lesser-left (length words / 9) (length numbers / 42))
+
+  pub joints-numbers : jointCount words numbers * 42 ≤ length numbers
+  unfolding jointCount
+  joints-numbers = omega (arith, lesser-right (length words / 9) (length numbers / 42))
+
+  pub joint-words : (j : ℕ) → j < jointCount words numbers → j * 9 + 9 ≤ length words
+  joint-words j h = omega (arith, joints-words)
+
+  pub joint-numbers : (j : ℕ) → j < jointCount words numbers → j * 42 + 42 ≤ length numbers
+  joint-numbers j h = omega (arith, joints-numbers)
+
+  pub joint-there : (j : ℕ) → j * 9 + 9 ≤ length words → j * 42 + 42 ≤ length numbers → j < jointCount words numbers
+  unfolding jointCount
+  joint-there j h g = below-lesser (length words / 9) (length numbers / 42) j (omega arith) (omega arith)
+
+-- ---- where a joint's rows begin
+
+pub rowsBefore-none : (words : List ℕ) → rowsBefore words 0 ≡ 0
+unfolding rowsBefore
+rowsBefore-none words = refl
+
+pub rowsBefore-next : (words : List ℕ) (j : ℕ) → rowsBefore words (j + 1) ≡ rowsBefore words j + rowCount words j
+unfolding rowsBefore
+rowsBefore-next words j = rw add-one
+
+pub rowsBefore-le : (words : List ℕ) (j : ℕ) → rowsBefore words j ≤ j * 6
+unfolding rowsBefore
+rowsBefore-le words zero = omega arith
+rowsBefore-le words (suc j) = omega (arith, rowsBefore-le words j, few-rows words j refl)
+
+-- a joint's rows end before a later joint's begin
+pub rowsBefore-mono : (words : List ℕ) (j k : ℕ) → j < k → rowsBefore words j + rowCount words j ≤ rowsBefore words k
+unfolding rowsBefore
+rowsBefore-mono words j zero h = omega arith
+rowsBefore-mono words j (suc k) h =
+    ⊎-elim (λ (e : j ≡ k). rw e (omega arith)) (λ (l : j < k). omega (arith, rowsBefore-mono words j k l)) (eq-or-lt-of-le (le-of-suc-le-suc h))

@@ -1,0 +1,339 @@
+-- Refusals. Of any list of rules whose numbers are not 0: the call is granted exactly where every rule holds, and refused with k exactly where the rule of number
+-- k fails and every rule before it holds. Rules that hold may be dropped from the front, and what follows a rule that fails is never reached. The rules of each
+-- call are such a list. Where rules 1 to 7 hold, the model is sound; where rule 8 holds, the row storage has room for the total.
+use Prim.Native.Nat.{ℕ, zero, suc, _+_, _-_, _≤_, _<_}
+use mathlib.Core.Path.{_≡_, refl, sym, ap, _∙_}
+use mathlib.Core.Bool.{Bool, true, false, not, cond, _&&_, false≢true}
+use mathlib.Core.List.{List, [], _∷_, _++_, append-assoc}
+use mathlib.Core.Logic.{_≢_, ⊎-elim}
+use native.Mathlib.Nat.{add-assoc, eq-or-lt-of-le}
+use native.Mathlib.Omega.{arith}
+use borrow.Author.Tests.{ltb-true, ltb-false, eqb-true, eqb-false, ne-eqb, not-true, not-false}
+use lib.Dec.{eqb, ltb}
+use lib.Ieee.{Float, lt}
+use Rattle.floats.specs.Operators.{bits}
+use Rattle.model.specs.Store.{world, Present, body1At, body2At}
+use Rattle.model.specs.Model.{Model, bodyCount, jointCount, rowCapacity, totalRows, Sound, Room}
+use Rattle.model.specs.Refusals.{Rule, rule, refusal, all, atMost, masksFit, presentOrWorld, bodiesPresent, bodiesApart, finitePose, finiteWarm, finiteParams, finiteBody, finiteJoint, modelRules, storageRule, sweepRule, builtRule, seedsRule, bodyRule, jointRule}
+use Rattle.model.specs.Calls.{Call, rulesOf}
+use Rattle.model.specs.Calls.Call.{load, place, build, warmStart, sweep, removeBias, writeBack, readRows, readVelocity}
+use Rattle.model.proofs.CountLaws.{body-there}
+
+-- ---- tests
+
+-- by cases on a test, each with its equation
+pub by-cases : {P : Type 0} (t : Bool) → (t ≡ true → P) → (t ≡ false → P) → P
+by-cases true f g = f refl
+by-cases false f g = g refl
+
+-- the test behind a flag that the code negates
+pub holds : {t a : Bool} → t ≡ a → not t ≡ false → a ≡ true
+holds e l = sym e ∙ not-false _ l
+
+pub fails : {t a : Bool} → t ≡ a → not t ≡ true → a ≡ false
+fails e h = sym e ∙ not-true _ h
+
+pub both : (a b : Bool) → (a && b) ≡ true → (a ≡ true) × (b ≡ true)
+both true b e = (refl, e)
+both false b e = absurd (false≢true e)
+
+-- ---- any list of rules
+
+-- no rule has the number 0
+abbrev pub Numbered : List Rule → Type 0
+Numbered [] = Unit
+Numbered (r ∷ rs) = (r .number ≢ 0) × Numbered rs
+
+-- every rule holds
+abbrev pub Hold : List Rule → Type 0
+Hold [] = Unit
+Hold (r ∷ rs) = (r .holds ≡ true) × Hold rs
+
+-- the rule of number k fails, and every rule before it holds
+pub record First (k : ℕ) (rs : List Rule) : Type 0 where
+  pub before : List Rule
+  pub after : List Rule
+  pub split : rs ≡ before ++ (rule k false ∷ after)
+  pub hold : Hold before
+
+pub no-rules : refusal [] ≡ 0
+unfolding refusal
+no-rules = refl
+
+pub rule-holds : (r : Rule) (rs : List Rule) → r .holds ≡ true → refusal (r ∷ rs) ≡ refusal rs
+unfolding refusal
+rule-holds r rs e = rw e
+
+pub rule-fails : (r : Rule) (rs : List Rule) → r .holds ≡ false → refusal (r ∷ rs) ≡ r .number
+unfolding refusal
+rule-fails r rs e = rw e
+
+-- granted exactly where every rule holds
+pub all-hold : (rs : List Rule) → Numbered rs → refusal rs ≡ 0 → Hold rs
+all-hold [] n e = tt
+all-hold (r ∷ rs) n e =
+    by-cases (r .holds) (λ h. (h, all-hold rs (n .1) (sym (rule-holds r rs h) ∙ e))) (λ h. absurd (n .0 (sym (rule-fails r rs h) ∙ e)))
+
+pub hold-granted : (rs : List Rule) → Hold rs → refusal rs ≡ 0
+hold-granted [] h = no-rules
+hold-granted (r ∷ rs) h = rule-holds r rs (h .0) ∙ hold-granted rs (h .1)
+
+-- rules that hold may be dropped from the front
+pub held-append : (qs rs : List Rule) → Hold qs → refusal (qs ++ rs) ≡ refusal rs
+held-append [] rs h = refl
+held-append (r ∷ qs) rs h = rule-holds r (qs ++ rs) (h .0) ∙ held-append qs rs (h .1)
+
+pub granted-append : (qs rs : List Rule) → Numbered qs → refusal qs ≡ 0 → refusal (qs ++ rs) ≡ refusal rs
+granted-append qs rs n e = held-append qs rs (all-hold qs n e)
+
+-- what follows a rule that fails is never reached
+pub refused-append : (qs rs : List Rule) → refusal qs ≢ 0 → refusal (qs ++ rs) ≡ refusal qs
+refused-append [] rs n = absurd (n no-rules)
+refused-append (r ∷ qs) rs n =
+    by-cases (r .holds)
+    (λ h. let e = rule-holds r qs h in rule-holds r (qs ++ rs) h ∙ refused-append qs rs (λ z. n (e ∙ z)) ∙ sym e)
+    (λ h. rule-fails r (qs ++ rs) h ∙ sym (rule-fails r qs h))
+
+pub refusal-append : (qs rs : List Rule) → Numbered qs → refusal (qs ++ rs) ≡ cond (eqb (refusal qs) 0) (refusal rs) (refusal qs)
+refusal-append qs rs n =
+    by-cases (eqb (refusal qs) 0)
+    (λ t. rw t (granted-append qs rs n (eqb-true (refusal qs) 0 t)))
+    (λ t. rw t (refused-append qs rs (eqb-false (refusal qs) 0 t)))
+
+-- granted by all rules: by the first ones, and by the others
+pub granted-split : (qs rs : List Rule) → Numbered qs → refusal (qs ++ rs) ≡ 0 → (refusal qs ≡ 0) × (refusal rs ≡ 0)
+granted-split qs rs n e =
+    by-cases (eqb (refusal qs) 0)
+    (λ t. let z = eqb-true (refusal qs) 0 t in (z, sym (granted-append qs rs n z) ∙ e))
+    (λ t. let z = eqb-false (refusal qs) 0 t in absurd (z (sym (refused-append qs rs z) ∙ e)))
+
+-- refused with k exactly where the rule of number k is the first that fails
+pub refused-first : (k : ℕ) (rs : List Rule) → refusal rs ≡ k → k ≢ 0 → First k rs
+refused-first k [] e n = absurd (n (sym e ∙ no-rules))
+refused-first k (r ∷ rs) e n =
+    by-cases (r .holds)
+    (λ h. let f = refused-first k rs (sym (rule-holds r rs h) ∙ e) n in
+    record { before = r ∷ f .before; after = f .after; split = ap (λ l. r ∷ l) (f .split); hold = (h, f .hold) })
+    (λ h. let q : r .number ≡ k = sym (rule-fails r rs h) ∙ e in
+    let s : rule (r .number) (r .holds) ≡ rule k false = cc in
+    record { before = []; after = rs; split = ap (λ r. r ∷ rs) s; hold = tt })
+
+pub first-refused : (k : ℕ) (rs : List Rule) → First k rs → refusal rs ≡ k
+first-refused k rs f =
+    let failing = rule k false ∷ f .after in
+    ap refusal (f .split) ∙ held-append (f .before) failing (f .hold) ∙ rule-fails (rule k false) (f .after) refl
+
+pub numbered-append : (qs rs : List Rule) → Numbered qs → Numbered rs → Numbered (qs ++ rs)
+numbered-append [] rs n m = m
+numbered-append (r ∷ qs) rs n m = (n .0, numbered-append qs rs (n .1) m)
+
+-- ---- a test of a range of numbers
+
+module _ (p : ℕ → Bool) where
+  all-none : (i : ℕ) → all i 0 p ≡ true
+  unfolding all
+  all-none i = refl
+
+  all-yes : (i n : ℕ) → p i ≡ true → all i (suc n) p ≡ all (i + 1) n p
+  unfolding all
+  all-yes i n e = rw e
+
+  all-not : (i n : ℕ) → p i ≡ false → all i (suc n) p ≡ false
+  unfolding all
+  all-not i n e = rw e
+
+  -- One turn of a loop whose turn i tries number k, where n - i numbers are left to try. The test holds: the rest decides.
+  pub all-turn : (k n i : ℕ) → i < n → p k ≡ true → all (k + 1) (n - (i + 1)) p ≡ all k (n - i) p
+  all-turn k n i h e =
+      let more : n - i ≡ suc (n - (i + 1)) = omega arith in
+      rw more (sym (all-yes k (n - (i + 1)) e))
+
+  -- it fails: the whole fails
+  pub all-stop : (k n i : ℕ) → i < n → p k ≡ false → all k (n - i) p ≡ false
+  all-stop k n i h e =
+      let more : n - i ≡ suc (n - (i + 1)) = omega arith in
+      rw more (all-not k (n - (i + 1)) e)
+
+  -- none is left
+  pub all-done : (k n i : ℕ) → n ≤ i → all k (n - i) p ≡ true
+  all-done k n i h =
+      let none : n - i ≡ 0 = omega arith in
+      rw none (all-none k)
+
+  -- the turn of a loop that tries the numbers from o on
+  pub all-turn-from : (o n i : ℕ) → i < n → p (o + i) ≡ true → all (o + (i + 1)) (n - (i + 1)) p ≡ all (o + i) (n - i) p
+  all-turn-from o n i h e = rw (← add-assoc o i 1) (all-turn (o + i) n i h e)
+
+  -- the test holds of each number of the range
+  pub all-at : (i n : ℕ) → all i n p ≡ true → (k : ℕ) → i ≤ k → k < i + n → p k ≡ true
+  unfolding all
+  all-at i zero e k h g = absurd (omega arith)
+  all-at i (suc n) e k h g =
+      let b = both (p i) (all (i + 1) n p) e in
+      ⊎-elim (λ (q : i ≡ k). ap p (sym q) ∙ b .0) (λ (l : i < k). all-at (i + 1) n (b .1) k (omega arith) (omega arith)) (eq-or-lt-of-le h)
+
+  pub all-below : (n : ℕ) → all 0 n p ≡ true → (k : ℕ) → k < n → p k ≡ true
+  all-below n e k h = all-at 0 n e k (omega arith) (omega arith)
+
+-- two tests that agree on the range
+pub all-cong : (p q : ℕ → Bool) (i n : ℕ) → ((k : ℕ) → i ≤ k → k < i + n → p k ≡ q k) → all i n p ≡ all i n q
+unfolding all
+all-cong p q i zero e = refl
+all-cong p q i (suc n) e =
+    rw (e i (omega arith) (omega arith), all-cong p q (i + 1) n (λ k h g. e k (omega arith) (omega arith)))
+
+all-true : (i n : ℕ) → all i n (λ k. true) ≡ true
+unfolding all
+all-true i zero = refl
+all-true i (suc n) = all-true (i + 1) n
+
+pub all-intro : (p : ℕ → Bool) (i n : ℕ) → ((k : ℕ) → i ≤ k → k < i + n → p k ≡ true) → all i n p ≡ true
+all-intro p i n e = all-cong p (λ k. true) i n e ∙ all-true i n
+
+-- ---- the rules of the calls
+
+pub model-numbered : (m : Model) (arguments : Bool) → Numbered (modelRules m arguments)
+unfolding modelRules
+model-numbered m arguments = omega arith
+
+pub storage-numbered : (m : Model) (arguments : Bool) (rows : List Float) → Numbered (modelRules m arguments ++ (storageRule m rows ∷ []))
+unfolding storageRule
+storage-numbered m arguments rows = numbered-append (modelRules m arguments) (storageRule m rows ∷ []) (model-numbered m arguments) (omega arith)
+
+module _ (m : Model) where
+  after-model : (arguments : Bool) (rs : List Rule) → Numbered rs → Numbered (modelRules m arguments ++ rs)
+  after-model arguments rs n = numbered-append (modelRules m arguments) rs (model-numbered m arguments) n
+
+  pub call-numbered : (c : Call) (rows : List Float) → Numbered (rulesOf c m rows)
+  unfolding rulesOf storageRule sweepRule builtRule seedsRule bodyRule jointRule
+  call-numbered load rows = after-model true (storageRule m rows ∷ []) (omega arith)
+  call-numbered (place i pose) rows = after-model (finitePose pose) (bodyRule m i ∷ []) (omega arith)
+  call-numbered (build warm substep) rows = after-model (finiteWarm warm) (storageRule m rows ∷ seedsRule m warm substep ∷ []) (omega arith)
+  call-numbered warmStart rows = after-model true (storageRule m rows ∷ builtRule m ∷ []) (omega arith)
+  call-numbered (sweep n) rows = after-model true (storageRule m rows ∷ sweepRule n ∷ builtRule m ∷ []) (omega arith)
+  call-numbered removeBias rows = after-model true (storageRule m rows ∷ builtRule m ∷ []) (omega arith)
+  call-numbered writeBack rows = after-model true (storageRule m rows ∷ builtRule m ∷ []) (omega arith)
+  call-numbered (readRows j) rows = after-model true (storageRule m rows ∷ builtRule m ∷ jointRule m j ∷ []) (omega arith)
+  call-numbered (readVelocity i) rows = after-model true (bodyRule m i ∷ []) (omega arith)
+
+-- ---- rules 1 to 7
+
+-- what they ask of the model; beside it rule 6 asks that the call's own numbers are finite
+pub record RulesHold (m : Model) : Type 0 where
+  pub bodies : atMost 128 (bodyCount (m .bodies)) ≡ true
+  pub joints : atMost 128 (jointCount (m .words) (m .numbers)) ≡ true
+  pub masks : all 0 (jointCount (m .words) (m .numbers)) (masksFit (m .words)) ≡ true
+  pub present : all 0 (jointCount (m .words) (m .numbers)) (bodiesPresent (m .bodies) (m .words)) ≡ true
+  pub apart : all 0 (jointCount (m .words) (m .numbers)) (bodiesApart (m .words)) ≡ true
+  pub finite-params : finiteParams (m .params) ≡ true
+  pub finite-bodies : all 0 (bodyCount (m .bodies)) (finiteBody (m .bodies)) ≡ true
+  pub finite-joints : all 0 (jointCount (m .words) (m .numbers)) (finiteJoint (m .numbers)) ≡ true
+  pub dt : not (lt (m .params .dt) (bits 0)) ≡ true
+
+module _ (m : Model) (arguments : Bool) where
+  -- granted by rules 1 to 7 exactly where these facts hold and the call's own numbers are finite
+  module _ (e : refusal (modelRules m arguments) ≡ 0) where
+    held : Hold (modelRules m arguments)
+    held = all-hold (modelRules m arguments) (model-numbered m arguments) e
+
+    -- rule 6, taken apart
+    finite : (finiteParams (m .params) ≡ true) × (all 0 (bodyCount (m .bodies)) (finiteBody (m .bodies)) ≡ true)
+        × (all 0 (jointCount (m .words) (m .numbers)) (finiteJoint (m .numbers)) ≡ true) × (arguments ≡ true)
+    unfolding modelRules
+    finite =
+        let s = both (finiteParams (m .params)) _ (held .1 .1 .1 .1 .1 .0) in
+        let b = both (all 0 (bodyCount (m .bodies)) (finiteBody (m .bodies))) _ (s .1) in
+        let j = both (all 0 (jointCount (m .words) (m .numbers)) (finiteJoint (m .numbers))) arguments (b .1) in
+        (s .0, b .0, j .0, j .1)
+
+    pub rules-hold : RulesHold m
+    unfolding modelRules
+    rules-hold = record {
+      bodies = held .0;
+      joints = held .1 .0;
+      masks = held .1 .1 .0;
+      present = held .1 .1 .1 .0;
+      apart = held .1 .1 .1 .1 .0;
+      finite-params = finite .0;
+      finite-bodies = finite .1;
+      finite-joints = finite .2;
+      dt = held .1 .1 .1 .1 .1 .1 .0;
+    }
+
+    pub arguments-finite : arguments ≡ true
+    arguments-finite = finite .3
+
+  hold-rules : RulesHold m → arguments ≡ true → Hold (modelRules m arguments)
+  unfolding modelRules
+  hold-rules h e =
+      (h .bodies, (h .joints, (h .masks, (h .present, (h .apart, (rw (h .finite-params, h .finite-bodies, h .finite-joints) e, (h .dt, tt)))))))
+
+  pub rules-granted : RulesHold m → arguments ≡ true → refusal (modelRules m arguments) ≡ 0
+  rules-granted h e = hold-granted (modelRules m arguments) (hold-rules h e)
+
+  -- the rules after them then decide
+  pub rules-rest : RulesHold m → arguments ≡ true → (rest : List Rule) → refusal (modelRules m arguments ++ rest) ≡ refusal rest
+  rules-rest h e rest = held-append (modelRules m arguments) rest (hold-rules h e)
+
+  -- the call's own numbers are not finite, and the model is as rules 1 to 6 ask
+  pub rules-arguments : RulesHold m → arguments ≡ false → (rest : List Rule) → refusal (modelRules m arguments ++ rest) ≡ 6
+  unfolding modelRules refusal
+  rules-arguments h e rest = rw (h .bodies, h .joints, h .masks, h .present, h .apart, h .finite-params, h .finite-bodies, h .finite-joints, e)
+
+-- ---- what the rules see to
+
+-- a body that is present or the world has its record in the storage, if it is not the world
+pub present-of : (b : List Float) (i : ℕ) → presentOrWorld b i ≡ true → Present b i
+unfolding presentOrWorld
+present-of b i e other = body-there b i (ltb-true i (bodyCount b) (rw (ne-eqb i world other) at e))
+
+pub at-most : (most n : ℕ) → atMost most n ≡ true → n ≤ most
+at-most most n e = ltb-false most n (not-true (ltb most n) e)
+
+-- rules 1, 4 and 5
+module _ (m : Model) (h : RulesHold m) where
+  here : (j : ℕ) → j < jointCount (m .words) (m .numbers)
+      → (presentOrWorld (m .bodies) (body1At (m .words) j) ≡ true) × (presentOrWorld (m .bodies) (body2At (m .words) j) ≡ true)
+  unfolding bodiesPresent
+  here j l = both _ _ (all-below (bodiesPresent (m .bodies) (m .words)) _ (h .present) j l)
+
+  differ : (j : ℕ) → j < jointCount (m .words) (m .numbers) → eqb (body1At (m .words) j) (body2At (m .words) j) ≡ false
+  unfolding bodiesApart
+  differ j l = not-true _ (all-below (bodiesApart (m .words)) _ (h .apart) j l)
+
+  pub sound-held : Sound m
+  sound-held = record {
+    few = at-most 128 (bodyCount (m .bodies)) (h .bodies);
+    present1 = λ j l. present-of (m .bodies) (body1At (m .words) j) (here j l .0);
+    present2 = λ j l. present-of (m .bodies) (body2At (m .words) j) (here j l .1);
+    apart = λ j l. eqb-false (body1At (m .words) j) (body2At (m .words) j) (differ j l);
+  }
+
+pub sound-of : (m : Model) (arguments : Bool) → refusal (modelRules m arguments) ≡ 0 → Sound m
+sound-of m arguments e = sound-held m (rules-hold m arguments e)
+
+-- rule 8
+pub room-of : (m : Model) (rows : List Float) → refusal (storageRule m rows ∷ []) ≡ 0 → Room m rows
+unfolding storageRule
+room-of m rows e =
+    at-most (rowCapacity rows) (totalRows (m .words) (m .numbers)) (all-hold (storageRule m rows ∷ []) (omega arith) e .0)
+
+-- ---- rules 1 to 8, and what follows them
+
+module _ (m : Model) (arguments : Bool) (rows : List Float) where
+  abbrev pub firstEight : List Rule
+  firstEight = modelRules m arguments ++ (storageRule m rows ∷ [])
+
+  pub eight-rest : (rest : List Rule) → refusal firstEight ≡ 0 → refusal (modelRules m arguments ++ (storageRule m rows ∷ rest)) ≡ refusal rest
+  eight-rest rest e =
+      ap refusal (sym (append-assoc (modelRules m arguments) (storageRule m rows ∷ []) rest)) ∙ granted-append firstEight rest (storage-numbered m arguments rows) e
+
+  pub eight-refused : (rest : List Rule) → refusal firstEight ≢ 0 → refusal (modelRules m arguments ++ (storageRule m rows ∷ rest)) ≡ refusal firstEight
+  eight-refused rest n =
+      ap refusal (sym (append-assoc (modelRules m arguments) (storageRule m rows ∷ []) rest)) ∙ refused-append firstEight rest n
+
+  -- where they hold, the work on all joints may begin
+  pub eight-sound : refusal firstEight ≡ 0 → Sound m × Room m rows
+  eight-sound e =
+      let s = granted-split (modelRules m arguments) (storageRule m rows ∷ []) (model-numbered m arguments) e in
+      (sound-of m arguments (s .0), room-of m rows (s .1))

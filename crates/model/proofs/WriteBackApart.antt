@@ -1,0 +1,209 @@
+-- Write-back keeps agreement (`write-back-agrees`): where two models agree and the rows of the set's joints are the same, the impulses that are stored for a
+-- joint of the set are the same, and they are stored by the same ids. A joint's own rows decide what is stored of it (`back-all`).
+use Prim.Native.Nat.{ℕ, zero, suc, _+_, _*_, _≤_, _<_}
+use mathlib.Core.Path.{_≡_, refl, sym, ap, _∙_}
+use mathlib.Core.Logic.{_≢_}
+use mathlib.Core.Bool.{Bool}
+use mathlib.Core.List.{List, [], _∷_}
+use native.Mathlib.Omega.{arith}
+use borrow.Author.Tests.{eqb-true, eqb-false}
+use lib.Dec.{eqb}
+use lib.ListN.{length, getD, set, length-set}
+use lib.Ieee.{Float, nan}
+use Rattle.rows.specs.RowIds.{rowIds}
+use Rattle.rows.specs.Named.{SameNamed}
+use Rattle.rows.specs.Writeback.{writebackOf}
+use Rattle.rows.specs.declared.joint_constraint_builder.ImpulseJoint.{ImpulseJoint}
+use Rattle.rows.specs.declared.joint_velocity_constraint.WritebackId.{WritebackId}
+use Rattle.rows.specs.declared.joint_velocity_constraint.WritebackId.the-variants.{Dof, Limit, Motor}
+use Rattle.model.specs.Store.{rowAt, jointAt, masksAt, putSeed}
+use Rattle.model.specs.JointRows.{rowCount, writeBackIds, writeBackJoint}
+use Rattle.model.specs.Model.{Model, withNumbers, jointCount, rowsBefore}
+use Rattle.model.specs.Calls.{eachJoint, writeBackOne, rowsFrom, rowsOf}
+use Rattle.model.specs.Studies.{Mine, Agree}
+use Rattle.model.proofs.StoreLaws.{length-putSeed, jointAt-putSeed-other}
+use Rattle.model.proofs.WritebackLaws.{jointAt-putSeed-writeback}
+use Rattle.model.proofs.CountLaws.{joint-numbers}
+use Rattle.model.proofs.RefusalLaws.{by-cases}
+use Rattle.model.proofs.Keeps.{back-ids, back-keeps, same-but-seeds, frame1-kept, frame2-kept, softness-kept}
+use Rattle.model.proofs.SameStudies.{RowsSame}
+use Rattle.model.proofs.Agrees.{agree-after}
+
+-- ---- one joint
+
+-- a joint with the impulses of rows from row k on written back by their ids
+wroteOf : List Float → ℕ → List WritebackId → ImpulseJoint → ImpulseJoint
+wroteOf rows k [] joint = joint
+wroteOf rows k (i ∷ is) joint = wroteOf rows (k + 1) is (writebackOf joint i (rowAt rows k .impulse))
+
+module _ (words : List ℕ) (rows : List Float) where
+  back-own : (k j : ℕ) (is : List WritebackId) (n : List Float) → j * 42 + 42 ≤ length n → jointAt words (writeBackIds rows k j is n) j ≡ wroteOf rows k is (jointAt words n j)
+  unfolding writeBackIds wroteOf
+  back-own k j [] n room = refl
+  back-own k j (i ∷ is) n room =
+      back-own (k + 1) j is (putSeed n j i (rowAt rows k .impulse)) (rw length-putSeed room)
+      ∙ ap (wroteOf rows (k + 1) is) (jointAt-putSeed-writeback words n j i (rowAt rows k .impulse) room)
+
+  back-other : (k j j′ : ℕ) (is : List WritebackId) (n : List Float) → j′ ≢ j → jointAt words (writeBackIds rows k j is n) j′ ≡ jointAt words n j′
+  unfolding writeBackIds
+  back-other k j j′ [] n ne = refl
+  back-other k j j′ (i ∷ is) n ne = back-other (k + 1) j j′ is (putSeed n j i (rowAt rows k .impulse)) ne ∙ jointAt-putSeed-other words n j j′ i (rowAt rows k .impulse) ne
+
+  -- ---- all joints
+
+  one-other : (j j′ : ℕ) (n : List Float) → j′ ≢ j → jointAt words (writeBackOne rows words j n) j′ ≡ jointAt words n j′
+  unfolding writeBackOne writeBackJoint
+  one-other j j′ n ne = back-other (rowsBefore words j) j j′ (rowIds 2 1 (masksAt words j)) n ne
+
+  one-own : (j : ℕ) (n : List Float) → j * 42 + 42 ≤ length n
+      → jointAt words (writeBackOne rows words j n) j ≡ wroteOf rows (rowsBefore words j) (rowIds 2 1 (masksAt words j)) (jointAt words n j)
+  unfolding writeBackOne writeBackJoint
+  one-own j n room = back-own (rowsBefore words j) j (rowIds 2 1 (masksAt words j)) n room
+
+  one-size : (j : ℕ) (n : List Float) → length (writeBackOne rows words j n) ≡ length n
+  unfolding writeBackOne writeBackJoint
+  one-size j n = back-ids n rows (rowsBefore words j) j (rowIds 2 1 (masksAt words j)) n (same-but-seeds n) .size
+
+  -- later joints' work leaves joint j
+  later : (i t j : ℕ) (n : List Float) → j < i → jointAt words (eachJoint (writeBackOne rows words) i t n) j ≡ jointAt words n j
+  unfolding eachJoint
+  later i zero j n l = refl
+  later i (suc t) j n l = later (i + 1) t j (writeBackOne rows words i n) (omega arith) ∙ one-other i j n (λ e. omega arith)
+
+  -- joint j after the work on t joints from joint i on, of which it is one
+  back-all : (i t j : ℕ) (n : List Float) → i ≤ j → j < i + t → j * 42 + 42 ≤ length n
+      → jointAt words (eachJoint (writeBackOne rows words) i t n) j ≡ wroteOf rows (rowsBefore words j) (rowIds 2 1 (masksAt words j)) (jointAt words n j)
+  unfolding eachJoint
+  back-all i zero j n l u room = absurd (omega arith)
+  back-all i (suc t) j n l u room = by-cases (eqb j i)
+      (λ e. let h = eqb-true j i e in later (i + 1) t j (writeBackOne rows words i n) (omega arith) ∙ rw (← h) (one-own j n room))
+      (λ e.
+      let h = eqb-false j i e in
+      back-all (i + 1) t j (writeBackOne rows words i n) (omega arith) (omega arith) (rw one-size room)
+      ∙ ap (wroteOf rows (rowsBefore words j) (rowIds 2 1 (masksAt words j))) (one-other i j n h))
+
+-- each joint that is there
+stored : (words : List ℕ) (rows n : List Float) (j : ℕ) → j < jointCount words n
+    → jointAt words (eachJoint (writeBackOne rows words) 0 (jointCount words n) n) j ≡ wroteOf rows (rowsBefore words j) (rowIds 2 1 (masksAt words j)) (jointAt words n j)
+stored words rows n j l = back-all words rows 0 (jointCount words n) j n (omega arith) (omega arith) (joint-numbers words n j l)
+
+-- ---- two joints
+
+-- an element that two lists share, after a store at one place in both
+set-same : {A : Type 0} (l l′ : List A) (i i′ : ℕ) (v v′ d : A) → length l ≡ length l′ → (i′ ≡ i → v ≡ v′) → getD l i′ d ≡ getD l′ i′ d
+    → getD (set l i v) i′ d ≡ getD (set l′ i v′) i′ d
+set-same [] [] i i′ v v′ d n h e = refl
+set-same [] (b ∷ l′) i i′ v v′ d n h e = absurd (omega arith)
+set-same (a ∷ l) [] i i′ v v′ d n h e = absurd (omega arith)
+set-same (a ∷ l) (b ∷ l′) zero zero v v′ d n h e = h refl
+set-same (a ∷ l) (b ∷ l′) zero (suc i′) v v′ d n h e = e
+set-same (a ∷ l) (b ∷ l′) (suc i) zero v v′ d n h e = e
+set-same (a ∷ l) (b ∷ l′) (suc i) (suc i′) v v′ d n h e = set-same l l′ i i′ v v′ d (omega arith) (λ q. h (ap suc q)) e
+
+-- a joint as storage holds it has three axes
+record Axes (a : ImpulseJoint) : Type 0 where
+  limits : length (a .«data» .limits) ≡ 3
+  motors : length (a .«data» .motors) ≡ 3
+  impulses : length (a .impulses) ≡ 3
+
+jointAt-axes : (words : List ℕ) (n : List Float) (j : ℕ) → Axes (jointAt words n j)
+unfolding jointAt
+jointAt-axes words n j = record { limits = refl; motors = refl; impulses = refl }
+
+written-axes : (a : ImpulseJoint) (id : WritebackId) (p : Float) → Axes a → Axes (writebackOf a id p)
+unfolding writebackOf
+written-axes a (Dof i) p x = record { limits = x .limits; motors = x .motors; impulses = length-set (a .impulses) i p ∙ x .impulses }
+written-axes a (Limit i) p x = record { limits = length-set (a .«data» .limits) i _ ∙ x .limits; motors = x .motors; impulses = x .impulses }
+written-axes a (Motor i) p x = record { limits = x .limits; motors = length-set (a .«data» .motors) i _ ∙ x .motors; impulses = x .impulses }
+
+-- one impulse written to both by one id
+named-written : (a b : ImpulseJoint) (id : WritebackId) (p : Float) → Axes a → Axes b → SameNamed a b → SameNamed (writebackOf a id p) (writebackOf b id p)
+unfolding writebackOf
+named-written a b (Dof i) p x y s = record {
+  frame1 = s .frame1;
+  frame2 = s .frame2;
+  masks = s .masks;
+  softness = s .softness;
+  motor = s .motor;
+  limits = s .limits;
+  center = s .center;
+  dof = λ i′ n. set-same (a .impulses) (b .impulses) i i′ p p nan (x .impulses ∙ sym (y .impulses)) (λ e. refl) (s .dof i′ n);
+}
+named-written a b (Limit i) p x y s = record {
+  frame1 = s .frame1;
+  frame2 = s .frame2;
+  masks = s .masks;
+  softness = s .softness;
+  motor = s .motor;
+  limits = λ i′ n.
+      set-same (a .«data» .limits) (b .«data» .limits) i i′ _ _ _ (x .limits ∙ sym (y .limits)) (λ e. rw (rw e at (s .limits i′ n))) (s .limits i′ n);
+  center = s .center;
+  dof = s .dof;
+}
+named-written a b (Motor i) p x y s = record {
+  frame1 = s .frame1;
+  frame2 = s .frame2;
+  masks = s .masks;
+  softness = s .softness;
+  motor = λ i′ n.
+      set-same (a .«data» .motors) (b .«data» .motors) i i′ _ _ _ (x .motors ∙ sym (y .motors)) (λ e. rw (rw e at (s .motor i′ n))) (s .motor i′ n);
+  limits = s .limits;
+  center = s .center;
+  dof = s .dof;
+}
+
+module _ (rows rows′ : List Float) where
+  wrote-named : (k k′ : ℕ) (is : List WritebackId) (a b : ImpulseJoint) → Axes a → Axes b → rowsFrom rows k (length is) ≡ rowsFrom rows′ k′ (length is) → SameNamed a b
+      → SameNamed (wroteOf rows k is a) (wroteOf rows′ k′ is b)
+  unfolding wroteOf rowsFrom
+  wrote-named k k′ [] a b x y e s = s
+  wrote-named k k′ (i ∷ is) a b x y e s =
+      let head : rowAt rows k ≡ rowAt rows′ k′ = cc in
+      let tail : rowsFrom rows (k + 1) (length is) ≡ rowsFrom rows′ (k′ + 1) (length is) = cc in
+      let p = rowAt rows k .impulse in
+      let q = rowAt rows′ k′ .impulse in
+      let t : SameNamed (writebackOf a i p) (writebackOf b i q) = rw (← head) (named-written a b i p x y s) in
+      wrote-named (k + 1) (k′ + 1) is (writebackOf a i p) (writebackOf b i q) (written-axes a i p x) (written-axes b i q y) tail t
+
+-- ---- two models
+
+module _ (set : ℕ → Bool) (made : Type 0) (m m′ : Model) (agree : Agree set made m m′) (rows rows′ : List Float) (same : RowsSame set m m′ rows rows′) where
+  abbrev numbers : List Float
+  numbers = eachJoint (writeBackOne rows (m .words)) 0 (jointCount (m .words) (m .numbers)) (m .numbers)
+
+  abbrev numbers′ : List Float
+  numbers′ = eachJoint (writeBackOne rows′ (m′ .words)) 0 (jointCount (m′ .words) (m′ .numbers)) (m′ .numbers)
+
+  -- what is stored of a joint of the set
+  wrote-both : (j : ℕ) → masksAt (m .words) j ≡ masksAt (m′ .words) j → rowsOf (m .words) rows j ≡ rowsOf (m′ .words) rows′ j
+      → SameNamed (jointAt (m .words) (m .numbers) j) (jointAt (m′ .words) (m′ .numbers) j)
+      → SameNamed (wroteOf rows (rowsBefore (m .words) j) (rowIds 2 1 (masksAt (m .words) j)) (jointAt (m .words) (m .numbers) j))
+      (wroteOf rows′ (rowsBefore (m′ .words) j) (rowIds 2 1 (masksAt (m′ .words) j)) (jointAt (m′ .words) (m′ .numbers) j))
+  unfolding rowsOf rowCount
+  wrote-both j e r s =
+      rw (← e)
+      (wrote-named rows rows′ (rowsBefore (m .words) j) (rowsBefore (m′ .words) j) (rowIds 2 1 (masksAt (m .words) j)) _ _ (jointAt-axes (m .words) (m .numbers) j)
+      (jointAt-axes (m′ .words) (m′ .numbers) j) (rw (← e) at r) s)
+
+  named-back : (j : ℕ) → Mine set m j → SameNamed (jointAt (m .words) (m .numbers) j) (jointAt (m′ .words) (m′ .numbers) j)
+      → SameNamed (jointAt (m .words) numbers j) (jointAt (m′ .words) numbers′ j)
+  named-back j i s =
+      rw (stored (m .words) rows (m .numbers) j (i .there), stored (m′ .words) rows′ (m′ .numbers) j (agree .joints j i .there))
+      (wrote-both j (agree .contents j i .masks) (same j i) s)
+
+  pub write-back-agrees : Agree set made (withNumbers m numbers) (withNumbers m′ numbers′)
+  write-back-agrees =
+      let kept = back-keeps (m .numbers) rows (m .words) 0 (jointCount (m .words) (m .numbers)) in
+      let kept′ = back-keeps (m′ .numbers) rows′ (m′ .words) 0 (jointCount (m′ .words) (m′ .numbers)) in
+      agree-after set made m m′ (m .built) (m′ .built) (m .bodies) (m′ .bodies) numbers numbers′ refl refl (kept .size) (kept′ .size) agree (agree .poses) (agree .velocities)
+      (λ j i.
+      let c = agree .contents j i in
+      record {
+        body1 = c .body1;
+        body2 = c .body2;
+        masks = c .masks;
+        frame1 = frame1-kept (m .numbers) numbers kept j (m .words) ∙ c .frame1 ∙ sym (frame1-kept (m′ .numbers) numbers′ kept′ j (m′ .words));
+        frame2 = frame2-kept (m .numbers) numbers kept j (m .words) ∙ c .frame2 ∙ sym (frame2-kept (m′ .numbers) numbers′ kept′ j (m′ .words));
+        softness = softness-kept (m .numbers) numbers kept j (m .words) ∙ c .softness ∙ sym (softness-kept (m′ .numbers) numbers′ kept′ j (m′ .words));
+        named = λ r. named-back j i (c .named r);
+      })

@@ -1,0 +1,107 @@
+-- `read_rows` meets its contract: the answer that the call gives, in the form in which the program gives it.
+use mathlib.Core.Path.{sym, _∙_}
+use native.Mathlib.Omega.{arith}
+use Rattle.model.proofs.JointRowsLaws.{few-rows}
+use Rattle.model.proofs.CountLaws.{joint-words}
+use Rattle.model.proofs.RefusalLaws.{no-rules}
+use Rattle.model.proofs.AllJointsLaws.{rows-within}
+use Rattle.model.proofs.CallLaws.{refused-early, refused-late, granted-late, not-built, is-built, no-joint, some-joint, call-room, rows-refused, rows-granted}
+use borrow.Author.Needs.{needs}
+use borrow.Author.Tests.{not-true, not-false}
+use Rattle.model.proofs.calls.read_rows.Statement.{statement}
+use Rattle.model.proofs.calls.read_rows.Tie as tie
+
+storage-refusal-requires : tie.Need-storage-refusal-requires
+storage-refusal-requires c κs = search needs
+
+no-rows-requires : tie.Need-no-rows-requires
+no-rows-requires c κs = search needs
+
+returns : tie.Need-returns
+returns c =
+    let t1 = c .before in
+    rows-refused _ _ _ (c .no-rows .ensures) (refused-early _ _ _ (t1 .before .storage-refusal .ensures) (t1 .if1 .taken))
+
+no-rows-requires-2 : tie.Need-no-rows-requires-2
+no-rows-requires-2 c κs = search needs
+
+returns-2 : tie.Need-returns-2
+returns-2 c =
+    let t2 = c .before in
+    let e1 = t2 .before .before in
+    rows-refused _ _ _ (c .no-rows2 .ensures)
+    (refused-late _ _ _ (e1 .before .storage-refusal .ensures) (e1 .if1 .left) (not-built _ _ (not-true _ (t2 .if2 .taken))) (omega arith))
+
+joint-count-requires : tie.Need-joint-count-requires
+joint-count-requires c κs = search needs
+
+no-rows-requires-3 : tie.Need-no-rows-requires-3
+no-rows-requires-3 c κs = search needs
+
+returns-3 : tie.Need-returns-3
+returns-3 c =
+    let t3 = c .before in
+    let jc = t3 .before in
+    let e2 = jc .before in
+    let e1 = e2 .before .before in
+    rows-refused _ _ _ (c .no-rows3 .ensures)
+    (refused-late _ _ _ (e1 .before .storage-refusal .ensures) (e1 .if1 .left)
+    (no-joint _ _ _ (jc .joint-count .ensures) (t3 .if3 .taken) ∙ sym (is-built _ _ (not-false _ (e2 .if2 .left)))) (omega arith))
+
+masks-at-requires : tie.Need-masks-at-requires
+masks-at-requires c κs = joint-words _ _ _ (rw (c .before .joint-count .ensures) at (c .if3 .left))
+
+row-ids-requires : tie.Need-row-ids-requires
+row-ids-requires c κs = search needs
+
+rows-before-requires : tie.Need-rows-before-requires
+rows-before-requires c κs =
+    let e3 = c .before .before in
+    omega (arith, joint-words _ _ _ (rw (e3 .before .joint-count .ensures) at (e3 .if3 .left)))
+
+count-at-requires : tie.Need-count-at-requires
+count-at-requires c κs =
+    let e3 = c .before .before .before in
+    joint-words _ _ _ (rw (e3 .before .joint-count .ensures) at (e3 .if3 .left))
+
+rows-from-requires : tie.Need-rows-from-requires
+rows-from-requires c κs =
+    let rb = c .before in
+    let e3 = rb .before .before .before in
+    let jc = e3 .before in
+    let e1 = jc .before .before .before in
+    let room = call-room _ _ _ (e1 .before .storage-refusal .ensures) (e1 .if1 .left) in
+    (few-rows _ _ (c .count-at .ensures), rows-within _ _ _ room (jc .joint-count .ensures) (e3 .if3 .left) (rb .rows-before .ensures) (c .count-at .ensures))
+
+returns-4 : tie.Need-returns-4
+returns-4 c =
+    let ca = c .before in
+    let rb = ca .before in
+    let ri = rb .before in
+    let ma = ri .before in
+    let e3 = ma .before in
+    let jc = e3 .before in
+    let e2 = jc .before in
+    let e1 = e2 .before .before in
+    rows-granted _ _ _ (ma .masks-at .ensures) (ri .row-ids .ensures) (rb .rows-before .ensures) (ca .count-at .ensures) (c .rows-from .ensures)
+    (granted-late _ _ _ (e1 .before .storage-refusal .ensures) (e1 .if1 .left)
+    (is-built _ _ (not-false _ (e2 .if2 .left)) ∙ some-joint _ _ _ (jc .joint-count .ensures) (e3 .if3 .left) ∙ no-rules))
+
+pub read-rows-spec : {M : Type 1} → statement M
+read-rows-spec =
+    tie.close
+    (tie.spec
+    storage-refusal-requires
+    no-rows-requires
+    returns
+    no-rows-requires-2
+    returns-2
+    joint-count-requires
+    no-rows-requires-3
+    returns-3
+    masks-at-requires
+    row-ids-requires
+    rows-before-requires
+    count-at-requires
+    rows-from-requires
+    returns-4)

@@ -1,0 +1,72 @@
+-- `no_nan_from` meets its contract. Before turn i, the numbers from place o + i on decide.
+use Prim.Native.Nat.{_+_, _-_, _≤_}
+use mathlib.Core.Path.{_≡_, sym, ap, _∙_}
+use mathlib.Core.Bool.{not}
+use native.Mathlib.Nat.{add-zero, sub-zero}
+use borrow.Author.Needs.{needs}
+use lib.ListN.{getD}
+use lib.Ieee.{nan, isNan}
+use Rattle.model.specs.Refusals.{all, noNanFrom}
+use Rattle.model.proofs.RefusalLaws.{all-turn-from, all-stop, all-done}
+use Rattle.model.proofs.refusals.no_nan_from.Statement.{statement}
+use Rattle.model.proofs.refusals.no_nan_from.Tie as tie
+
+abbrev Inv-loop : tie.InvT-loop
+Inv-loop s o n i₀ i = (i ≤ n) × (all (o + i) (n - i) (λ p. not (isNan (getD s p nan))) ≡ noNanFrom s o n)
+
+abbrev μ-loop : tie.MeasureT-loop
+μ-loop s o n i₀ i = n - i
+
+loop-holds : tie.Need-loop-holds Inv-loop μ-loop
+unfolding noNanFrom
+loop-holds c = (search needs, rw (add-zero, sub-zero))
+
+add-is-nan : tie.Need-add-is-nan Inv-loop μ-loop
+add-is-nan c = search needs
+
+mul-is-nan : tie.Need-mul-is-nan Inv-loop μ-loop
+mul-is-nan c = search needs
+
+shared-slice-read-is-nan : tie.Need-shared-slice-read-is-nan Inv-loop μ-loop
+shared-slice-read-is-nan c = search needs
+
+is-nan-requires : tie.Need-is-nan-requires Inv-loop μ-loop
+is-nan-requires c κs = search needs
+
+returns : tie.Need-returns Inv-loop μ-loop
+returns c =
+    let f = c .before in
+    let lt = f .before .before in
+    sym (all-stop _ _ _ _ (lt .loop-test .taken) (ap not (sym (f .is-nan .ensures) ∙ c .if1 .taken))) ∙ lt .before .loop .inv .1
+
+add-i : tie.Need-add-i Inv-loop μ-loop
+add-i c = search needs
+
+loop-less : tie.Need-loop-less Inv-loop μ-loop
+loop-less c = search needs
+
+loop-again : tie.Need-loop-again Inv-loop μ-loop
+loop-again c =
+    let f = c .before in
+    let lt = f .before .before in
+    (search needs, all-turn-from _ _ _ _ (lt .loop-test .taken) (ap not (sym (f .is-nan .ensures) ∙ c .if1 .left)) ∙ lt .before .loop .inv .1)
+
+returns-2 : tie.Need-returns-2 Inv-loop μ-loop
+returns-2 c = sym (all-done _ _ _ _ (c .loop-test .left)) ∙ c .before .loop .inv .1
+
+pub no-nan-from-spec : {M : Type 1} → statement M
+no-nan-from-spec =
+    tie.close
+    (tie.spec
+    Inv-loop
+    μ-loop
+    loop-holds
+    add-is-nan
+    mul-is-nan
+    shared-slice-read-is-nan
+    is-nan-requires
+    returns
+    add-i
+    loop-less
+    loop-again
+    returns-2)

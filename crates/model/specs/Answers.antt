@@ -1,0 +1,59 @@
+-- The answers of the program's calls as document 01 has them: for each case of an enum its number and values.
+use mathlib.Core.Path.{_≡_}
+use mathlib.Core.List.{List, []}
+use lib.Ieee.{Float}
+use Rattle.rows.specs.RowIds.{rowIdsArray}
+use Rattle.rows.specs.Update.{rowsArray}
+use Rattle.rows.specs.declared.generic_joint.Masks.{Masks}
+use Rattle.model.specs.Calls.{Answer, Outcome}
+use Rattle.model.specs.Calls.Answer.{granted, total, rowsRead, velocityRead, refused}
+use Rattle.model.specs.declared.header.Header.{Header}
+use Rattle.model.specs.declared.calls.Plain.{Plain}
+use Rattle.model.specs.declared.calls.LoadAnswer.{LoadAnswer}
+use Rattle.model.specs.declared.calls.BuildAnswer.{BuildAnswer}
+use Rattle.model.specs.declared.calls.RowsAnswer.{RowsAnswer}
+use Rattle.model.specs.declared.calls.VelocityAnswer.{VelocityAnswer}
+
+-- a call that is handed no row storage: the same whatever storage there is
+abbrev pub WithoutRows : (List Float → Outcome) → (List Float → Outcome) → Type 0
+WithoutRows f g = (rows : List Float) → f rows ≡ g rows
+
+abbrev pub plainAnswer : Plain → Answer
+plainAnswer Plain.Granted = granted
+plainAnswer (Plain.Refused k) = refused k
+
+abbrev pub loadAnswer : LoadAnswer → Answer
+loadAnswer (LoadAnswer.Loaded h) = granted
+loadAnswer (LoadAnswer.Refused k) = refused k
+
+-- the model's header after a load: the one that was handed over where it is refused
+abbrev pub loadHeader : Header → LoadAnswer → Header
+loadHeader before (LoadAnswer.Loaded h) = h
+loadHeader before (LoadAnswer.Refused k) = before
+
+abbrev pub buildAnswer : BuildAnswer → Answer
+buildAnswer (BuildAnswer.Built h n) = total n
+buildAnswer (BuildAnswer.Refused k) = refused k
+
+abbrev pub buildHeader : Header → BuildAnswer → Header
+buildHeader before (BuildAnswer.Built h n) = h
+buildHeader before (BuildAnswer.Refused k) = before
+
+abbrev pub velocityAnswer : VelocityAnswer → Answer
+velocityAnswer (VelocityAnswer.Velocity v) = velocityRead v
+velocityAnswer (VelocityAnswer.Refused k) = refused k
+
+-- A row read's answer as the program gives it: ids and rows in arrays, which hold none beside a refusal. The first argument is the joint's masks.
+abbrev pub noMasks : Masks
+noMasks = record { «locked_axes» = 0; «limit_axes» = 0; «motor_axes» = 0; «coupled_axes» = 0 }
+
+abbrev pub noRows : Plain → RowsAnswer
+noRows a = record { answer = a; ids = rowIdsArray noMasks; rows = rowsArray [] }
+
+unfoldable pub rowsAnswerOf : Masks → Answer → RowsAnswer
+rowsAnswerOf masks (rowsRead ids rows) = record { answer = Plain.Granted; ids = rowIdsArray masks; rows = rowsArray rows }
+rowsAnswerOf masks (refused k) = noRows (Plain.Refused k)
+-- a row read answers none of these
+rowsAnswerOf masks granted = noRows Plain.Granted
+rowsAnswerOf masks (total n) = noRows Plain.Granted
+rowsAnswerOf masks (velocityRead v) = noRows Plain.Granted

@@ -1,0 +1,142 @@
+-- Document 01, "Eleven refusals, in checking order": each rule is a test with its number, tried on the whole model before the next; a call is refused with
+-- the number of the first rule that fails.
+use Prim.Native.Nat.{ℕ, zero, suc, _+_, _*_}
+use mathlib.Core.Bool.{Bool, true, false, not, cond, _&&_, _||_}
+use mathlib.Core.List.{List, [], _∷_, _++_}
+use lib.Dec.{eqb, ltb}
+use lib.ListN.{getD}
+use lib.Ieee.{Float, nan, lt, isNan}
+use Rattle.floats.specs.Operators.{bits}
+use Rattle.floats.specs.Scalar.{isFinite}
+use Rattle.floats.specs.declared.pose.Pose.{Pose}
+use Rattle.rows.specs.declared.integration_parameters.IntegrationParameters.{IntegrationParameters}
+use Rattle.rows.specs.declared.joint_constraint_builder.Warmstart.{Warmstart}
+use Rattle.rows.specs.declared.joint_constraint_builder.Warmstart.the-variants.{Cold, Warm}
+use Rattle.model.specs.Records.{word}
+use Rattle.model.specs.Store.{world, body1At, body2At}
+use Rattle.model.specs.Model.{Model, bodyCount, jointCount, rowCapacity, totalRows}
+
+pub record Rule : Type 0 where
+  pub number : ℕ
+  pub holds : Bool
+
+abbrev pub rule : ℕ → Bool → Rule
+rule k t = record { number = k; holds = t }
+
+-- the number of the first rule that fails; 0 where every rule holds
+unfoldable pub refusal : List Rule → ℕ
+refusal [] = 0
+refusal (r ∷ rs) = cond (r .holds) (refusal rs) (r .number)
+
+-- a test holds of n numbers from i on
+unfoldable pub all : ℕ → ℕ → (ℕ → Bool) → Bool
+all i zero p = true
+all i (suc n) p = p i && all (i + 1) n p
+
+abbrev pub atMost : ℕ → ℕ → Bool
+atMost most n = not (ltb most n)
+
+-- ---- what rules 3, 4 and 5 ask of joint j
+
+unfoldable pub masksFit : List ℕ → ℕ → Bool
+masksFit words j = all 2 4 (λ c. atMost 7 (word 9 words j c))
+
+-- a body is present, or the world
+unfoldable pub presentOrWorld : List Float → ℕ → Bool
+presentOrWorld bodies i = eqb i world || ltb i (bodyCount bodies)
+
+unfoldable pub bodiesPresent : List Float → List ℕ → ℕ → Bool
+bodiesPresent bodies words j = presentOrWorld bodies (body1At words j) && presentOrWorld bodies (body2At words j)
+
+unfoldable pub bodiesApart : List ℕ → ℕ → Bool
+bodiesApart words j = not (eqb (body1At words j) (body2At words j))
+
+-- ---- what rule 6 asks: no NaN, and no infinity but in limit ends and maximum forces. Velocities and stored impulses are exempt.
+
+-- n numbers from place o on
+unfoldable pub finiteFrom : List Float → ℕ → ℕ → Bool
+finiteFrom s o n = all o n (λ p. isFinite (getD s p nan))
+
+unfoldable pub noNanFrom : List Float → ℕ → ℕ → Bool
+noNanFrom s o n = all o n (λ p. not (isNan (getD s p nan)))
+
+unfoldable pub finiteParams : IntegrationParameters → Bool
+finiteParams p = isFinite (p .dt) && (isFinite (p .«length_unit») && isFinite (p .«normalized_max_corrective_velocity»))
+
+unfoldable pub finitePose : Pose → Bool
+finitePose p = isFinite (p .rotation .re) && (isFinite (p .rotation .im) && (isFinite (p .translation .x) && isFinite (p .translation .y)))
+
+unfoldable pub finiteWarm : Warmstart → Bool
+finiteWarm Cold = true
+finiteWarm (Warm coeff) = isFinite coeff
+
+-- body i's pose, inverse inertia and inverse masses
+unfoldable pub finiteBody : List Float → ℕ → Bool
+finiteBody bodies i = finiteFrom bodies (i * 10) 7
+
+-- the motor from place o on: target velocity and position, stiffness and damping; then the maximum force
+unfoldable pub finiteMotor : List Float → ℕ → Bool
+finiteMotor s o = finiteFrom s o 4 && noNanFrom s (o + 4) 1
+
+-- of a joint whose numbers start at place o, the ends of its limits, and its motors
+abbrev pub limitEnds : List Float → ℕ → Bool
+limitEnds s o = noNanFrom s (o + 8) 2 && (noNanFrom s (o + 11) 2 && noNanFrom s (o + 14) 2)
+
+abbrev pub finiteMotors : List Float → ℕ → Bool
+finiteMotors s o = finiteMotor s (o + 17) && (finiteMotor s (o + 23) && finiteMotor s (o + 29))
+
+-- joint j's frames; the ends of its limits; its motors; softness and centre
+unfoldable pub finiteJoint : List Float → ℕ → Bool
+finiteJoint s j =
+    let o = j * 42 in
+    finiteFrom s o 8 && (limitEnds s o && (finiteMotors s o && (finiteFrom s (o + 35) 2 && finiteFrom s (o + 40) 2)))
+
+-- all that rule 6 asks of n bodies and of the joints; `arguments` says that the call's own numbers (a new pose, a warm coefficient) are finite
+abbrev pub allFinite : IntegrationParameters → List Float → ℕ → List Float → ℕ → Bool → Bool
+allFinite params bodies n numbers joints arguments =
+    finiteParams params && (all 0 n (finiteBody bodies) && (all 0 joints (finiteJoint numbers) && arguments))
+
+-- ---- the rules
+
+-- rules 3 to 5, of the joints
+abbrev pub jointRules : List Float → List ℕ → ℕ → List Rule
+jointRules bodies words joints =
+    rule 3 (all 0 joints (masksFit words)) ∷ rule 4 (all 0 joints (bodiesPresent bodies words)) ∷ rule 5 (all 0 joints (bodiesApart words)) ∷ []
+
+-- rules 1 to 7, of the model
+unfoldable pub modelRules : Model → Bool → List Rule
+modelRules m arguments =
+    let bodies = bodyCount (m .bodies) in
+    let joints = jointCount (m .words) (m .numbers) in
+    rule 1 (atMost 128 bodies)
+    ∷ rule 2 (atMost 128 joints)
+    ∷ (jointRules (m .bodies) (m .words) joints
+    ++ (rule 6 (allFinite (m .params) (m .bodies) bodies (m .numbers) joints arguments) ∷ rule 7 (not (lt (m .params .dt) (bits 0))) ∷ []))
+
+-- rule 8, for a call that is handed row storage
+unfoldable pub storageRule : Model → List Float → Rule
+storageRule m rows = rule 8 (atMost (rowCapacity rows) (totalRows (m .words) (m .numbers)))
+
+-- rules 9 to 11, by call
+abbrev pub mostRounds : ℕ
+mostRounds = 1000
+
+unfoldable pub sweepRule : ℕ → Rule
+sweepRule n = rule 9 (atMost mostRounds n)
+
+unfoldable pub builtRule : Model → Rule
+builtRule m = rule 10 (m .built)
+
+-- a build that has both a warm coefficient and a substep above 0 reads the rows of the last build
+unfoldable pub readsRows : Warmstart → ℕ → Bool
+readsRows Cold substep = false
+readsRows (Warm coeff) substep = ltb 0 substep
+
+unfoldable pub seedsRule : Model → Warmstart → ℕ → Rule
+seedsRule m warm substep = rule 10 (m .built || not (readsRows warm substep))
+
+unfoldable pub bodyRule : Model → ℕ → Rule
+bodyRule m i = rule 11 (ltb i (bodyCount (m .bodies)))
+
+unfoldable pub jointRule : Model → ℕ → Rule
+jointRule m j = rule 11 (ltb j (jointCount (m .words) (m .numbers)))

@@ -1,0 +1,210 @@
+// The work on all joints, ascending. A joint's rows follow the earlier joints' rows, so the first row moves on by each joint's count.
+ghost use mathlib.Core.Path.{_≡_};
+ghost use Prim.Native.Nat.{_+_, _*_, _≤_};
+ghost use lib.ListN.{length};
+ghost use Rattle.rows.specs.Update.{rowsArray, blankRow};
+ghost use Rattle.model.specs.JointRows.{state};
+ghost use Rattle.model.specs.Model.{modelOf, Sound, Room, jointCount, totalRows};
+ghost use Rattle.model.specs.Calls.{eachJoint, rounds, buildOne, warmstartOne, sweepOne, sweepRound, removeBiasOne, writeBackOne, rowsFrom};
+use crate::counts::joint_count;
+use crate::header::Header;
+use crate::joint_rows::build_joint;
+use crate::joint_rows::count_at;
+use crate::joint_rows::remove_bias_joint;
+use crate::joint_rows::sweep_joint;
+use crate::joint_rows::warmstart_joint;
+use crate::joint_rows::write_back_joint;
+use crate::store::body1_at;
+use crate::store::body2_at;
+use crate::store::row_at;
+use floats::vector::Vector;
+use rows::joint_constraint_builder::Warmstart;
+use rows::joint_velocity_constraint::JointConstraint;
+use rows::joint_velocity_constraint::Rows;
+
+// The rows of all joints made anew; their number comes back.
+pub fn build_all(
+    header: Header,
+    bodies: &[f32],
+    words: &[u32],
+    numbers: &[f32],
+    rows: &mut [f32],
+    warmstart: Warmstart,
+    substep_id: u32,
+) -> usize
+    requires { ⌜ Sound (modelOf header (now bodies) (now words) (now numbers)) ⌝ }
+    requires { ⌜ Room (modelOf header (now bodies) (now words) (now numbers)) (now rows) ⌝ }
+    ensures { λ r. ⌜ (r ≡ totalRows (now (words .entry)) (now (numbers .entry))) × (now (rows .exit) ≡ eachJoint (buildOne (modelOf header (now (bodies .entry)) (now (words .entry)) (now (numbers .entry))) warmstart «substep_id») 0 (jointCount (now (words .entry)) (now (numbers .entry))) (now (rows .entry))) ⌝ }
+{
+    let n = joint_count(words, numbers);
+    let params = header.params;
+    let mut j = 0usize;
+    let mut first = 0usize;
+    while j < n {
+        first += build_joint(
+            params,
+            bodies,
+            words,
+            numbers,
+            j,
+            rows,
+            first,
+            warmstart,
+            substep_id,
+        );
+        j += 1;
+    }
+    first
+}
+
+// The warm start of all rows.
+pub fn warmstart_all(
+    header: Header,
+    bodies: &mut [f32],
+    words: &[u32],
+    numbers: &[f32],
+    rows: &[f32],
+)
+    requires { ⌜ Sound (modelOf header (now bodies) (now words) (now numbers)) ⌝ }
+    requires { ⌜ Room (modelOf header (now bodies) (now words) (now numbers)) (now rows) ⌝ }
+    ensures { λ _. ⌜ now (bodies .exit) ≡ eachJoint (warmstartOne (now (words .entry)) (now (rows .entry))) 0 (jointCount (now (words .entry)) (now (numbers .entry))) (now (bodies .entry)) ⌝ }
+{
+    let n = joint_count(words, numbers);
+    let mut j = 0usize;
+    let mut first = 0usize;
+    while j < n {
+        let count = count_at(words, j);
+        let b1 = body1_at(words, j);
+        let b2 = body2_at(words, j);
+        warmstart_joint(rows, first, count, bodies, b1, b2);
+        first += count;
+        j += 1;
+    }
+}
+
+// One round of a sweep.
+pub fn sweep_round(
+    header: Header,
+    bodies: &mut [f32],
+    words: &[u32],
+    numbers: &[f32],
+    rows: &mut [f32],
+)
+    requires { ⌜ Sound (modelOf header (now bodies) (now words) (now numbers)) ⌝ }
+    requires { ⌜ Room (modelOf header (now bodies) (now words) (now numbers)) (now rows) ⌝ }
+    ensures { λ _. ⌜ state (now (rows .exit)) (now (bodies .exit)) ≡ sweepRound (now (words .entry)) (jointCount (now (words .entry)) (now (numbers .entry))) (state (now (rows .entry)) (now (bodies .entry))) ⌝ }
+{
+    let n = joint_count(words, numbers);
+    let mut j = 0usize;
+    let mut first = 0usize;
+    while j < n {
+        let count = count_at(words, j);
+        let b1 = body1_at(words, j);
+        let b2 = body2_at(words, j);
+        sweep_joint(rows, first, count, bodies, b1, b2);
+        first += count;
+        j += 1;
+    }
+}
+
+// n rounds.
+pub fn sweep_all(
+    header: Header,
+    bodies: &mut [f32],
+    words: &[u32],
+    numbers: &[f32],
+    rows: &mut [f32],
+    n: u32,
+)
+    requires { ⌜ Sound (modelOf header (now bodies) (now words) (now numbers)) ⌝ }
+    requires { ⌜ Room (modelOf header (now bodies) (now words) (now numbers)) (now rows) ⌝ }
+    ensures { λ _. ⌜ state (now (rows .exit)) (now (bodies .exit)) ≡ rounds (sweepRound (now (words .entry)) (jointCount (now (words .entry)) (now (numbers .entry)))) n (state (now (rows .entry)) (now (bodies .entry))) ⌝ }
+{
+    let mut i = 0u32;
+    while i < n {
+        sweep_round(header, bodies, words, numbers, rows);
+        i += 1;
+    }
+}
+
+// All rows without their bias.
+pub fn remove_bias_all(
+    header: Header,
+    bodies: &[f32],
+    words: &[u32],
+    numbers: &[f32],
+    rows: &mut [f32],
+)
+    requires { ⌜ Room (modelOf header (now bodies) (now words) (now numbers)) (now rows) ⌝ }
+    ensures { λ _. ⌜ now (rows .exit) ≡ eachJoint (removeBiasOne (now (words .entry))) 0 (jointCount (now (words .entry)) (now (numbers .entry))) (now (rows .entry)) ⌝ }
+{
+    let n = joint_count(words, numbers);
+    let mut j = 0usize;
+    let mut first = 0usize;
+    while j < n {
+        let count = count_at(words, j);
+        remove_bias_joint(rows, first, count);
+        first += count;
+        j += 1;
+    }
+}
+
+// The impulses of all rows stored by their ids.
+pub fn write_back_all(
+    header: Header,
+    bodies: &[f32],
+    words: &[u32],
+    numbers: &mut [f32],
+    rows: &[f32],
+)
+    requires { ⌜ Room (modelOf header (now bodies) (now words) (now numbers)) (now rows) ⌝ }
+    ensures { λ _. ⌜ now (numbers .exit) ≡ eachJoint (writeBackOne (now (rows .entry)) (now (words .entry))) 0 (jointCount (now (words .entry)) (now (numbers .entry))) (now (numbers .entry)) ⌝ }
+{
+    let n = joint_count(words, numbers);
+    let mut j = 0usize;
+    let mut first = 0usize;
+    while j < n {
+        write_back_joint(rows, words, first, j, numbers);
+        first += count_at(words, j);
+        j += 1;
+    }
+}
+
+// A row of zeros.
+pub fn blank_row() -> JointConstraint
+    ensures { λ r. ⌜ r ≡ blankRow ⌝ }
+{
+    JointConstraint {
+        impulse: 0.0,
+        impulse_min: 0.0,
+        impulse_max: 0.0,
+        lin_jac: Vector { x: 0.0, y: 0.0 },
+        ang_jac1: 0.0,
+        ang_jac2: 0.0,
+        ii_ang_jac1: 0.0,
+        ii_ang_jac2: 0.0,
+        inv_lhs: 0.0,
+        rhs: 0.0,
+        rhs_wo_bias: 0.0,
+        cfm_gain: 0.0,
+        cfm_coeff: 0.0,
+        im1: Vector { x: 0.0, y: 0.0 },
+        im2: Vector { x: 0.0, y: 0.0 },
+    }
+}
+
+// n rows from row k on, at most six, as an array.
+pub fn rows_from(rows: &[f32], k: usize, n: usize) -> Rows
+    requires { ⌜ n ≤ 6 ⌝ }
+    requires { ⌜ (k + n) * 18 ≤ length (now rows) ⌝ }
+    ensures { λ r. ⌜ r ≡ rowsArray (rowsFrom (now (rows .entry)) k n) ⌝ }
+{
+    let blank = blank_row();
+    let mut out = [blank; 6];
+    let mut i = 0usize;
+    while i < n {
+        out[i] = row_at(rows, k + i);
+        i += 1;
+    }
+    Rows { rows: out, len: n }
+}

@@ -1,0 +1,45 @@
+// How many bodies, joints and rows a storage holds, and where a joint's rows begin.
+ghost use mathlib.Core.Path.{_≡_};
+ghost use Prim.Native.Nat.{_*_, _≤_};
+ghost use lib.ListN.{length};
+ghost use Rattle.model.specs.Model.{bodyCount, jointCount, rowCapacity, rowsBefore};
+use crate::joint_rows::count_at;
+
+// The number of bodies, and of rows that a storage has room for: whole records.
+pub fn body_count(bodies: &[f32]) -> usize
+    ensures { λ r. ⌜ r ≡ bodyCount (now (bodies .entry)) ⌝ }
+{
+    bodies.len() / 10
+}
+
+pub fn row_capacity(rows: &[f32]) -> usize
+    ensures { λ r. ⌜ r ≡ rowCapacity (now (rows .entry)) ⌝ }
+{
+    rows.len() / 18
+}
+
+// The number of joints: a joint is there where both its words and its numbers are.
+pub fn joint_count(words: &[u32], numbers: &[f32]) -> usize
+    ensures { λ r. ⌜ r ≡ jointCount (now (words .entry)) (now (numbers .entry)) ⌝ }
+{
+    let a = words.len() / 9;
+    let b = numbers.len() / 42;
+    if a < b {
+        return a;
+    }
+    b
+}
+
+// The rows of the first j joints together: where joint j's rows begin.
+pub fn rows_before(words: &[u32], j: usize) -> usize
+    requires { ⌜ j * 9 ≤ length (now words) ⌝ }
+    ensures { λ r. ⌜ r ≡ rowsBefore (now (words .entry)) j ⌝ }
+{
+    let mut i = 0usize;
+    let mut first = 0usize;
+    while i < j {
+        first += count_at(words, i);
+        i += 1;
+    }
+    first
+}

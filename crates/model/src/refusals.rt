@@ -1,0 +1,355 @@
+// Document 01's rules 1 to 8, each tried on the whole of what a call is handed before the next.
+ghost use mathlib.Core.Path.{_≡_};
+ghost use mathlib.Core.List.{[], _∷_, _++_};
+ghost use Prim.Native.Nat.{_+_, _*_, _≤_};
+ghost use lib.ListN.{length};
+ghost use lib.Ieee.{isNan};
+ghost use Rattle.model.specs.Model.{modelOf};
+ghost use Rattle.model.specs.Refusals.{refusal, all, masksFit, presentOrWorld, bodiesPresent, bodiesApart, finiteFrom, noNanFrom, finiteParams, finitePose, finiteWarm, finiteBody, finiteMotor, limitEnds, finiteMotors, finiteJoint, allFinite, jointRules, modelRules, storageRule};
+use crate::counts::body_count;
+use crate::counts::joint_count;
+use crate::counts::row_capacity;
+use crate::counts::rows_before;
+use crate::header::Header;
+use crate::store::WORLD;
+use crate::store::body1_at;
+use crate::store::body2_at;
+use floats::pose::Pose;
+use floats::scalar::is_finite;
+use rows::integration_parameters::IntegrationParameters;
+use rows::joint_constraint_builder::Warmstart;
+
+// ---- rules 3, 4 and 5
+
+fn masks_fit(words: &[u32], j: usize) -> bool
+    requires { ⌜ j * 9 + 9 ≤ length (now words) ⌝ }
+    ensures { λ r. ⌜ r ≡ masksFit (now (words .entry)) j ⌝ }
+{
+    let o = j * 9 + 2;
+    let mut c = 0usize;
+    while c < 4 {
+        if words[o + c] > 7 {
+            return false;
+        }
+        c += 1;
+    }
+    true
+}
+
+fn all_masks_fit(words: &[u32], n: usize) -> bool
+    requires { ⌜ n * 9 ≤ length (now words) ⌝ }
+    ensures { λ r. ⌜ r ≡ all 0 n (masksFit (now (words .entry))) ⌝ }
+{
+    let mut j = 0usize;
+    while j < n {
+        if !masks_fit(words, j) {
+            return false;
+        }
+        j += 1;
+    }
+    true
+}
+
+fn present_or_world(bodies: &[f32], i: u32) -> bool
+    ensures { λ r. ⌜ r ≡ presentOrWorld (now (bodies .entry)) i ⌝ }
+{
+    if i == WORLD {
+        return true;
+    }
+    (i as usize) < body_count(bodies)
+}
+
+fn bodies_present(bodies: &[f32], words: &[u32], j: usize) -> bool
+    requires { ⌜ j * 9 + 9 ≤ length (now words) ⌝ }
+    ensures { λ r. ⌜ r ≡ bodiesPresent (now (bodies .entry)) (now (words .entry)) j ⌝ }
+{
+    if !present_or_world(bodies, body1_at(words, j)) {
+        return false;
+    }
+    present_or_world(bodies, body2_at(words, j))
+}
+
+fn all_bodies_present(bodies: &[f32], words: &[u32], n: usize) -> bool
+    requires { ⌜ n * 9 ≤ length (now words) ⌝ }
+    ensures { λ r. ⌜ r ≡ all 0 n (bodiesPresent (now (bodies .entry)) (now (words .entry))) ⌝ }
+{
+    let mut j = 0usize;
+    while j < n {
+        if !bodies_present(bodies, words, j) {
+            return false;
+        }
+        j += 1;
+    }
+    true
+}
+
+fn all_bodies_apart(words: &[u32], n: usize) -> bool
+    requires { ⌜ n * 9 ≤ length (now words) ⌝ }
+    ensures { λ r. ⌜ r ≡ all 0 n (bodiesApart (now (words .entry))) ⌝ }
+{
+    let mut j = 0usize;
+    while j < n {
+        if body1_at(words, j) == body2_at(words, j) {
+            return false;
+        }
+        j += 1;
+    }
+    true
+}
+
+// ---- rule 6
+
+// n numbers from place o on.
+fn finite_from(s: &[f32], o: usize, n: usize) -> bool
+    requires { ⌜ o + n ≤ length (now s) ⌝ }
+    ensures { λ r. ⌜ r ≡ finiteFrom (now (s .entry)) o n ⌝ }
+{
+    let mut i = 0usize;
+    while i < n {
+        if !is_finite(s[o + i]) {
+            return false;
+        }
+        i += 1;
+    }
+    true
+}
+
+// A NaN alone differs from itself.
+fn is_nan(x: f32) -> bool
+    ensures { λ r. ⌜ r ≡ isNan x ⌝ }
+{
+    x != x
+}
+
+fn no_nan_from(s: &[f32], o: usize, n: usize) -> bool
+    requires { ⌜ o + n ≤ length (now s) ⌝ }
+    ensures { λ r. ⌜ r ≡ noNanFrom (now (s .entry)) o n ⌝ }
+{
+    let mut i = 0usize;
+    while i < n {
+        if is_nan(s[o + i]) {
+            return false;
+        }
+        i += 1;
+    }
+    true
+}
+
+pub fn finite_params(p: IntegrationParameters) -> bool
+    ensures { λ r. ⌜ r ≡ finiteParams p ⌝ }
+{
+    if !is_finite(p.dt) {
+        return false;
+    }
+    if !is_finite(p.length_unit) {
+        return false;
+    }
+    is_finite(p.normalized_max_corrective_velocity)
+}
+
+pub fn finite_pose(p: Pose) -> bool
+    ensures { λ r. ⌜ r ≡ finitePose p ⌝ }
+{
+    if !is_finite(p.rotation.re) {
+        return false;
+    }
+    if !is_finite(p.rotation.im) {
+        return false;
+    }
+    if !is_finite(p.translation.x) {
+        return false;
+    }
+    is_finite(p.translation.y)
+}
+
+pub fn finite_warm(warmstart: Warmstart) -> bool
+    ensures { λ r. ⌜ r ≡ finiteWarm warmstart ⌝ }
+{
+    match warmstart {
+        Warmstart::Cold => true,
+        Warmstart::Warm(coeff) => is_finite(coeff),
+    }
+}
+
+fn all_finite_bodies(bodies: &[f32], n: usize) -> bool
+    requires { ⌜ n * 10 ≤ length (now bodies) ⌝ }
+    ensures { λ r. ⌜ r ≡ all 0 n (finiteBody (now (bodies .entry))) ⌝ }
+{
+    let mut i = 0usize;
+    while i < n {
+        if !finite_from(bodies, i * 10, 7) {
+            return false;
+        }
+        i += 1;
+    }
+    true
+}
+
+fn finite_motor(s: &[f32], o: usize) -> bool
+    requires { ⌜ o + 6 ≤ length (now s) ⌝ }
+    ensures { λ r. ⌜ r ≡ finiteMotor (now (s .entry)) o ⌝ }
+{
+    if !finite_from(s, o, 4) {
+        return false;
+    }
+    no_nan_from(s, o + 4, 1)
+}
+
+// Of a joint whose numbers start at place o, the ends of its limits, and its motors.
+fn limit_ends(s: &[f32], o: usize) -> bool
+    requires { ⌜ o + 42 ≤ length (now s) ⌝ }
+    ensures { λ r. ⌜ r ≡ limitEnds (now (s .entry)) o ⌝ }
+{
+    if !no_nan_from(s, o + 8, 2) {
+        return false;
+    }
+    if !no_nan_from(s, o + 11, 2) {
+        return false;
+    }
+    no_nan_from(s, o + 14, 2)
+}
+
+fn finite_motors(s: &[f32], o: usize) -> bool
+    requires { ⌜ o + 42 ≤ length (now s) ⌝ }
+    ensures { λ r. ⌜ r ≡ finiteMotors (now (s .entry)) o ⌝ }
+{
+    if !finite_motor(s, o + 17) {
+        return false;
+    }
+    if !finite_motor(s, o + 23) {
+        return false;
+    }
+    finite_motor(s, o + 29)
+}
+
+fn finite_joint(s: &[f32], j: usize) -> bool
+    requires { ⌜ j * 42 + 42 ≤ length (now s) ⌝ }
+    ensures { λ r. ⌜ r ≡ finiteJoint (now (s .entry)) j ⌝ }
+{
+    let o = j * 42;
+    if !finite_from(s, o, 8) {
+        return false;
+    }
+    if !limit_ends(s, o) {
+        return false;
+    }
+    if !finite_motors(s, o) {
+        return false;
+    }
+    if !finite_from(s, o + 35, 2) {
+        return false;
+    }
+    finite_from(s, o + 40, 2)
+}
+
+fn all_finite_joints(numbers: &[f32], n: usize) -> bool
+    requires { ⌜ n * 42 ≤ length (now numbers) ⌝ }
+    ensures { λ r. ⌜ r ≡ all 0 n (finiteJoint (now (numbers .entry))) ⌝ }
+{
+    let mut j = 0usize;
+    while j < n {
+        if !finite_joint(numbers, j) {
+            return false;
+        }
+        j += 1;
+    }
+    true
+}
+
+// The whole of rule 6. `arguments`: the call's own numbers are finite.
+fn all_finite(
+    params: IntegrationParameters,
+    bodies: &[f32],
+    n: usize,
+    numbers: &[f32],
+    joints: usize,
+    arguments: bool,
+) -> bool
+    requires { ⌜ n * 10 ≤ length (now bodies) ⌝ }
+    requires { ⌜ joints * 42 ≤ length (now numbers) ⌝ }
+    ensures { λ r. ⌜ r ≡ allFinite params (now (bodies .entry)) n (now (numbers .entry)) joints arguments ⌝ }
+{
+    if !finite_params(params) {
+        return false;
+    }
+    if !all_finite_bodies(bodies, n) {
+        return false;
+    }
+    if !all_finite_joints(numbers, joints) {
+        return false;
+    }
+    arguments
+}
+
+// ---- the rules in order
+
+// Rules 3 to 5.
+fn joints_refusal(bodies: &[f32], words: &[u32], n: usize) -> u32
+    requires { ⌜ n * 9 ≤ length (now words) ⌝ }
+    ensures { λ r. ⌜ r ≡ refusal (jointRules (now (bodies .entry)) (now (words .entry)) n) ⌝ }
+{
+    if !all_masks_fit(words, n) {
+        return 3;
+    }
+    if !all_bodies_present(bodies, words, n) {
+        return 4;
+    }
+    if !all_bodies_apart(words, n) {
+        return 5;
+    }
+    0
+}
+
+// The number of the first of rules 1 to 7 that fails, or 0. `arguments`: the call's own numbers are finite.
+pub fn model_refusal(
+    header: Header,
+    bodies: &[f32],
+    words: &[u32],
+    numbers: &[f32],
+    arguments: bool,
+) -> u32
+    ensures { λ r. ⌜ r ≡ refusal (modelRules (modelOf header (now (bodies .entry)) (now (words .entry)) (now (numbers .entry))) arguments) ⌝ }
+{
+    let params = header.params;
+    let n = body_count(bodies);
+    let joints = joint_count(words, numbers);
+    if n > 128 {
+        return 1;
+    }
+    if joints > 128 {
+        return 2;
+    }
+    let k = joints_refusal(bodies, words, joints);
+    if k != 0 {
+        return k;
+    }
+    if !all_finite(params, bodies, n, numbers, joints, arguments) {
+        return 6;
+    }
+    if params.dt < 0.0 {
+        return 7;
+    }
+    0
+}
+
+// Rules 1 to 8, for a call that is handed row storage.
+pub fn storage_refusal(
+    header: Header,
+    bodies: &[f32],
+    words: &[u32],
+    numbers: &[f32],
+    rows: &[f32],
+    arguments: bool,
+) -> u32
+    ensures { λ r. ⌜ r ≡ refusal (modelRules (modelOf header (now (bodies .entry)) (now (words .entry)) (now (numbers .entry))) arguments ++ (storageRule (modelOf header (now (bodies .entry)) (now (words .entry)) (now (numbers .entry))) (now (rows .entry)) ∷ [])) ⌝ }
+{
+    let k = model_refusal(header, bodies, words, numbers, arguments);
+    if k != 0 {
+        return k;
+    }
+    let joints = joint_count(words, numbers);
+    if rows_before(words, joints) > row_capacity(rows) {
+        return 8;
+    }
+    0
+}
