@@ -27,6 +27,7 @@ use Rattle.model.specs.Calls.Call.{load, place, build, warmStart, sweep,
 use Rattle.model.specs.Calls.Answer.{refused}
 use Rattle.model.specs.Calls.{Call, Outcome, outcome, rulesOf, grantedOf, run, eachJoint, rounds, buildOne, warmstartOne, sweepOne, sweepRound, removeBiasOne, writeBackOne}
 use Rattle.model.proofs.Strided.{length-puts, num-beside, num-other, num-stored}
+use Rattle.model.proofs.CallLaws.{run-granted, run-refused}
 use Rattle.model.proofs.RefusalLaws.{by-cases, both, Numbered, Hold, all-hold, refused-append, all-at, all-below, all-cong, all-intro, RulesHold, arguments-finite, rules-rest}
 use Rattle.model.proofs.CountLaws.{body-there}
 use Rattle.model.proofs.StoreLaws.{length-putRow, length-putPose, length-putSeed, num-putSeed-kept, num-putSeed-other, putSeed-past}
@@ -375,19 +376,11 @@ granted-own m arguments rest h n e =
     (f, all-hold rest n (sym (rules-rest m arguments h f rest) ∙ e))
 
 module _ (c : Call) (m : Model) (rows : List Float) where
-  pub run-granted : refusal (rulesOf c m rows) ≡ 0 → run c m rows ≡ grantedOf c m rows
-  unfolding run
-  run-granted e = rw e
-
-  pub run-refused : refusal (rulesOf c m rows) ≢ 0 → run c m rows ≡ outcome (refused (refusal (rulesOf c m rows))) m rows
-  unfolding run
-  run-refused ne = rw (ne-eqb (refusal (rulesOf c m rows)) 0 ne)
-
   -- what is so of the granted call and of the refused one
   pub run-cases : (P : Outcome → Type 0) → (refusal (rulesOf c m rows) ≡ 0 → P (grantedOf c m rows)) → P (outcome (refused (refusal (rulesOf c m rows))) m rows) → P (run c m rows)
   run-cases P g r =
       let k = refusal (rulesOf c m rows) in
-      by-cases (eqb k 0) (λ t. let e = eqb-true k 0 t in rw (run-granted e) (g e)) (λ t. rw (run-refused (eqb-false k 0 t)) r)
+      by-cases (eqb k 0) (λ t. let e = eqb-true k 0 t in rw (← (run-granted c m rows e)) (g e)) (λ t. rw (← (run-refused c m rows refl (eqb-false k 0 t))) r)
 
 -- a placed body is there, and its new pose is finite
 placed-body : (m : Model) (rows : List Float) (i : ℕ) (p : Pose) → RulesHold m → refusal (rulesOf (place i p) m rows) ≡ 0 → (finitePose p ≡ true) × (i < bodyCount (m .bodies))

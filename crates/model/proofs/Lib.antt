@@ -6,6 +6,7 @@ pub mod CountLaws
 pub mod RefusalLaws
 pub mod AllJointsLaws
 pub mod CallLaws
+pub mod RefusedExactly
 pub mod StoredRows
 pub mod SameStudies
 pub mod Apart

@@ -4,7 +4,7 @@
 use Prim.Native.Nat.{ℕ, zero, suc, _+_, _-_, _≤_, _<_}
 use mathlib.Core.Path.{_≡_, refl, sym, ap, _∙_}
 use mathlib.Core.Bool.{Bool, true, false, not, cond, _&&_, false≢true}
-use mathlib.Core.List.{List, [], _∷_, _++_, append-assoc}
+use mathlib.Core.List.{List, [], _∷_, _++_}
 use mathlib.Core.Logic.{_≢_, ⊎-elim}
 use native.Mathlib.Nat.{add-assoc, eq-or-lt-of-le}
 use native.Mathlib.Omega.{arith}
@@ -99,13 +99,6 @@ refusal-append qs rs n =
     by-cases (eqb (refusal qs) 0)
     (λ t. rw t (granted-append qs rs n (eqb-true (refusal qs) 0 t)))
     (λ t. rw t (refused-append qs rs (eqb-false (refusal qs) 0 t)))
-
--- granted by all rules: by the first ones, and by the others
-pub granted-split : (qs rs : List Rule) → Numbered qs → refusal (qs ++ rs) ≡ 0 → (refusal qs ≡ 0) × (refusal rs ≡ 0)
-granted-split qs rs n e =
-    by-cases (eqb (refusal qs) 0)
-    (λ t. let z = eqb-true (refusal qs) 0 t in (z, sym (granted-append qs rs n z) ∙ e))
-    (λ t. let z = eqb-false (refusal qs) 0 t in absurd (z (sym (refused-append qs rs z) ∙ e)))
 
 -- refused with k exactly where the rule of number k is the first that fails
 pub refused-first : (k : ℕ) (rs : List Rule) → refusal rs ≡ k → k ≢ 0 → First k rs
@@ -317,23 +310,3 @@ pub room-of : (m : Model) (rows : List Float) → refusal (storageRule m rows �
 unfolding storageRule
 room-of m rows e =
     at-most (rowCapacity rows) (totalRows (m .words) (m .numbers)) (all-hold (storageRule m rows ∷ []) (omega arith) e .0)
-
--- ---- rules 1 to 8, and what follows them
-
-module _ (m : Model) (arguments : Bool) (rows : List Float) where
-  abbrev pub firstEight : List Rule
-  firstEight = modelRules m arguments ++ (storageRule m rows ∷ [])
-
-  pub eight-rest : (rest : List Rule) → refusal firstEight ≡ 0 → refusal (modelRules m arguments ++ (storageRule m rows ∷ rest)) ≡ refusal rest
-  eight-rest rest e =
-      ap refusal (sym (append-assoc (modelRules m arguments) (storageRule m rows ∷ []) rest)) ∙ granted-append firstEight rest (storage-numbered m arguments rows) e
-
-  pub eight-refused : (rest : List Rule) → refusal firstEight ≢ 0 → refusal (modelRules m arguments ++ (storageRule m rows ∷ rest)) ≡ refusal firstEight
-  eight-refused rest n =
-      ap refusal (sym (append-assoc (modelRules m arguments) (storageRule m rows ∷ []) rest)) ∙ refused-append firstEight rest n
-
-  -- where they hold, the work on all joints may begin
-  pub eight-sound : refusal firstEight ≡ 0 → Sound m × Room m rows
-  eight-sound e =
-      let s = granted-split (modelRules m arguments) (storageRule m rows ∷ []) (model-numbered m arguments) e in
-      (sound-of m arguments (s .0), room-of m rows (s .1))

@@ -36,7 +36,8 @@ use Rattle.model.specs.Studies.{Study, Given, handed, outcomeAt, next, a
 use Rattle.model.proofs.StoreLaws.{withPose, solverPoseAt-cong, solverPoseAt-putPose, solverPoseAt-putPose-other, velAt-putPose, length-putPose}
 use Rattle.model.proofs.CountLaws.{body-there}
 use Rattle.model.proofs.RefusalLaws.{by-cases, RulesHold, rules-hold, sound-held}
-use Rattle.model.proofs.Keeps.{SamePoses, warm-keeps, sweep-keeps, back-keeps, granted-front, granted-own, run-granted, run-refused, run-cases, run-holds}
+use Rattle.model.proofs.CallLaws.{run-granted, run-refused}
+use Rattle.model.proofs.Keeps.{SamePoses, warm-keeps, sweep-keeps, back-keeps, granted-front, granted-own, run-cases, run-holds}
 use Rattle.model.proofs.SameStudies.{RowsSame, VelsSame}
 use Rattle.model.proofs.Agrees.{mine-before, contents-stay, agree-after}
 use Rattle.model.proofs.WriteBackApart.{write-back-agrees}
@@ -127,10 +128,10 @@ module _ (set : ℕ → Bool) (made : Type 0) (m m′ : Model) (rows rows′ : L
       by-cases (eqb (refusal (rulesOf c m rows)) 0)
       (λ t.
       let z = eqb-true (refusal (rulesOf c m rows)) 0 t in
-      rw (run-granted c m rows z, run-granted c m′ rows′ (sym e ∙ z)) (g z))
+      rw (← (run-granted c m rows z), ← (run-granted c m′ rows′ (sym e ∙ z))) (g z))
       (λ t.
       let n = eqb-false (refusal (rulesOf c m rows)) 0 t in
-      rw (run-refused c m rows n, run-refused c m′ rows′ (λ z. n (e ∙ z)))
+      rw (← (run-refused c m rows refl n), ← (run-refused c m′ rows′ refl (λ z. n (e ∙ z))))
       (record { beside = b; answer = same-answer set m c _ _ (λ _. ap refused e) }))
 
   -- the models with other marks and bodies, where the set's bodies are still equal
@@ -315,7 +316,7 @@ module _ (set : ℕ → Bool) (made : Type 0) (m m′ : Model) (rows rows′ : L
   turn (place i pose) r d = by-cases (set i) (λ s. alike (place i pose) s r (λ z. place-next i pose s)) (λ s. place-outside i pose s)
   turn (build warm substep) r d =
       alike (build warm substep) tt r
-      (λ z. build-next (r refl .0) (r refl .1) (d _ (ap (λ (o : Outcome). o .answer) (run-granted (build warm substep) m rows z))) warm substep z)
+      (λ z. build-next (r refl .0) (r refl .1) (d _ (ap (λ (o : Outcome). o .answer) (sym (run-granted (build warm substep) m rows z)))) warm substep z)
   turn warmStart r d = alike warmStart tt r (λ z. warm-next (r refl .0) (r refl .1) (built-work m rows h z))
   turn (sweep n) r d = alike (sweep n) tt r (λ z. sweep-next (r refl .0) (r refl .1) n (built-sweep m rows h n z))
   turn removeBias r d = alike removeBias tt r (λ z. bias-next (r refl .0) (r refl .1))
@@ -378,9 +379,9 @@ loaded-start s l =
     (λ t.
     let z = eqb-true k 0 t in
     let h = rules-hold m true (granted-front (modelRules m true) (storageRule m (s .rows) ∷ []) z) in
-    (rw (l .left) at (run-holds load m (s .rows) h), ap (λ (o : Outcome). o .after .built) (sym (l .left) ∙ run-granted load m (s .rows) z)))
+    (rw (l .left) at (run-holds load m (s .rows) h), ap (λ (o : Outcome). o .after .built) (sym (l .left) ∙ sym (run-granted load m (s .rows) z))))
     (λ t.
-    let e : refused k ≡ granted = ap (λ (o : Outcome). o .answer) (sym (run-refused load m (s .rows) (eqb-false k 0 t)) ∙ l .left) in
+    let e : refused k ≡ granted = ap (λ (o : Outcome). o .answer) (run-refused load m (s .rows) refl (eqb-false k 0 t) ∙ l .left) in
     let z : _≡_ {A = ℕ} 0 1 = cc in
     absurd (omega arith))
 
