@@ -11,6 +11,7 @@ use Rattle.rows.specs.RowIds.{filled}
 use Rattle.rows.specs.Update.{rowsArray, blankRow}
 use Rattle.rows.specs.declared.joint_velocity_constraint.JointConstraint.{JointConstraint}
 use Rattle.rows.specs.declared.joint_velocity_constraint.Rows.{Rows}
+use Rattle.rows.proofs.RowArrays.{rowsArray-filled}
 use Rattle.model.specs.Store.{rowAt}
 use Rattle.model.specs.JointRows.{rowCount}
 use Rattle.model.specs.Model.{Model, withBodies, Sound, bodyCount, jointCount, rowCapacity, rowsBefore, totalRows}
@@ -104,5 +105,4 @@ no-rows s k = refl
 -- the array, once it holds n rows
 pub rows-array : (s : List Float) (k n : ℕ) {out : List JointConstraint} → out ≡ filled 6 blankRow (rowsFrom s k n)
     → _≡_ {A = Rows} (record { rows = out; len = n }) (rowsArray (rowsFrom s k n))
-unfolding rowsArray
-rows-array s k n e = cc (length-rowsFrom s k n)
+rows-array s k n e = cc (rowsArray-filled (rowsFrom s k n), length-rowsFrom s k n)

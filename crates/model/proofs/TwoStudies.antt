@@ -16,15 +16,10 @@ use lib.Dec.{eqb}
 use lib.ListN.{length}
 use lib.Ieee.{Float}
 use Rattle.floats.specs.declared.pose.Pose.{Pose}
-use Rattle.rows.specs.Named.{Names, SameNamed}
-use Rattle.rows.specs.Builder.{seedOf}
-use Rattle.rows.specs.declared.generic_joint.JointLimits.{JointLimits}
-use Rattle.rows.specs.declared.generic_joint.JointMotor.{JointMotor}
-use Rattle.rows.specs.declared.joint_constraint_builder.ImpulseJoint.{ImpulseJoint}
 use Rattle.rows.specs.declared.joint_constraint_builder.SolverPose.{SolverPose}
 use Rattle.rows.specs.declared.joint_constraint_builder.Warmstart.{Warmstart}
 use Rattle.rows.specs.declared.joint_velocity_constraint.WritebackId.{WritebackId}
-use Rattle.rows.specs.declared.joint_velocity_constraint.WritebackId.the-variants.{Dof, Limit, Motor}
+use Rattle.rows.proofs.WritebackNamed.{named-seeds}
 use Rattle.model.specs.Store.{world, solverPoseAt, velAt, putPose, jointAt, masksAt}
 use Rattle.model.specs.JointRows.{State, state}
 use Rattle.model.specs.Model.{Model, model, withBodies, jointCount, Sound, Room}
@@ -384,13 +379,6 @@ loaded-start s l =
     let e : refused k ≡ granted = ap (λ (o : Outcome). o .answer) (run-refused load m (s .rows) refl (eqb-false k 0 t) ∙ l .left) in
     let z : _≡_ {A = ℕ} 0 1 = cc in
     absurd (omega arith))
-
--- the stored impulses that two joints name
-named-seeds : (a b : ImpulseJoint) → SameNamed a b → (id : WritebackId) → Names (a .«data» .masks) id → seedOf a id ≡ seedOf b id
-unfolding seedOf
-named-seeds a b s (Dof i) n = s .dof i n
-named-seeds a b s (Limit i) n = ap (λ (l : JointLimits). l .impulse) (s .limits i n)
-named-seeds a b s (Motor i) n = ap (λ (l : JointMotor). l .impulse) (s .motor i n)
 
 together-shared : (set : ℕ → Bool) (made : Type 0) (s s′ : Study) → Together set made s s′ → Shared set made s s′
 unfolding jointAt masksAt

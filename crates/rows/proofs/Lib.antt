@@ -16,3 +16,4 @@ pub mod WritebackKinds
 pub mod StoredImpulses
 pub mod Cases
 pub mod NamedRows
+pub mod WritebackNamed

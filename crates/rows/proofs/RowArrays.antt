@@ -34,6 +34,11 @@ use Rattle.rows.proofs.BuilderLaws.{first-reads-no-row, cold}
 -- ---- the array of rows
 
 module _ (l : List JointConstraint) where
+  -- the array as it is filled
+  pub rowsArray-filled : rowsArray l ≡ record { rows = filled 6 blankRow l; len = length l }
+  unfolding rowsArray
+  rowsArray-filled = refl
+
   pub rowsArray-len : rowsArray l .len ≡ length l
   unfolding rowsArray
   rowsArray-len = refl

@@ -1,6 +1,7 @@
 -- `no_rows` meets its contract: an array of blank rows, and the ids of no axes.
 use mathlib.Core.Path.{refl}
-use Rattle.rows.specs.Update.{rowsArray}
+use mathlib.Core.List.{[]}
+use Rattle.rows.proofs.RowArrays.{rowsArray-filled}
 use borrow.Author.Needs.{needs}
 use Rattle.model.proofs.calls.no_rows.Statement.{statement}
 use Rattle.model.proofs.calls.no_rows.Tie as tie
@@ -12,8 +13,7 @@ row-ids-requires : tie.Need-row-ids-requires
 row-ids-requires c κs = search needs
 
 returns : tie.Need-returns
-unfolding rowsArray
-returns c = rw (c .before .blank-row .ensures, c .row-ids .ensures)
+returns c = rw (rowsArray-filled [], c .before .blank-row .ensures, c .row-ids .ensures)
 
 pub no-rows-spec : {M : Type 1} → statement M
 no-rows-spec = tie.close (tie.spec blank-row-requires row-ids-requires returns)
