@@ -36,11 +36,11 @@ pub fn build_all(
     requires { ⌜ Room (modelOf header (now bodies) (now words) (now numbers)) (now rows) ⌝ }
     ensures { λ r. ⌜ (r ≡ totalRows (now (words .entry)) (now (numbers .entry))) × (now (rows .exit) ≡ eachJoint (buildOne (modelOf header (now (bodies .entry)) (now (words .entry)) (now (numbers .entry))) warmstart «substep_id») 0 (jointCount (now (words .entry)) (now (numbers .entry))) (now (rows .entry))) ⌝ }
 {
-    let n = joint_count(words, numbers);
+    let joints = joint_count(words, numbers);
     let params = header.params;
     let mut j = 0usize;
     let mut first = 0usize;
-    while j < n {
+    while j < joints {
         first += build_joint(
             params,
             bodies,
@@ -120,10 +120,10 @@ pub fn sweep_all(
     requires { ⌜ Room (modelOf header (now bodies) (now words) (now numbers)) (now rows) ⌝ }
     ensures { λ _. ⌜ state (now (rows .exit)) (now (bodies .exit)) ≡ rounds (sweepRound (now (words .entry)) (jointCount (now (words .entry)) (now (numbers .entry)))) n (state (now (rows .entry)) (now (bodies .entry))) ⌝ }
 {
-    let mut i = 0u32;
-    while i < n {
+    let mut round = 0u32;
+    while round < n {
         sweep_round(header, bodies, words, numbers, rows);
-        i += 1;
+        round += 1;
     }
 }
 

@@ -1,4 +1,4 @@
--- `sweep_all` meets its contract, a round a turn: before turn i, the rounds that are left give what all n gave at the start.
+-- `sweep_all` meets its contract, a round a turn: before each turn, the rounds that are left give what all n gave at the start.
 use Prim.Native.Nat.{_-_, _≤_}
 use mathlib.Core.Path.{_≡_, refl, sym, _∙_}
 use native.Mathlib.Nat.{sub-zero}
@@ -28,8 +28,8 @@ sweep-round-requires c κs =
     let st = lp .before .before .before .before .before in
     (still-sound _ _ (lp .loop .inv .1) (st .pre .0), still-room _ _ (lp .loop .inv .2) (st .pre .1))
 
-add-i : tie.Need-add-i Inv-loop μ-loop
-add-i c = search needs
+add-round : tie.Need-add-round Inv-loop μ-loop
+add-round c = search needs
 
 loop-less : tie.Need-loop-less Inv-loop μ-loop
 loop-less c = search needs
@@ -62,7 +62,7 @@ sweep-all-spec =
     μ-loop
     loop-holds
     sweep-round-requires
-    add-i
+    add-round
     loop-less
     loop-again
     same-length
