@@ -7,12 +7,16 @@
 //!                                   it, by the oracle
 //!   model answers                   a fixed list of calls with the oracle's answers
 //!   model replay < ANSWERS          the answers again, by each side that is there
+//!   model bench                     the same work by the Rust and by the Rattle library, timed
 //!   model rendering SEED CALLS      against the second rendering
 //!   model fault NUMBER SEED CALLS   against the second rendering with one fault
 //!   model faults SEED CALLS PAIRS   each fault in turn: how many calls show it, how many pairs
 
 #[path = "model/answers.rs"]
 mod answers;
+#[cfg(rattle)]
+#[path = "model/bench.rs"]
+mod bench;
 mod bits;
 #[path = "model/cases.rs"]
 mod cases;
@@ -74,6 +78,8 @@ fn main() {
                 println!("{agree} lines agree by {name}");
             }
         }
+        #[cfg(rattle)]
+        Some("bench") => bench::bench(),
         Some("rendering") => run::compare(library::RENDERING, number(1, 1), number(2, calls)),
         Some("fault") => {
             let fault = number(1, 0);
@@ -87,8 +93,8 @@ fn main() {
         Some("faults") => run::faults(number(1, 1), number(2, calls), number(3, 1_000)),
         _ => {
             eprintln!(
-                "model: cases | compare SEED CALLS | pairs SEED COUNT | answers | replay | rendering SEED CALLS | \
-                 fault NUMBER SEED CALLS | faults SEED CALLS PAIRS"
+                "model: cases | compare SEED CALLS | pairs SEED COUNT | answers | replay | bench | \
+                 rendering SEED CALLS | fault NUMBER SEED CALLS | faults SEED CALLS PAIRS"
             );
             exit(2)
         }

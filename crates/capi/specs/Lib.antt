@@ -1,2 +1,3 @@
+pub mod CallExports
 pub mod Exports
 pub mod JointExports

@@ -55,7 +55,7 @@ fn vel_at(vels: &[f32], at: usize) -> SolverVel
 }
 
 // Three numbers, stored from `at` on.
-fn put_three(out: &mut [f32], at: usize, a: f32, b: f32, c: f32)
+pub fn put_three(out: &mut [f32], at: usize, a: f32, b: f32, c: f32)
     requires { ⌜ at + 2 < length (now out) ⌝ }
     ensures { λ _. ⌜ now (out .exit) ≡ putThree (now (out .entry)) at a b c ⌝ }
 {
@@ -381,7 +381,7 @@ fn put_if(rows: &mut [f32], k: usize, n: usize, row: JointConstraint)
     }
 }
 
-fn put_first(rows: &mut [f32], made: Rows)
+pub fn put_first(rows: &mut [f32], made: Rows)
     requires { ⌜ 108 ≤ length (now rows) ⌝ }
     ensures { λ _. ⌜ now (rows .exit) ≡ putFirst (now (rows .entry)) made ⌝ }
 {
@@ -418,7 +418,7 @@ fn put_id(ids: &mut [u32], k: usize, n: usize, named: RowId)
     }
 }
 
-fn put_ids(ids: &mut [u32], named: RowIds)
+pub fn put_ids(ids: &mut [u32], named: RowIds)
     requires { ⌜ 6 ≤ length (now ids) ⌝ }
     ensures { λ _. ⌜ now (ids .exit) ≡ putIds (now (ids .entry)) named ⌝ }
 {

@@ -28,6 +28,7 @@ use floats::utils::simd_inv;
 use floats::utils::smallest_abs_diff_between_angles;
 use floats::vector::Vector;
 
+pub mod calls;
 pub mod joint;
 
 #[no_mangle]

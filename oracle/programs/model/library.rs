@@ -44,6 +44,12 @@ pub fn same_study(a: &Study, b: &Study) -> bool {
         && same(&a.rows, &b.rows)
 }
 
+/// A build or a sweep by the Rattle library on the study's own storage; its code.
+#[cfg(rattle)]
+pub fn direct(s: &mut Study, call: &Call) -> u64 {
+    exported::direct(s, call)
+}
+
 #[cfg(rattle)]
 mod exported {
     use crate::fenced::Fenced;
@@ -54,6 +60,7 @@ mod exported {
             dt: f32,
             length_unit: f32,
             normalized: f32,
+            built: bool,
             bodies: *const f32,
             bodies_len: usize,
             words: *const u32,
@@ -209,7 +216,7 @@ mod exported {
         let built = s.built;
         answer.code = unsafe {
             match *call {
-                Call::Load => katydidzinc_load(dt, unit, most, b, bs, w, ws, n, ns, r, rs) as u64,
+                Call::Load => katydidzinc_load(dt, unit, most, built, b, bs, w, ws, n, ns, r, rs) as u64,
                 Call::Place {
                     body,
                     pose: [re, im, x, y],
@@ -272,5 +279,30 @@ mod exported {
             _ => {}
         }
         answer
+    }
+
+    pub fn direct(s: &mut Study, call: &Call) -> u64 {
+        let (b, bs) = (s.bodies.as_mut_ptr(), s.bodies.len());
+        let (w, ws) = (s.words.as_ptr(), s.words.len());
+        let (n, ns) = (s.numbers.as_ptr(), s.numbers.len());
+        let (r, rs) = (s.rows.as_mut_ptr(), s.rows.len());
+        let [dt, unit, most] = s.settings;
+        let built = s.built;
+        unsafe {
+            match *call {
+                Call::Build {
+                    warm,
+                    coefficient: c,
+                    substep,
+                } => katydidzinc_build(
+                    dt, unit, most, built, b, bs, w, ws, n, ns, r, rs, warm, c, substep,
+                ),
+                Call::Sweep(rounds) => {
+                    katydidzinc_sweep(dt, unit, most, built, b, bs, w, ws, n, ns, r, rs, rounds)
+                        as u64
+                }
+                _ => unreachable!(),
+            }
+        }
     }
 }

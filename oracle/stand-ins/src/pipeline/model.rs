@@ -5,7 +5,7 @@ use super::records::{self, JOINT, JOINT_WORDS, ROW, VEL};
 use super::rows::generated;
 use crate::alloc_prelude::*;
 use crate::dynamics::JointGraphEdge;
-use crate::dynamics::solver::joint_constraint::{JointConstraint, tried};
+use crate::dynamics::solver::joint_constraint::{JointConstraint, JointConstraintBuilder, tried};
 use crate::dynamics::solver::solver_body::SolverBodies;
 use crate::math::Real;
 
@@ -137,5 +137,72 @@ pub fn writeback(words: &[u32], numbers: &mut [Real], rows: &[Real]) {
     }
     for (edge, n) in joints_all.iter().zip(numbers.chunks_exact_mut(JOINT)) {
         records::put_impulses(edge, n);
+    }
+}
+
+/// A model in the Rust's own structs, its builders made beforehand: what the Rust holds between
+/// frames, so that a measurement of its work counts no conversion.
+pub struct Prepared {
+    settings: [Real; 3],
+    bodies: SolverBodies,
+    joints: Vec<JointGraphEdge>,
+    builders: Vec<JointConstraintBuilder>,
+    rows: Vec<JointConstraint<Real, 1>>,
+}
+
+impl Prepared {
+    pub fn new(
+        settings: [Real; 3],
+        bodies: &[Real],
+        words: &[u32],
+        numbers: &[Real],
+        rows: &[Real],
+    ) -> Prepared {
+        let mut next_row = 0;
+        let joints = words.chunks_exact(WORDS).zip(numbers.chunks_exact(JOINT));
+        Prepared {
+            settings,
+            bodies: solver_bodies(bodies),
+            joints: edges(words, numbers),
+            builders: joints
+                .enumerate()
+                .map(|(j, (w, n))| generated(&w[2..], n, [w[0], w[1]], j, &mut next_row))
+                .collect(),
+            rows: rows.chunks_exact(ROW).map(records::row).collect(),
+        }
+    }
+
+    pub fn build(&mut self, warmstart: Option<Real>, substep: u32) {
+        let settings = records::settings(&self.settings);
+        for builder in &mut self.builders {
+            builder.update_warmstart_seeds(&self.joints);
+            builder.update(
+                &settings,
+                substep as usize,
+                warmstart,
+                &self.bodies,
+                &mut self.rows,
+            );
+        }
+    }
+
+    pub fn warmstart(&mut self) {
+        for row in &mut self.rows {
+            row.warmstart(&mut self.bodies);
+        }
+    }
+
+    pub fn solve(&mut self, rounds: u32) {
+        for _ in 0..rounds {
+            for row in &mut self.rows {
+                row.solve(&mut self.bodies);
+            }
+        }
+    }
+
+    /// As the model's storage has them.
+    pub fn left(&self, bodies: &mut [Real], rows: &mut [Real]) {
+        put_vels(&self.bodies, bodies);
+        put_rows(&self.rows, rows);
     }
 }

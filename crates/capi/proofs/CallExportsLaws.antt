@@ -1,0 +1,29 @@
+-- What an export reads off the equation that its call promises: the answer's number, and what is left in the storage.
+use Prim.Native.Nat.{ℕ}
+use mathlib.Core.Path.{_≡_, ap, _∙_}
+use mathlib.Core.List.{List}
+use lib.Ieee.{Float}
+use Rattle.model.specs.Model.{Model}
+use Rattle.model.specs.Calls.{Answer, Outcome, outcome}
+use Rattle.capi.specs.CallExports.{number, marked, markedNumber, velocityOut}
+
+-- a number that shows the answer shows that of the outcome
+pub number-told : {a : Answer} {m : Model} {rows : List Float} {o : Outcome} (r : ℕ) → r ≡ number a → outcome a m rows ≡ o → r ≡ number (o .answer)
+number-told r e told = e ∙ ap (λ (o : Outcome). number (o .answer)) told
+
+-- what is left in the bodies, the joints' numbers and the row storage
+pub bodies-left : {a : Answer} {m : Model} {rows : List Float} {o : Outcome} → outcome a m rows ≡ o → m .bodies ≡ o .after .bodies
+bodies-left told = ap (λ (o : Outcome). o .after .bodies) told
+
+pub numbers-left : {a : Answer} {m : Model} {rows : List Float} {o : Outcome} → outcome a m rows ≡ o → m .numbers ≡ o .after .numbers
+numbers-left told = ap (λ (o : Outcome). o .after .numbers) told
+
+pub rows-left : {a : Answer} {m : Model} {rows : List Float} {o : Outcome} → outcome a m rows ≡ o → rows ≡ o .rows
+rows-left told = ap (λ (o : Outcome). o .rows) told
+
+-- the same of a number that shows the mark too, and of what a velocity read stores
+pub marked-told : {a : Answer} {m : Model} {rows : List Float} {o : Outcome} (r : ℕ) → r ≡ marked a (m .built) → outcome a m rows ≡ o → r ≡ markedNumber o
+marked-told r e told = e ∙ ap (λ (o : Outcome). markedNumber o) told
+
+pub velocity-left : {a : Answer} {m : Model} {rows : List Float} {o : Outcome} (out : List Float) → outcome a m rows ≡ o → velocityOut a out ≡ velocityOut (o .answer) out
+velocity-left out told = ap (λ (o : Outcome). velocityOut (o .answer) out) told

@@ -1,0 +1,23 @@
+-- `katydidzinc_load` meets its contract: what its call promises, of the header that was made, read part by part.
+use Rattle.capi.proofs.CallExportsLaws.{marked-told}
+use borrow.Author.Needs.{needs}
+use Rattle.capi.proofs.calls.katydidzinc_load.Statement.{statement}
+use Rattle.capi.proofs.calls.katydidzinc_load.Tie as tie
+
+header-requires : tie.Need-header-requires
+header-requires c κs = search needs
+
+load-requires : tie.Need-load-requires
+load-requires c κs = search needs
+
+load-number-requires : tie.Need-load-number-requires
+load-number-requires c κs = search needs
+
+returns : tie.Need-returns
+returns c =
+    let s = c .before in
+    marked-told _ (c .load-number .ensures _) (rw (s .before .header .ensures) at (s .load .ensures))
+
+pub katydidzinc-load-spec : {M : Type 1} → statement M
+katydidzinc-load-spec =
+    tie.close (tie.spec header-requires load-requires load-number-requires returns)

@@ -1,0 +1,23 @@
+-- `put_velocity` meets its contract: the test decides the specification's.
+use borrow.Author.Needs.{needs}
+use borrow.Author.Tests.{le-leb, lt-leb}
+use Rattle.capi.specs.CallExports.{putVelocity}
+use Rattle.capi.proofs.calls.put_velocity.Statement.{statement}
+use Rattle.capi.proofs.calls.put_velocity.Tie as tie
+
+returns : tie.Need-returns
+unfolding putVelocity
+returns c = simp (lt-leb _ _ (c .if1 .taken))
+
+put-three-requires : tie.Need-put-three-requires
+put-three-requires c κs = search needs
+
+same-length : tie.Need-same-length
+same-length c = search needs
+
+returns-2 : tie.Need-returns-2
+unfolding putVelocity
+returns-2 c = simp (le-leb _ _ (c .before .before .before .before .before .if1 .left)) (cc)
+
+pub put-velocity-spec : {M : Type 1} → statement M
+put-velocity-spec = tie.close (tie.spec returns put-three-requires same-length returns-2)

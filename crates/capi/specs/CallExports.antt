@@ -1,0 +1,102 @@
+-- The exported calls of the model: a header from its numbers, an answer as a number, and what is stored of a row read and of a velocity read.
+use Prim.Native.Nat.{ℕ, _+_, _%_}
+use mathlib.Core.Bool.{Bool, true, false, cond, _&&_}
+use mathlib.Core.List.{List}
+use lib.Dec.{leb}
+use lib.ListN.{length}
+use lib.Ieee.{Float}
+use Rattle.floats.specs.declared.pose.Pose.{Pose}
+use Rattle.rows.specs.declared.joint_constraint_builder.Warmstart.{Warmstart}
+use Rattle.rows.specs.declared.joint_constraint_builder.Warmstart.the-variants.{Cold, Warm}
+use Rattle.rows.specs.declared.joint_velocity_constraint.SolverVel.{SolverVel}
+use Rattle.rows.specs.declared.joint_velocity_constraint.Rows.{Rows}
+use Rattle.rows.specs.declared.row_ids.RowIds.{RowIds}
+use Rattle.model.specs.Store.{masksAt}
+use Rattle.model.specs.Model.{Model, modelOf}
+use Rattle.model.specs.Calls.{Answer, Outcome, run}
+use Rattle.model.specs.Calls.Answer.{granted, total, rowsRead, velocityRead, refused}
+use Rattle.model.specs.Calls.Call.{readRows}
+use Rattle.model.specs.Answers.{rowsAnswerOf}
+use Rattle.model.specs.declared.header.Header.{Header}
+use Rattle.model.specs.declared.calls.Plain.{Plain}
+use Rattle.model.specs.declared.calls.RowsAnswer.{RowsAnswer}
+use Rattle.capi.specs.JointExports.{paramsOf, putThree, putFirst, putIds}
+
+-- ---- what is handed over
+
+abbrev pub headerOf : Float → Float → Float → Bool → Header
+headerOf dt unit normalized built = record { params = paramsOf dt unit normalized; built = built }
+
+abbrev pub lent : Float → Float → Float → Bool → List Float → List ℕ → List Float → Model
+lent dt unit normalized built bodies words numbers = modelOf (headerOf dt unit normalized built) bodies words numbers
+
+abbrev pub poseFrom : Float → Float → Float → Float → Pose
+poseFrom re im x y = record { rotation = record { re = re; im = im }; translation = record { x = x; y = y } }
+
+abbrev pub warmOf : Bool → Float → Warmstart
+warmOf warm coefficient = cond warm (Warm coefficient) Cold
+
+-- ---- answers as numbers
+
+-- a refusal is its number, and what is granted 0, or 2^32 plus the number of rows; of a number only the lower 32 bits count
+abbrev pub rowsGranted : ℕ → ℕ
+rowsGranted n = 4294967296 + n % 4294967296
+
+abbrev pub number : Answer → ℕ
+number granted = 0
+number (total n) = rowsGranted n
+number (rowsRead ids rows) = rowsGranted (length rows)
+number (velocityRead v) = 0
+number (refused k) = k
+
+-- the same, where a granted load that left the mark set, or a build that left it clear, would show
+abbrev pub marked : Answer → Bool → ℕ
+marked granted true = 100
+marked granted false = 0
+marked (total n) true = rowsGranted n
+marked (total n) false = 8589934592 + n % 4294967296
+marked (rowsRead ids rows) built = 0
+marked (velocityRead v) built = 0
+marked (refused k) built = k
+
+abbrev pub markedNumber : Outcome → ℕ
+markedNumber o = marked (o .answer) (o .after .built)
+
+-- ---- a joint's rows and ids, stored
+
+abbrev pub rowsReadAt : ℕ → Model → List Float → RowsAnswer
+rowsReadAt joint m rows = rowsAnswerOf (masksAt (m .words) joint) (run (readRows joint) m rows .answer)
+
+abbrev pub rowsGrantedOr : Plain → ℕ → ℕ
+rowsGrantedOr Plain.Granted n = rowsGranted n
+rowsGrantedOr (Plain.Refused k) n = k
+
+abbrev pub rowsNumber : RowsAnswer → ℕ
+rowsNumber r = rowsGrantedOr (r .answer) (r .rows .len)
+
+abbrev roomy : List Float → List ℕ → Bool
+roomy out ids = leb 108 (length out) && leb 6 (length ids)
+
+unfoldable pub rowsIfRoom : Rows → List Float → List ℕ → List Float
+rowsIfRoom made out ids = cond (roomy out ids) (putFirst out made) out
+
+unfoldable pub idsIfRoom : RowIds → List Float → List ℕ → List ℕ
+idsIfRoom named out ids = cond (roomy out ids) (putIds ids named) ids
+
+abbrev pub rowsOut : RowsAnswer → List Float → List ℕ → List Float
+rowsOut r out ids = rowsIfRoom (r .rows) out ids
+
+abbrev pub idsOut : RowsAnswer → List Float → List ℕ → List ℕ
+idsOut r out ids = idsIfRoom (r .ids) out ids
+
+-- ---- a velocity, stored
+
+unfoldable pub putVelocity : SolverVel → List Float → List Float
+putVelocity v out = cond (leb 3 (length out)) (putThree out 0 (v .linear .x) (v .linear .y) (v .angular)) out
+
+abbrev pub velocityOut : Answer → List Float → List Float
+velocityOut (velocityRead v) out = putVelocity v out
+velocityOut granted out = out
+velocityOut (total n) out = out
+velocityOut (rowsRead ids rows) out = out
+velocityOut (refused k) out = out

@@ -1,0 +1,325 @@
+// The model's calls for C and Rust callers. A header is its three settings and the mark. A refusal
+// is its number; a granted call is 0, and a granted build or row read 2^32 plus its number of rows.
+// A joint's rows and ids, and a body's velocity, are stored in slices of the caller's; where these
+// are too short, nothing is stored. A header that came back with the wrong mark would show as 100
+// after a load and as 2^33 plus the number of rows after a build.
+ghost use mathlib.Core.Path.{_≡_};
+ghost use mathlib.Core.List.{[]};
+ghost use Rattle.model.specs.Calls.{run};
+ghost use Rattle.model.specs.Calls.Call.{load, place, build, warmStart, sweep, removeBias, writeBack, readRows, readVelocity};
+ghost use Rattle.model.specs.Answers.{plainAnswer, loadAnswer, loadHeader, buildAnswer, buildHeader};
+ghost use Rattle.model.specs.declared.header.Header.{Header};
+ghost use Rattle.capi.specs.CallExports.{headerOf, lent, poseFrom, warmOf, number, marked, markedNumber, rowsReadAt, rowsGrantedOr, rowsNumber, rowsOut, idsOut, rowsIfRoom, idsIfRoom, putVelocity, velocityOut};
+use crate::joint::put_first;
+use crate::joint::put_ids;
+use crate::joint::put_three;
+use floats::pose::Pose;
+use floats::rotation_ops::Rotation;
+use floats::vector::Vector;
+use model::calls::BuildAnswer;
+use model::calls::LoadAnswer;
+use model::calls::Plain;
+use model::calls::VelocityAnswer;
+use model::calls::build;
+use model::calls::load;
+use model::calls::place;
+use model::calls::read_rows;
+use model::calls::read_velocity;
+use model::calls::remove_bias;
+use model::calls::sweep;
+use model::calls::warm_start;
+use model::calls::write_back;
+use model::header::Header;
+use rows::integration_parameters::IntegrationParameters;
+use rows::joint_constraint_builder::Warmstart;
+use rows::joint_velocity_constraint::Rows;
+use rows::joint_velocity_constraint::SolverVel;
+use rows::row_ids::RowIds;
+
+fn header(dt: f32, length_unit: f32, normalized: f32, built: bool) -> Header
+    ensures { λ r. ⌜ r ≡ headerOf dt «length_unit» normalized built ⌝ }
+{
+    Header {
+        params: IntegrationParameters {
+            dt: dt,
+            length_unit: length_unit,
+            normalized_max_corrective_velocity: normalized,
+        },
+        built: built,
+    }
+}
+
+fn plain_number(answer: Plain) -> u32
+    ensures { λ r. ⌜ r ≡ number (plainAnswer answer) ⌝ }
+{
+    match answer {
+        Plain::Granted => 0,
+        Plain::Refused(k) => k,
+    }
+}
+
+// The mark that counts is that of the header that came back; a refusal's number does not depend on
+// the header before.
+fn load_number(answer: LoadAnswer) -> u32
+    ensures { λ r. ⌜ ((before : Header) → r ≡ marked (loadAnswer answer) (loadHeader before answer .built)) ⌝ }
+{
+    match answer {
+        LoadAnswer::Loaded(after) => {
+            if after.built {
+                return 100;
+            }
+            0
+        }
+        LoadAnswer::Refused(k) => k,
+    }
+}
+
+fn build_number(answer: BuildAnswer) -> u64
+    ensures { λ r. ⌜ ((before : Header) → r ≡ marked (buildAnswer answer) (buildHeader before answer .built)) ⌝ }
+{
+    match answer {
+        BuildAnswer::Built(after, n) => {
+            let total = (n % 4294967296) as u64;
+            if after.built {
+                return 4294967296 + total;
+            }
+            8589934592 + total
+        }
+        BuildAnswer::Refused(k) => k as u64,
+    }
+}
+
+fn rows_number(answer: Plain, n: usize) -> u64
+    ensures { λ r. ⌜ r ≡ rowsGrantedOr answer n ⌝ }
+{
+    match answer {
+        Plain::Granted => 4294967296 + (n % 4294967296) as u64,
+        Plain::Refused(k) => k as u64,
+    }
+}
+
+fn warm_of(warm: bool, coefficient: f32) -> Warmstart
+    ensures { λ r. ⌜ r ≡ warmOf warm coefficient ⌝ }
+{
+    if warm {
+        return Warmstart::Warm(coefficient);
+    }
+    Warmstart::Cold
+}
+
+#[no_mangle]
+pub extern "C" fn katydidzinc_load(
+    dt: f32,
+    length_unit: f32,
+    normalized: f32,
+    built: bool,
+    bodies: &[f32],
+    words: &[u32],
+    numbers: &[f32],
+    rows: &[f32],
+) -> u32
+    ensures { λ r. ⌜ r ≡ markedNumber (run load (lent dt «length_unit» normalized built (now (bodies .entry)) (now (words .entry)) (now (numbers .entry))) (now (rows .entry))) ⌝ }
+{
+    let h = header(dt, length_unit, normalized, built);
+    load_number(load(h, bodies, words, numbers, rows))
+}
+
+#[no_mangle]
+pub extern "C" fn katydidzinc_place(
+    dt: f32,
+    length_unit: f32,
+    normalized: f32,
+    built: bool,
+    bodies: &mut [f32],
+    words: &[u32],
+    numbers: &[f32],
+    body: u32,
+    re: f32,
+    im: f32,
+    x: f32,
+    y: f32,
+) -> u32
+    ensures { λ r. ⌜ r ≡ number (run (place body (poseFrom re im x y)) (lent dt «length_unit» normalized built (now (bodies .entry)) (now (words .entry)) (now (numbers .entry))) [] .answer) ⌝ }
+    ensures { λ _. ⌜ now (bodies .exit) ≡ run (place body (poseFrom re im x y)) (lent dt «length_unit» normalized built (now (bodies .entry)) (now (words .entry)) (now (numbers .entry))) [] .after .bodies ⌝ }
+{
+    let h = header(dt, length_unit, normalized, built);
+    let pose = Pose {
+        rotation: Rotation { re: re, im: im },
+        translation: Vector { x: x, y: y },
+    };
+    plain_number(place(h, bodies, words, numbers, body, pose))
+}
+
+#[no_mangle]
+pub extern "C" fn katydidzinc_build(
+    dt: f32,
+    length_unit: f32,
+    normalized: f32,
+    built: bool,
+    bodies: &[f32],
+    words: &[u32],
+    numbers: &[f32],
+    rows: &mut [f32],
+    warm: bool,
+    coefficient: f32,
+    substep_id: u32,
+) -> u64
+    ensures { λ r. ⌜ r ≡ markedNumber (run (build (warmOf warm coefficient) «substep_id») (lent dt «length_unit» normalized built (now (bodies .entry)) (now (words .entry)) (now (numbers .entry))) (now (rows .entry))) ⌝ }
+    ensures { λ _. ⌜ now (rows .exit) ≡ run (build (warmOf warm coefficient) «substep_id») (lent dt «length_unit» normalized built (now (bodies .entry)) (now (words .entry)) (now (numbers .entry))) (now (rows .entry)) .rows ⌝ }
+{
+    let h = header(dt, length_unit, normalized, built);
+    let warmstart = warm_of(warm, coefficient);
+    build_number(build(h, bodies, words, numbers, rows, warmstart, substep_id))
+}
+
+#[no_mangle]
+pub extern "C" fn katydidzinc_warm_start(
+    dt: f32,
+    length_unit: f32,
+    normalized: f32,
+    built: bool,
+    bodies: &mut [f32],
+    words: &[u32],
+    numbers: &[f32],
+    rows: &[f32],
+) -> u32
+    ensures { λ r. ⌜ r ≡ number (run warmStart (lent dt «length_unit» normalized built (now (bodies .entry)) (now (words .entry)) (now (numbers .entry))) (now (rows .entry)) .answer) ⌝ }
+    ensures { λ _. ⌜ now (bodies .exit) ≡ run warmStart (lent dt «length_unit» normalized built (now (bodies .entry)) (now (words .entry)) (now (numbers .entry))) (now (rows .entry)) .after .bodies ⌝ }
+{
+    let h = header(dt, length_unit, normalized, built);
+    plain_number(warm_start(h, bodies, words, numbers, rows))
+}
+
+#[no_mangle]
+pub extern "C" fn katydidzinc_sweep(
+    dt: f32,
+    length_unit: f32,
+    normalized: f32,
+    built: bool,
+    bodies: &mut [f32],
+    words: &[u32],
+    numbers: &[f32],
+    rows: &mut [f32],
+    n: u32,
+) -> u32
+    ensures { λ r. ⌜ r ≡ number (run (sweep n) (lent dt «length_unit» normalized built (now (bodies .entry)) (now (words .entry)) (now (numbers .entry))) (now (rows .entry)) .answer) ⌝ }
+    ensures { λ _. ⌜ now (bodies .exit) ≡ run (sweep n) (lent dt «length_unit» normalized built (now (bodies .entry)) (now (words .entry)) (now (numbers .entry))) (now (rows .entry)) .after .bodies ⌝ }
+    ensures { λ _. ⌜ now (rows .exit) ≡ run (sweep n) (lent dt «length_unit» normalized built (now (bodies .entry)) (now (words .entry)) (now (numbers .entry))) (now (rows .entry)) .rows ⌝ }
+{
+    let h = header(dt, length_unit, normalized, built);
+    plain_number(sweep(h, bodies, words, numbers, rows, n))
+}
+
+#[no_mangle]
+pub extern "C" fn katydidzinc_remove_bias(
+    dt: f32,
+    length_unit: f32,
+    normalized: f32,
+    built: bool,
+    bodies: &[f32],
+    words: &[u32],
+    numbers: &[f32],
+    rows: &mut [f32],
+) -> u32
+    ensures { λ r. ⌜ r ≡ number (run removeBias (lent dt «length_unit» normalized built (now (bodies .entry)) (now (words .entry)) (now (numbers .entry))) (now (rows .entry)) .answer) ⌝ }
+    ensures { λ _. ⌜ now (rows .exit) ≡ run removeBias (lent dt «length_unit» normalized built (now (bodies .entry)) (now (words .entry)) (now (numbers .entry))) (now (rows .entry)) .rows ⌝ }
+{
+    let h = header(dt, length_unit, normalized, built);
+    plain_number(remove_bias(h, bodies, words, numbers, rows))
+}
+
+#[no_mangle]
+pub extern "C" fn katydidzinc_write_back(
+    dt: f32,
+    length_unit: f32,
+    normalized: f32,
+    built: bool,
+    bodies: &[f32],
+    words: &[u32],
+    numbers: &mut [f32],
+    rows: &[f32],
+) -> u32
+    ensures { λ r. ⌜ r ≡ number (run writeBack (lent dt «length_unit» normalized built (now (bodies .entry)) (now (words .entry)) (now (numbers .entry))) (now (rows .entry)) .answer) ⌝ }
+    ensures { λ _. ⌜ now (numbers .exit) ≡ run writeBack (lent dt «length_unit» normalized built (now (bodies .entry)) (now (words .entry)) (now (numbers .entry))) (now (rows .entry)) .after .numbers ⌝ }
+{
+    let h = header(dt, length_unit, normalized, built);
+    plain_number(write_back(h, bodies, words, numbers, rows))
+}
+
+// Rows and ids, stored where both slices have room.
+fn put_read(out: &mut [f32], ids: &mut [u32], made: Rows, named: RowIds)
+    ensures { λ _. ⌜ now (out .exit) ≡ rowsIfRoom made (now (out .entry)) (now (ids .entry)) ⌝ }
+    ensures { λ _. ⌜ now (ids .exit) ≡ idsIfRoom named (now (out .entry)) (now (ids .entry)) ⌝ }
+{
+    if out.len() < 108 {
+        return;
+    }
+    if ids.len() < 6 {
+        return;
+    }
+    put_first(out, made);
+    put_ids(ids, named);
+}
+
+#[no_mangle]
+pub extern "C" fn katydidzinc_read_rows(
+    dt: f32,
+    length_unit: f32,
+    normalized: f32,
+    built: bool,
+    bodies: &[f32],
+    words: &[u32],
+    numbers: &[f32],
+    rows: &[f32],
+    joint: u32,
+    out: &mut [f32],
+    ids: &mut [u32],
+) -> u64
+    ensures { λ r. ⌜ r ≡ rowsNumber (rowsReadAt joint (lent dt «length_unit» normalized built (now (bodies .entry)) (now (words .entry)) (now (numbers .entry))) (now (rows .entry))) ⌝ }
+    ensures { λ _. ⌜ now (out .exit) ≡ rowsOut (rowsReadAt joint (lent dt «length_unit» normalized built (now (bodies .entry)) (now (words .entry)) (now (numbers .entry))) (now (rows .entry))) (now (out .entry)) (now (ids .entry)) ⌝ }
+    ensures { λ _. ⌜ now (ids .exit) ≡ idsOut (rowsReadAt joint (lent dt «length_unit» normalized built (now (bodies .entry)) (now (words .entry)) (now (numbers .entry))) (now (rows .entry))) (now (out .entry)) (now (ids .entry)) ⌝ }
+{
+    let h = header(dt, length_unit, normalized, built);
+    let read = read_rows(h, bodies, words, numbers, rows, joint);
+    let answer = read.answer;
+    let named = read.ids;
+    let made = read.rows;
+    put_read(out, ids, made, named);
+    rows_number(answer, made.len)
+}
+
+fn put_velocity(out: &mut [f32], v: SolverVel)
+    ensures { λ _. ⌜ now (out .exit) ≡ putVelocity v (now (out .entry)) ⌝ }
+{
+    if out.len() < 3 {
+        return;
+    }
+    let linear = v.linear;
+    put_three(out, 0, linear.x, linear.y, v.angular);
+}
+
+#[no_mangle]
+pub extern "C" fn katydidzinc_read_velocity(
+    dt: f32,
+    length_unit: f32,
+    normalized: f32,
+    built: bool,
+    bodies: &[f32],
+    words: &[u32],
+    numbers: &[f32],
+    body: u32,
+    out: &mut [f32],
+) -> u32
+    ensures { λ r. ⌜ r ≡ number (run (readVelocity body) (lent dt «length_unit» normalized built (now (bodies .entry)) (now (words .entry)) (now (numbers .entry))) [] .answer) ⌝ }
+    ensures { λ _. ⌜ now (out .exit) ≡ velocityOut (run (readVelocity body) (lent dt «length_unit» normalized built (now (bodies .entry)) (now (words .entry)) (now (numbers .entry))) [] .answer) (now (out .entry)) ⌝ }
+{
+    let h = header(dt, length_unit, normalized, built);
+    let answer = read_velocity(h, bodies, words, numbers, body);
+    match answer {
+        VelocityAnswer::Velocity(v) => {
+            put_velocity(out, v);
+            0
+        }
+        VelocityAnswer::Refused(k) => k,
+    }
+}
