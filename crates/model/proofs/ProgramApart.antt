@@ -5,7 +5,7 @@ use mathlib.Core.Path.{_≡_, refl, sym, ap, _∙_, subst}
 use mathlib.Core.Bool.{Bool}
 use mathlib.Core.List.{List, [], _∷_, map}
 use Rattle.model.specs.Calls.{Outcome}
-use Rattle.model.specs.Studies.{Study, Given, Turn, one, other, outcomeAt, next, after, MakesRows, Loaded, Agree, Enough, SameAnswer, SameAnswers, Shared, Apart, left, Trace, leftBy, SameTold, ProgramsApart}
+use Rattle.model.specs.Studies.{Study, Given, Turn, one, other, outcomeAt, next, after, MakesRows, Loaded, Agree, Enough, SameAnswer, SameAnswers, RefusedAlike, Shared, Apart, left, Trace, leftBy, SameTold, ToldAlike, ProgramsApart}
 use Rattle.model.proofs.TwoStudies.{two-studies}
 
 -- a trace ends where the definitions do
@@ -26,12 +26,22 @@ trace-told set (x ∷ ts) s s′ (o ∷ os) [] t t′ a = absurd t′
 trace-told set (x ∷ ts) s s′ (o ∷ os) (o′ ∷ os′) t t′ a =
     (rw (t .0, t′ .0) (a .0), trace-told set ts (left o) (left o′) os os′ (t .1) (t′ .1) (rw (t .0, t′ .0) (a .1)))
 
+trace-refused : (ts : List Turn) (s s′ : Study) (os os′ : List Outcome) → Trace (map one ts) s os → Trace (map other ts) s′ os′
+    → RefusedAlike ts s s′ → ToldAlike ts s s′ os os′
+unfolding Trace ToldAlike RefusedAlike
+trace-refused [] s s′ os os′ t t′ a = tt
+trace-refused (x ∷ ts) s s′ [] os′ t t′ a = absurd t
+trace-refused (x ∷ ts) s s′ (o ∷ os) [] t t′ a = absurd t′
+trace-refused (x ∷ ts) s s′ (o ∷ os) (o′ ∷ os′) t t′ a =
+    (rw (t .0, t′ .0) (a .0), trace-refused ts (left o) (left o′) os os′ (t .1) (t′ .1) (rw (t .0, t′ .0) (a .1)))
+
 pub programs-apart : (set : ℕ → Bool) (ts : List Turn) (s s′ : Study) (os os′ : List Outcome) → Loaded s → Loaded s′
     → Agree set (MakesRows (map one ts) s) (s .model) (s′ .model) → Enough ts s s′ → Trace (map one ts) s os → Trace (map other ts) s′ os′
     → ProgramsApart set ts s s′ os os′
 programs-apart set ts s s′ os os′ l l′ g e t t′ =
     let a : Apart set ts s s′ = two-studies set ts s s′ l l′ g e in
     record {
+      refusals = trace-refused ts s s′ os os′ t t′ (a .refusals);
       answers = trace-told set ts s s′ os os′ t t′ (a .answers);
       shared = rw (trace-left (map one ts) s os t, trace-left (map other ts) s′ os′ t′) (a .shared);
     }

@@ -1,6 +1,7 @@
--- Two studies are refused alike (`same-refusal`): where two models agree on a set, rules 1 to 7 hold of both, their marks are equal and row storage that is
--- handed over has room, a call that asks for no body or joint outside the set is refused with the same number in both, or in neither.
-use Prim.Native.Nat.{ℕ, _<_}
+-- Two studies are refused alike (`same-refusal`): where rules 1 to 7 hold of both models, their marks are equal and row storage that is handed over has room, a
+-- call that asks by index for nothing that only one of them has is refused with the same number in both, or in neither. Where they agree on a set, a call that
+-- asks for a body or a joint of the set is such a call (`about-asked`).
+use Prim.Native.Nat.{ℕ}
 use mathlib.Core.Path.{_≡_, refl, sym, _∙_}
 use mathlib.Core.Bool.{Bool, true}
 use mathlib.Core.List.{List, [], _∷_, _++_}
@@ -10,20 +11,8 @@ use Rattle.model.specs.Model.{Model, bodyCount, jointCount, rowCapacity,
 use Rattle.model.specs.Refusals.{Rule, refusal, finitePose, finiteWarm, modelRules, storageRule, sweepRule, builtRule, seedsRule, bodyRule, jointRule}
 use Rattle.model.specs.Calls.{Call, rulesOf}
 use Rattle.model.specs.Calls.Call.{load, place, build, warmStart, sweep, removeBias, writeBack, readRows, readVelocity}
-use Rattle.model.specs.Studies.{Mine, Agree, handsOver}
+use Rattle.model.specs.Studies.{Mine, Agree, handsOver, AlikeBody, AlikeJoint, AskedAlike}
 use Rattle.model.proofs.RefusalLaws.{by-cases, rule-holds, RulesHold, rules-rest, rules-arguments}
-
--- a call that asks for a body or a joint by index asks for one of the set's
-abbrev pub About : (ℕ → Bool) → Model → Call → Type 0
-About set m load = Unit
-About set m (place i pose) = set i ≡ true
-About set m (build warm substep) = Unit
-About set m warmStart = Unit
-About set m (sweep n) = Unit
-About set m removeBias = Unit
-About set m writeBack = Unit
-About set m (readRows j) = Mine set m j
-About set m (readVelocity i) = set i ≡ true
 
 storage-holds : (m : Model) (rows : List Float) (rest : List Rule) → Room m rows → refusal (storageRule m rows ∷ rest) ≡ refusal rest
 unfolding storageRule
@@ -45,13 +34,13 @@ module _ (m m′ : Model) (held : RulesHold m) (held′ : RulesHold m′) where
     same-stored arguments rest rest′ e =
         same-rest arguments (storageRule m rows ∷ rest) (storageRule m′ rows′ ∷ rest′) (storage-holds m rows rest room ∙ e ∙ sym (storage-holds m′ rows′ rest′ room′))
 
-  same-body : (i : ℕ) → (i < bodyCount (m .bodies)) × (i < bodyCount (m′ .bodies)) → bodyRule m i ≡ bodyRule m′ i
+  same-body : (i : ℕ) → AlikeBody m m′ i → bodyRule m i ≡ bodyRule m′ i
   unfolding bodyRule
-  same-body i l = rw (lt-ltb i (bodyCount (m .bodies)) (l .0), lt-ltb i (bodyCount (m′ .bodies)) (l .1))
+  same-body i e = rw e
 
-  same-joint : (j : ℕ) → j < jointCount (m .words) (m .numbers) → j < jointCount (m′ .words) (m′ .numbers) → jointRule m j ≡ jointRule m′ j
+  same-joint : (j : ℕ) → AlikeJoint m m′ j → jointRule m j ≡ jointRule m′ j
   unfolding jointRule
-  same-joint j l l′ = rw (lt-ltb j (jointCount (m .words) (m .numbers)) l, lt-ltb j (jointCount (m′ .words) (m′ .numbers)) l′)
+  same-joint j e = rw e
 
   module _ (mark : m .built ≡ m′ .built) where
     same-built : builtRule m ≡ builtRule m′
@@ -62,12 +51,12 @@ module _ (m m′ : Model) (held : RulesHold m) (held′ : RulesHold m′) where
     unfolding seedsRule
     same-seeds warm substep = rw mark
 
-    module _ (set : ℕ → Bool) (made : Type 0) (agree : Agree set made m m′) (rows rows′ : List Float) where
-      pub same-refusal : (c : Call) → About set m c → (handsOver c ≡ true → Room m rows × Room m′ rows′) → refusal (rulesOf c m rows) ≡ refusal (rulesOf c m′ rows′)
+    module _ (rows rows′ : List Float) where
+      pub same-refusal : (c : Call) → AskedAlike m m′ c → (handsOver c ≡ true → Room m rows × Room m′ rows′) → refusal (rulesOf c m rows) ≡ refusal (rulesOf c m′ rows′)
       unfolding rulesOf
       same-refusal load t r = same-stored rows rows′ (r refl .0) (r refl .1) true [] [] refl
-      same-refusal (place i pose) s r =
-          same-rest (finitePose pose) (bodyRule m i ∷ []) (bodyRule m′ i ∷ []) (rw (same-body i (agree .present i s)))
+      same-refusal (place i pose) e r =
+          same-rest (finitePose pose) (bodyRule m i ∷ []) (bodyRule m′ i ∷ []) (rw (same-body i e))
       same-refusal (build warm substep) t r =
           same-stored rows rows′ (r refl .0) (r refl .1) (finiteWarm warm) (seedsRule m warm substep ∷ []) (seedsRule m′ warm substep ∷ []) (rw (same-seeds warm substep))
       same-refusal warmStart t r = same-stored rows rows′ (r refl .0) (r refl .1) true (builtRule m ∷ []) (builtRule m′ ∷ []) (rw same-built)
@@ -75,8 +64,41 @@ module _ (m m′ : Model) (held : RulesHold m) (held′ : RulesHold m′) where
           same-stored rows rows′ (r refl .0) (r refl .1) true (sweepRule n ∷ builtRule m ∷ []) (sweepRule n ∷ builtRule m′ ∷ []) (rw same-built)
       same-refusal removeBias t r = same-stored rows rows′ (r refl .0) (r refl .1) true (builtRule m ∷ []) (builtRule m′ ∷ []) (rw same-built)
       same-refusal writeBack t r = same-stored rows rows′ (r refl .0) (r refl .1) true (builtRule m ∷ []) (builtRule m′ ∷ []) (rw same-built)
-      same-refusal (readRows j) i r =
+      same-refusal (readRows j) e r =
           same-stored rows rows′ (r refl .0) (r refl .1) true (builtRule m ∷ jointRule m j ∷ []) (builtRule m′ ∷ jointRule m′ j ∷ [])
-          (rw (same-built, same-joint j (i .there) (agree .joints j i .there)))
-      same-refusal (readVelocity i) s r =
-          same-rest true (bodyRule m i ∷ []) (bodyRule m′ i ∷ []) (rw (same-body i (agree .present i s)))
+          (rw (same-built, same-joint j e))
+      same-refusal (readVelocity i) e r =
+          same-rest true (bodyRule m i ∷ []) (bodyRule m′ i ∷ []) (rw (same-body i e))
+
+-- ---- of the set
+
+-- a call that asks for a body or a joint by index asks for one of the set's
+abbrev pub About : (ℕ → Bool) → Model → Call → Type 0
+About set m load = Unit
+About set m (place i pose) = set i ≡ true
+About set m (build warm substep) = Unit
+About set m warmStart = Unit
+About set m (sweep n) = Unit
+About set m removeBias = Unit
+About set m writeBack = Unit
+About set m (readRows j) = Mine set m j
+About set m (readVelocity i) = set i ≡ true
+
+-- both models have it
+module _ (set : ℕ → Bool) (made : Type 0) (m m′ : Model) (agree : Agree set made m m′) where
+  alike-body : (i : ℕ) → set i ≡ true → AlikeBody m m′ i
+  alike-body i s =
+      let l = agree .present i s in
+      lt-ltb i (bodyCount (m .bodies)) (l .0) ∙ sym (lt-ltb i (bodyCount (m′ .bodies)) (l .1))
+
+  pub about-asked : (c : Call) → About set m c → AskedAlike m m′ c
+  about-asked load t = tt
+  about-asked (place i pose) s = alike-body i s
+  about-asked (build warm substep) t = tt
+  about-asked warmStart t = tt
+  about-asked (sweep n) t = tt
+  about-asked removeBias t = tt
+  about-asked writeBack t = tt
+  about-asked (readRows j) i =
+      lt-ltb j (jointCount (m .words) (m .numbers)) (i .there) ∙ sym (lt-ltb j (jointCount (m′ .words) (m′ .numbers)) (agree .joints j i .there))
+  about-asked (readVelocity i) s = alike-body i s

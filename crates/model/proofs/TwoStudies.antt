@@ -1,7 +1,7 @@
 -- Two studies side by side (`two-studies`, demand 3). Two studies start as their granted loads left them, and agree on a set of bodies that is closed in both;
 -- nothing is asked of what else either holds. Both go through one list of calls, any calls in any order, with the same further arguments and row storage of their
--- own. Then at each position a call that asks for no body or joint outside the set is refused with the same number in both, or granted in both with the same
--- answer, a build's total aside. After the list the marks are equal, and so are the set's velocities, the stored impulses that its joints name and, while the
+-- own. Then at each position a call that asks by index for nothing that only one of them has is refused with the same number in both, or granted in both; and
+-- one that asks for no body or joint outside the set has the same answer in both, a build's total aside. After the list the marks are equal, and so are the set's velocities, the stored impulses that its joints name and, while the
 -- models are marked built, the rows of its joints, each whole and in order.
 -- The proof keeps an invariant from call to call (`Beside`): the models agree on the set, their marks are equal, and the rows of the set's joints are the same
 -- while the models are built.
@@ -27,7 +27,7 @@ use Rattle.model.specs.Refusals.{refusal, modelRules, storageRule, built
 use Rattle.model.specs.Calls.{Call, Answer, Outcome, rulesOf, grantedOf, run, eachJoint, rounds, buildOne, warmstartOne, sweepRound, removeBiasOne}
 use Rattle.model.specs.Calls.Call.{load, place, build, warmStart, sweep, removeBias, writeBack, readRows, readVelocity}
 use Rattle.model.specs.Calls.Answer.{granted, total, velocityRead, refused}
-use Rattle.model.specs.Studies.{Study, Given, handed, outcomeAt, next, after, Granted, MakesRows, Loaded, Turn, one, other, handsOver, Enough, Agree, withoutTotal, SameAnswer, SameAnswers, Shared, TwoStudies}
+use Rattle.model.specs.Studies.{Study, Given, handed, outcomeAt, next, after, Granted, MakesRows, Loaded, Turn, one, other, handsOver, Enough, Agree, withoutTotal, refusalOf, AskedAlike, RefusedAlike, SameAnswer, SameAnswers, Shared, TwoStudies}
 use Rattle.model.proofs.StoreLaws.{withPose, solverPoseAt-cong, solverPoseAt-putPose, solverPoseAt-putPose-other, velAt-putPose, length-putPose}
 use Rattle.model.proofs.CountLaws.{body-there}
 use Rattle.model.proofs.RefusalLaws.{by-cases, RulesHold, rules-hold, sound-held}
@@ -37,7 +37,7 @@ use Rattle.model.proofs.SameStudies.{RowsSame, VelsSame}
 use Rattle.model.proofs.Agrees.{mine-before, contents-stay, agree-after}
 use Rattle.model.proofs.WriteBackApart.{write-back-agrees}
 use Rattle.model.proofs.ApartCalls.{warm-start-apart, sweep-apart, bias-apart, build-apart}
-use Rattle.model.proofs.SameRefusals.{About, same-refusal}
+use Rattle.model.proofs.SameRefusals.{About, about-asked, same-refusal}
 
 -- ---- what a granted call's rules say of the model
 
@@ -119,7 +119,7 @@ module _ (set : ℕ → Bool) (made : Type 0) (m m′ : Model) (rows rows′ : L
       → (refusal (rulesOf c m rows) ≡ 0 → Next set made m c (grantedOf c m rows) (grantedOf c m′ rows′))
       → Next set made m c (run c m rows) (run c m′ rows′)
   alike c a room g =
-      let e = same-refusal m m′ h h′ (b .mark) set made (b .agree) rows rows′ c a room in
+      let e = same-refusal m m′ h h′ (b .mark) rows rows′ c (about-asked set made m m′ (b .agree) c a) room in
       by-cases (eqb (refusal (rulesOf c m rows)) 0)
       (λ t.
       let z = eqb-true (refusal (rulesOf c m rows)) 0 t in
@@ -319,6 +319,24 @@ module _ (set : ℕ → Bool) (made : Type 0) (m m′ : Model) (rows rows′ : L
   turn (readRows j) r d = read-rows-next j (r refl)
   turn (readVelocity i) r d = read-velocity-next i
 
+-- ---- refusals
+
+granted-number : (c : Call) (m : Model) (rows : List Float) → refusalOf (grantedOf c m rows .answer) ≡ 0
+unfolding grantedOf
+granted-number load m rows = refl
+granted-number (place i pose) m rows = refl
+granted-number (build warm substep) m rows = refl
+granted-number warmStart m rows = refl
+granted-number (sweep n) m rows = refl
+granted-number removeBias m rows = refl
+granted-number writeBack m rows = refl
+granted-number (readRows j) m rows = refl
+granted-number (readVelocity i) m rows = refl
+
+-- a call's answer tells its refusal
+told : (c : Call) (m : Model) (rows : List Float) → refusalOf (run c m rows .answer) ≡ refusal (rulesOf c m rows)
+told c m rows = run-cases c m rows (λ o. refusalOf (o .answer) ≡ refusal (rulesOf c m rows)) (λ e. granted-number c m rows ∙ sym e) refl
+
 -- ---- a list of calls
 
 -- what holds of two studies before and after each call
@@ -347,6 +365,14 @@ module _ (set : ℕ → Bool) (made : Type 0) where
       turn set made (s .model) (s′ .model) (handed s (one t)) (handed s′ (other t)) (handed-beside set made s s′ (one t) (other t) (w .beside)) (w .held) (w .held′) (t .call) r
       (λ n e. d (record { rowsMade = n; answered = e }))
 
+  refused-alike : (t : Turn) (s s′ : Study) → Together set made s s′
+      → (handsOver (t .call) ≡ true → Room (s .model) (handed s (one t)) × Room (s′ .model) (handed s′ (other t)))
+      → AskedAlike (s .model) (s′ .model) (t .call) → refusalOf (outcomeAt (one t) s .answer) ≡ refusalOf (outcomeAt (other t) s′ .answer)
+  refused-alike t s s′ w r a =
+      told (t .call) (s .model) (handed s (one t))
+      ∙ same-refusal (s .model) (s′ .model) (w .held) (w .held′) (w .beside .mark) (handed s (one t)) (handed s′ (other t)) (t .call) a r
+      ∙ sym (told (t .call) (s′ .model) (handed s′ (other t)))
+
   next-together : (t : Turn) (s s′ : Study) → Together set made s s′ → Next set made (s .model) (t .call) (outcomeAt (one t) s) (outcomeAt (other t) s′)
       → Together set made (next (one t) s) (next (other t) s′)
   next-together t s s′ w x = record {
@@ -356,13 +382,15 @@ module _ (set : ℕ → Bool) (made : Type 0) where
   }
 
   turns : (ts : List Turn) (s s′ : Study) → (MakesRows (map one ts) s → made) → Together set made s s′ → Enough ts s s′
-      → SameAnswers set ts s s′ × Together set made (after (map one ts) s) (after (map other ts) s′)
-  unfolding MakesRows Enough SameAnswers after
-  turns [] s s′ d w r = (tt, w)
+      → RefusedAlike ts s s′ × SameAnswers set ts s s′ × Together set made (after (map one ts) s) (after (map other ts) s′)
+  unfolding MakesRows Enough RefusedAlike SameAnswers after
+  turns [] s s′ d w r = (tt, tt, w)
   turns (t ∷ ts) s s′ d w r =
-      let x = one-turn t s s′ (λ g. d (inl g)) w (λ e. (r .0 e .0 .0, r .0 e .1 .1)) in
+      let room : handsOver (t .call) ≡ true → Room (s .model) (handed s (one t)) × Room (s′ .model) (handed s′ (other t)) =
+      λ e. (r .0 e .0 .0, r .0 e .1 .1) in
+      let x = one-turn t s s′ (λ g. d (inl g)) w room in
       let rest = turns ts (next (one t) s) (next (other t) s′) (λ g. d (inr g)) (next-together t s s′ w x) (r .1) in
-      ((x .answer, rest .0), rest .1)
+      ((refused-alike t s s′ w room, rest .0), (x .answer, rest .1), rest .2)
 
 -- a study starts not built, and rules 1 to 7 hold of it
 loaded-start : (s : Study) → Loaded s → RulesHold (s .model) × (s .model .built ≡ false)
@@ -401,4 +429,4 @@ two-studies set ts s s′ l l′ a enough =
       held′ = q′ .0;
     } in
     let r = turns set made ts s s′ (λ d. d) start enough in
-    record { answers = r .0; shared = together-shared set made _ _ (r .1) }
+    record { refusals = r .0; answers = r .1; shared = together-shared set made _ _ (r .2) }

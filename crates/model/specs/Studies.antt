@@ -4,6 +4,7 @@ use mathlib.Core.Path.{_≡_}
 use mathlib.Core.Logic.{_⊎_, _≢_}
 use mathlib.Core.Bool.{Bool, true, false, cond}
 use mathlib.Core.List.{List, [], _∷_, map}
+use lib.Dec.{ltb}
 use lib.Ieee.{Float}
 use Rattle.rows.specs.Named.{Names, SameNamed}
 use Rattle.rows.specs.Builder.{seedOf}
@@ -165,6 +166,40 @@ SameAnswers set (t ∷ ts) s s′ =
     SameAnswer set (s .model) (t .call) (outcomeAt (one t) s .answer) (outcomeAt (other t) s′ .answer)
     × SameAnswers set ts (next (one t) s) (next (other t) s′)
 
+-- the number of a refusal; 0 of what is granted
+abbrev pub refusalOf : Answer → ℕ
+refusalOf granted = 0
+refusalOf (total n) = 0
+refusalOf (rowsRead ids rows) = 0
+refusalOf (velocityRead v) = 0
+refusalOf (refused k) = k
+
+-- both models have body i, or neither has it; likewise joint j
+abbrev pub AlikeBody : Model → Model → ℕ → Type 0
+AlikeBody m m′ i = ltb i (bodyCount (m .bodies)) ≡ ltb i (bodyCount (m′ .bodies))
+
+abbrev pub AlikeJoint : Model → Model → ℕ → Type 0
+AlikeJoint m m′ j = ltb j (jointCount (m .words) (m .numbers)) ≡ ltb j (jointCount (m′ .words) (m′ .numbers))
+
+-- a call asks by index for nothing that one model has and the other has not; all calls do so where the models have as many bodies and joints
+abbrev pub AskedAlike : Model → Model → Call → Type 0
+AskedAlike m m′ load = Unit
+AskedAlike m m′ (place i pose) = AlikeBody m m′ i
+AskedAlike m m′ (build warm substep) = Unit
+AskedAlike m m′ warmStart = Unit
+AskedAlike m m′ (sweep n) = Unit
+AskedAlike m m′ removeBias = Unit
+AskedAlike m m′ writeBack = Unit
+AskedAlike m m′ (readRows j) = AlikeJoint m m′ j
+AskedAlike m m′ (readVelocity i) = AlikeBody m m′ i
+
+-- at each position of the list such a call is refused with the same number in both studies, or granted in both
+unfoldable pub RefusedAlike : List Turn → Study → Study → Type 0
+RefusedAlike [] s s′ = Unit
+RefusedAlike (t ∷ ts) s s′ =
+    (AskedAlike (s .model) (s′ .model) (t .call) → refusalOf (outcomeAt (one t) s .answer) ≡ refusalOf (outcomeAt (other t) s′ .answer))
+    × RefusedAlike ts (next (one t) s) (next (other t) s′)
+
 -- Shared at a moment: the mark; while it says built, the rows of the set's joints, each whole and in order; the set's velocities; the stored impulses of its
 -- joints, save unnamed ones.
 pub record Shared (set : ℕ → Bool) (made : Type 0) (s s′ : Study) : Type 0 where
@@ -174,8 +209,9 @@ pub record Shared (set : ℕ → Bool) (made : Type 0) (s s′ : Study) : Type 0
   pub impulses : made → (j : ℕ) → Mine set (s .model) j → (id : WritebackId) → Names (masksAt (s .model .words) j) id
       → seedOf (jointAt (s .model .words) (s .model .numbers) j) id ≡ seedOf (jointAt (s′ .model .words) (s′ .model .numbers) j) id
 
--- Demand 3, of a list of calls: two studies that start loaded and agree share the set's answers throughout, and the rest after the list.
+-- Demand 3, of a list of calls: two studies that start loaded and agree are refused alike and share the set's answers throughout, and the rest after the list.
 pub record Apart (set : ℕ → Bool) (ts : List Turn) (s s′ : Study) : Type 0 where
+  pub refusals : RefusedAlike ts s s′
   pub answers : SameAnswers set ts s s′
   pub shared : Shared set (MakesRows (map one ts) s) (after (map one ts) s) (after (map other ts) s′)
 
@@ -209,7 +245,16 @@ SameTold set (t ∷ ts) s [] os′ = ⊥
 SameTold set (t ∷ ts) s (o ∷ os) [] = ⊥
 SameTold set (t ∷ ts) s (o ∷ os) (o′ ∷ os′) = SameAnswer set (s .model) (t .call) (o .answer) (o′ .answer) × SameTold set ts (left o) os os′
 
+-- and their refusals
+unfoldable pub ToldAlike : List Turn → Study → Study → List Outcome → List Outcome → Type 0
+ToldAlike [] s s′ os os′ = Unit
+ToldAlike (t ∷ ts) s s′ [] os′ = ⊥
+ToldAlike (t ∷ ts) s s′ (o ∷ os) [] = ⊥
+ToldAlike (t ∷ ts) s s′ (o ∷ os) (o′ ∷ os′) =
+    (AskedAlike (s .model) (s′ .model) (t .call) → refusalOf (o .answer) ≡ refusalOf (o′ .answer)) × ToldAlike ts (left o) (left o′) os os′
+
 -- demand 3 of the program
 pub record ProgramsApart (set : ℕ → Bool) (ts : List Turn) (s s′ : Study) (os os′ : List Outcome) : Type 0 where
+  pub refusals : ToldAlike ts s s′ os os′
   pub answers : SameTold set ts s os os′
   pub shared : Shared set (MakesRows (map one ts) s) (leftBy s os) (leftBy s′ os′)
