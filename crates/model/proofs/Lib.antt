@@ -19,3 +19,4 @@ pub mod WriteBackApart
 pub mod SameRefusals
 pub mod TwoStudies
 pub mod ProgramApart
+pub mod AgreeSelf
