@@ -1,6 +1,8 @@
 // Runs the cases of document 01 and prints each with its answer; the expected answers stand in the
 // file `stdout` beside this folder. Numbers are bit patterns in hexadecimal, as document 01 has
 // them, and every NaN is 7fc00000.
+use crate::models::models;
+use crate::print::text;
 use floats::angle::angle;
 use floats::bits::from_bits;
 use floats::bits::to_bits;
@@ -20,15 +22,14 @@ use floats::utils::smallest_abs_diff_between_angles;
 use floats::vector::Vector;
 use libc::STDOUT_FILENO;
 
+mod models;
+mod print;
+
 const NAN: u32 = 0x7fc0_0000;
 
 const INF: u32 = 0x7f80_0000;
 
 const NEG_ZERO: u32 = 0x8000_0000;
-
-fn text(s: &[u8]) {
-    io::write_all(STDOUT_FILENO, s);
-}
 
 fn show(name: &[u8], r: f32) {
     text(name);
@@ -265,4 +266,5 @@ fn main() {
     poses();
     angles();
     reports();
+    models();
 }
