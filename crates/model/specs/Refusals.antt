@@ -33,13 +33,26 @@ unfoldable pub all : ℕ → ℕ → (ℕ → Bool) → Bool
 all i zero p = true
 all i (suc n) p = p i && all (i + 1) n p
 
+-- document 01's largest numbers of bodies, joints and rounds, and the mask of all three axes
+abbrev pub mostBodies : ℕ
+mostBodies = 128
+
+abbrev pub mostJoints : ℕ
+mostJoints = 128
+
+abbrev pub mostRounds : ℕ
+mostRounds = 1000
+
+abbrev pub allAxes : ℕ
+allAxes = 7
+
 abbrev pub atMost : ℕ → ℕ → Bool
 atMost most n = not (ltb most n)
 
 -- ---- what rules 3, 4 and 5 ask of joint j
 
 unfoldable pub masksFit : List ℕ → ℕ → Bool
-masksFit words j = all 2 4 (λ c. atMost 7 (word 9 words j c))
+masksFit words j = all 2 4 (λ c. atMost allAxes (word 9 words j c))
 
 -- a body is present, or the world
 unfoldable pub presentOrWorld : List Float → ℕ → Bool
@@ -108,8 +121,8 @@ unfoldable pub modelRules : Model → Bool → List Rule
 modelRules m arguments =
     let bodies = bodyCount (m .bodies) in
     let joints = jointCount (m .words) (m .numbers) in
-    rule 1 (atMost 128 bodies)
-    ∷ rule 2 (atMost 128 joints)
+    rule 1 (atMost mostBodies bodies)
+    ∷ rule 2 (atMost mostJoints joints)
     ∷ (jointRules (m .bodies) (m .words) joints
     ++ (rule 6 (allFinite (m .params) (m .bodies) bodies (m .numbers) joints arguments) ∷ rule 7 (not (lt (m .params .dt) (bits 0))) ∷ []))
 
@@ -118,8 +131,6 @@ unfoldable pub storageRule : Model → List Float → Rule
 storageRule m rows = rule 8 (atMost (rowCapacity rows) (totalRows (m .words) (m .numbers)))
 
 -- rules 9 to 11, by call
-abbrev pub mostRounds : ℕ
-mostRounds = 1000
 
 unfoldable pub sweepRule : ℕ → Rule
 sweepRule n = rule 9 (atMost mostRounds n)

@@ -34,6 +34,9 @@ use rows::joint_velocity_constraint::SolverVel;
 use rows::row_ids::RowIds;
 use rows::row_ids::row_ids;
 
+// Rule 9: a sweep has at most so many rounds.
+pub const MOST_ROUNDS: u32 = 1000;
+
 // The answer of a call that has nothing to tell.
 pub enum Plain {
     Granted,
@@ -176,7 +179,7 @@ pub fn sweep(
     if k != 0 {
         return Plain::Refused(k);
     }
-    if n > 1000 {
+    if n > MOST_ROUNDS {
         return Plain::Refused(9);
     }
     if !header.built {

@@ -19,6 +19,13 @@ use floats::scalar::is_finite;
 use rows::integration_parameters::IntegrationParameters;
 use rows::joint_constraint_builder::Warmstart;
 
+// Rules 1, 2 and 3: at most so many bodies and joints, and no bit past the three axes.
+pub const MOST_BODIES: usize = 128;
+
+pub const MOST_JOINTS: usize = 128;
+
+pub const ALL_AXES: u32 = 7;
+
 // ---- rules 3, 4 and 5
 
 fn masks_fit(words: &[u32], j: usize) -> bool
@@ -28,7 +35,7 @@ fn masks_fit(words: &[u32], j: usize) -> bool
     let o = j * 9 + 2;
     let mut c = 0usize;
     while c < 4 {
-        if words[o + c] > 7 {
+        if words[o + c] > ALL_AXES {
             return false;
         }
         c += 1;
@@ -313,10 +320,10 @@ pub fn model_refusal(
     let params = header.params;
     let n = body_count(bodies);
     let joints = joint_count(words, numbers);
-    if n > 128 {
+    if n > MOST_BODIES {
         return 1;
     }
-    if joints > 128 {
+    if joints > MOST_JOINTS {
         return 2;
     }
     let k = joints_refusal(bodies, words, joints);
