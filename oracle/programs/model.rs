@@ -7,6 +7,7 @@
 //!                                   it, by the oracle
 //!   model answers                   a fixed list of calls with the oracle's answers
 //!   model replay < ANSWERS          the answers again, by each side that is there
+//!   model leg                       what the program leg must print, by the oracle
 //!   model bench                     the same work by the Rust and by the Rattle library, timed
 //!   model rendering SEED CALLS      against the second rendering
 //!   model fault NUMBER SEED CALLS   against the second rendering with one fault
@@ -24,6 +25,8 @@ mod draw;
 mod fenced;
 #[path = "model/generator.rs"]
 mod generator;
+#[path = "model/leg.rs"]
+mod leg;
 #[path = "model/library.rs"]
 mod library;
 #[path = "../model.rs"]
@@ -78,6 +81,7 @@ fn main() {
                 println!("{agree} lines agree by {name}");
             }
         }
+        Some("leg") => leg::print(),
         #[cfg(rattle)]
         Some("bench") => bench::bench(),
         Some("rendering") => run::compare(library::RENDERING, number(1, 1), number(2, calls)),
@@ -93,7 +97,7 @@ fn main() {
         Some("faults") => run::faults(number(1, 1), number(2, calls), number(3, 1_000)),
         _ => {
             eprintln!(
-                "model: cases | compare SEED CALLS | pairs SEED COUNT | answers | replay | bench | \
+                "model: cases | compare SEED CALLS | pairs SEED COUNT | answers | replay | leg | bench | \
                  rendering SEED CALLS | fault NUMBER SEED CALLS | faults SEED CALLS PAIRS"
             );
             exit(2)

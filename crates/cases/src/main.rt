@@ -2,12 +2,9 @@
 // file `stdout` beside this folder. Numbers are bit patterns in hexadecimal, as document 01 has
 // them, and every NaN is 7fc00000.
 use crate::models::models;
-use crate::print::text;
 use floats::angle::angle;
 use floats::bits::from_bits;
 use floats::bits::to_bits;
-use floats::micro_report::MicroReport;
-use floats::micro_report::micro_report;
 use floats::pose::Pose;
 use floats::rotation_ops::Rotation;
 use floats::scalar::clamp;
@@ -21,9 +18,10 @@ use floats::utils::simd_inv;
 use floats::utils::smallest_abs_diff_between_angles;
 use floats::vector::Vector;
 use libc::STDOUT_FILENO;
+use print::millionths;
+use print::text;
 
 mod models;
-mod print;
 
 const NAN: u32 = 0x7fc0_0000;
 
@@ -210,32 +208,12 @@ fn angles() {
     show(b"angle (1, nan)", angle(1.0, from_bits(NAN)));
 }
 
-fn show_whole(n: i32) {
-    if n < 0 {
-        text(b"-");
-        io::print_decimal(STDOUT_FILENO, -(n as i64) as u64);
-    } else {
-        io::print_decimal(STDOUT_FILENO, n as u64);
-    }
-}
-
 fn report(name: &[u8], x: f32) {
     text(b"report ");
     text(name);
-    let r = micro_report(x);
-    match r {
-        MicroReport::Whole(n) => {
-            text(b" = ");
-            show_whole(n);
-            text(b"\n");
-        }
-        MicroReport::Over => {
-            text(b" = over\n");
-        }
-        MicroReport::Nan => {
-            text(b" = nan\n");
-        }
-    }
+    text(b" = ");
+    millionths(x);
+    text(b"\n");
 }
 
 fn reports() {

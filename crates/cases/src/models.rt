@@ -1,8 +1,5 @@
 // Document 01's cases about models, and the edges of its rules: bodies 0 and 1, one apart along x, with a joint between them
 // that locks y and the angle and has a limit along x, of which both ends are 1; 127 joints more make no row.
-use crate::print::ended;
-use crate::print::number;
-use crate::print::text;
 use floats::bits::from_bits;
 use floats::bits::to_bits;
 use floats::pose::Pose;
@@ -24,6 +21,9 @@ use model::calls::warm_start;
 use model::calls::write_back;
 use model::header::Header;
 use model::store::WORLD;
+use print::ended;
+use print::number;
+use print::text;
 use rows::integration_parameters::IntegrationParameters;
 use rows::joint_constraint_builder::Warmstart;
 use rows::joint_velocity_constraint::JointConstraint;

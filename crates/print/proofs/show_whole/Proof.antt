@@ -12,8 +12,8 @@ use lib.Signed.{ltZ, nonNeg}
 use mir.Syntax.{w32, w64}
 use mir.Val.{SFits, Fits, toZ, ofZ}
 use mir.ValLaws.{toZ-ofZ}
-use Rattle.cases.proofs.show_whole.Statement.{statement}
-use Rattle.cases.proofs.show_whole.Tie as tie
+use Rattle.print.proofs.show_whole.Statement.{statement}
+use Rattle.print.proofs.show_whole.Tie as tie
 
 -- what a cast of z to `u64` asks
 abbrev Unsigned : ℤ → Type 0
