@@ -1,5 +1,6 @@
 -- Demand 1: a call is refused with k exactly if the rule of number k fails and every rule before it holds (`refused-exactly`, `exactly-refused`), and then it
--- leaves model and row storage as they were (`refused-leaves`). It is granted exactly if every rule holds (`granted-exactly`, `exactly-granted`).
+-- leaves model and row storage as they were (`refused-leaves`); its answer tells that number (`told`). It is granted exactly if every rule holds
+-- (`granted-exactly`, `exactly-granted`).
 use Prim.Native.Nat.{ℕ}
 use mathlib.Core.Path.{_≡_, refl, sym, ap, _∙_}
 use mathlib.Core.Logic.{_≢_}
@@ -13,6 +14,7 @@ use Rattle.model.specs.Refusals.{refusal}
 use Rattle.model.specs.Calls.{Call, Answer, Outcome, outcome, rulesOf, grantedOf, run}
 use Rattle.model.specs.Calls.Call.{load, place, build, warmStart, sweep, removeBias, writeBack, readRows, readVelocity}
 use Rattle.model.specs.Calls.Answer.{granted, total, rowsRead, velocityRead, refused}
+use Rattle.model.specs.Studies.{refusalOf}
 use Rattle.model.proofs.RefusalLaws.{by-cases, First, Hold, refused-first, first-refused, all-hold, hold-granted, call-numbered}
 use Rattle.model.proofs.CallLaws.{run-granted, run-refused}
 
@@ -24,12 +26,13 @@ isRefusal (rowsRead ids rows) = false
 isRefusal (velocityRead v) = false
 isRefusal (refused k) = true
 
-abbrev numberOf : Answer → ℕ
-numberOf granted = 0
-numberOf (total n) = 0
-numberOf (rowsRead ids rows) = 0
-numberOf (velocityRead v) = 0
-numberOf (refused k) = k
+-- and what is none has no number
+no-number : (a : Answer) → isRefusal a ≡ false → refusalOf a ≡ 0
+no-number granted e = refl
+no-number (total n) e = refl
+no-number (rowsRead ids rows) e = refl
+no-number (velocityRead v) e = refl
+no-number (refused k) e = absurd (false≢true (sym e))
 
 module _ (m : Model) (rows : List Float) where
   no-refusal : (c : Call) → isRefusal (grantedOf c m rows .answer) ≡ false
@@ -45,18 +48,24 @@ module _ (m : Model) (rows : List Float) where
   no-refusal (readVelocity i) = refl
 
 module _ (c : Call) (m : Model) (rows : List Float) where
-  -- a refusal's number is that of the first rule that fails
-  refusal-number : (k : ℕ) → run c m rows .answer ≡ refused k → (refusal (rulesOf c m rows) ≡ k) × (k ≢ 0)
-  refusal-number k a =
+  -- the answer tells the number of the first rule that fails
+  pub told : refusalOf (run c m rows .answer) ≡ refusal (rulesOf c m rows)
+  told =
       let n = refusal (rulesOf c m rows) in
       by-cases (eqb n 0)
       (λ t.
-      let e : grantedOf c m rows .answer ≡ refused k = ap (λ (o : Outcome). o .answer) (run-granted c m rows (eqb-true n 0 t)) ∙ a in
-      absurd (false≢true (sym (no-refusal m rows c) ∙ ap isRefusal e)))
-      (λ t.
-      let z = eqb-false n 0 t in
-      let e : n ≡ k = ap numberOf (ap (λ (o : Outcome). o .answer) (run-refused c m rows refl z) ∙ a) in
-      (e, λ q. z (e ∙ q)))
+      let e = eqb-true n 0 t in
+      ap (λ (o : Outcome). refusalOf (o .answer)) (sym (run-granted c m rows e)) ∙ no-number (grantedOf c m rows .answer) (no-refusal m rows c) ∙ sym e)
+      (λ t. ap (λ (o : Outcome). refusalOf (o .answer)) (sym (run-refused c m rows refl (eqb-false n 0 t))))
+
+  refusal-number : (k : ℕ) → run c m rows .answer ≡ refused k → (refusal (rulesOf c m rows) ≡ k) × (k ≢ 0)
+  refusal-number k a =
+      let e : refusal (rulesOf c m rows) ≡ k = sym told ∙ ap refusalOf a in (
+        e,
+        λ q.
+            let g : grantedOf c m rows .answer ≡ refused k = ap (λ (o : Outcome). o .answer) (run-granted c m rows (e ∙ q)) ∙ a in
+            absurd (false≢true (sym (no-refusal m rows c) ∙ ap isRefusal g)),
+      )
 
   pub refused-exactly : (k : ℕ) → run c m rows .answer ≡ refused k → First k (rulesOf c m rows)
   refused-exactly k a =

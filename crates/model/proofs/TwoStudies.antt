@@ -32,6 +32,7 @@ use Rattle.model.proofs.StoreLaws.{withPose, solverPoseAt-cong, solverP
 use Rattle.model.proofs.CountLaws.{body-there}
 use Rattle.model.proofs.RefusalLaws.{by-cases, RulesHold, rules-hold, sound-held}
 use Rattle.model.proofs.CallLaws.{run-granted, run-refused}
+use Rattle.model.proofs.RefusedExactly.{told}
 use Rattle.model.proofs.Keeps.{SamePoses, warm-keeps, sweep-keeps, back-keeps, granted-front, granted-own, run-cases, run-holds}
 use Rattle.model.proofs.SameStudies.{RowsSame, VelsSame}
 use Rattle.model.proofs.Agrees.{mine-before, contents-stay, agree-after}
@@ -318,24 +319,6 @@ module _ (set : ℕ → Bool) (made : Type 0) (m m′ : Model) (rows rows′ : L
   turn writeBack r d = alike writeBack tt r (λ z. back-next (built-work m rows h z))
   turn (readRows j) r d = read-rows-next j (r refl)
   turn (readVelocity i) r d = read-velocity-next i
-
--- ---- refusals
-
-granted-number : (c : Call) (m : Model) (rows : List Float) → refusalOf (grantedOf c m rows .answer) ≡ 0
-unfolding grantedOf
-granted-number load m rows = refl
-granted-number (place i pose) m rows = refl
-granted-number (build warm substep) m rows = refl
-granted-number warmStart m rows = refl
-granted-number (sweep n) m rows = refl
-granted-number removeBias m rows = refl
-granted-number writeBack m rows = refl
-granted-number (readRows j) m rows = refl
-granted-number (readVelocity i) m rows = refl
-
--- a call's answer tells its refusal
-told : (c : Call) (m : Model) (rows : List Float) → refusalOf (run c m rows .answer) ≡ refusal (rulesOf c m rows)
-told c m rows = run-cases c m rows (λ o. refusalOf (o .answer) ≡ refusal (rulesOf c m rows)) (λ e. granted-number c m rows ∙ sym e) refl
 
 -- ---- a list of calls
 

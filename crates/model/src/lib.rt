@@ -1,8 +1,8 @@
-// The model of several joints.
-pub mod all_joints;
+// The model of several joints. The calls, the header and the storage's records are for callers; the modules below the calls are not.
+mod all_joints;
 pub mod calls;
-pub mod counts;
+mod counts;
 pub mod header;
-pub mod joint_rows;
-pub mod refusals;
+mod joint_rows;
+mod refusals;
 pub mod store;
