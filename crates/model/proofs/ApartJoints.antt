@@ -8,7 +8,7 @@ use mathlib.Core.List.{List}
 use native.Mathlib.Decide.{ℕ-discrete, decLt, map-dec}
 use native.Mathlib.Omega.{arith}
 use Rattle.model.specs.Store.{world, body1At, body2At}
-use Rattle.model.specs.JointRows.{rowCount}
+use Rattle.model.specs.JointRows.{jointIds, rowCount}
 use Rattle.model.specs.Model.{Model, bodyCount, jointCount, rowsBefore, Sound}
 use Rattle.model.specs.Studies.{Inside, Mine, Closed, Agree}
 use Rattle.model.proofs.Apart.{Layout, Joint, Foreign, Split}
@@ -70,7 +70,7 @@ module _ (set : ℕ → Bool) where
 
   module _ (made : Type 0) (m m′ : Model) (agree : Agree set made m m′) (ok : Sound m) (ok′ : Sound m′) where
     joint-of : (j : ℕ) → Mine set m j → Joint (layoutOf m) (layoutOf m′) InSet IsWorld j
-    unfolding rowCount
+    unfolding jointIds rowCount
     joint-of j t = record {
       there = t .there;
       there′ = agree .joints j t .there;

@@ -10,7 +10,6 @@ use lib.Dec.{eqb}
 use lib.Ieee.{Float}
 use Rattle.rows.specs.declared.joint_constraint_builder.Warmstart.{Warmstart}
 use Rattle.rows.specs.declared.joint_velocity_constraint.Rows.{Rows}
-use Rattle.rows.specs.declared.generic_joint.Masks.{Masks}
 use Rattle.rows.specs.declared.row_ids.RowIds.{RowIds}
 use Rattle.rows.specs.RowIds.{rowIdsArray}
 use Rattle.rows.specs.Update.{rowsArray}
@@ -186,9 +185,9 @@ module _ (j : ℕ) (m : Model) (rows : List Float) where
   unfolding rowsAnswerOf
   rows-refused e o = e ∙ ap (λ o. rowsAnswerOf (masksAt (m .words) j) (o .answer)) o
 
-  pub rows-granted : {masks : Masks} {ids : RowIds} {first count : ℕ} {read : Rows} → masks ≡ masksAt (m .words) j → ids ≡ rowIdsArray masks
+  pub rows-granted : {ids : RowIds} {first count : ℕ} {read : Rows} → ids ≡ rowIdsArray (masksAt (m .words) j)
       → first ≡ rowsBefore (m .words) j → count ≡ rowCount (m .words) j → read ≡ rowsArray (rowsFrom rows first count)
       → grantedOf (readRows j) m rows ≡ run (readRows j) m rows
       → _≡_ {A = RowsAnswer} (record { answer = Plain.Granted; ids = ids; rows = read }) (rowsAnswerOf (masksAt (m .words) j) (run (readRows j) m rows .answer))
   unfolding rowsAnswerOf grantedOf rowsOf
-  rows-granted a i f c r o = rw (r, f, c, i, a) (ap (λ o. rowsAnswerOf (masksAt (m .words) j) (o .answer)) o)
+  rows-granted i f c r o = rw (r, f, c, i) (ap (λ o. rowsAnswerOf (masksAt (m .words) j) (o .answer)) o)

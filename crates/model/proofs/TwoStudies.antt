@@ -21,7 +21,7 @@ use Rattle.rows.specs.declared.joint_constraint_builder.Warmstart.{Warmstart}
 use Rattle.rows.specs.declared.joint_velocity_constraint.WritebackId.{WritebackId}
 use Rattle.rows.proofs.WritebackNamed.{named-seeds}
 use Rattle.model.specs.Store.{world, solverPoseAt, velAt, putPose, jointAt, masksAt}
-use Rattle.model.specs.JointRows.{State, state}
+use Rattle.model.specs.JointRows.{State, state, jointIds}
 use Rattle.model.specs.Model.{Model, model, withBodies, jointCount, Sound, Room}
 use Rattle.model.specs.Refusals.{refusal, modelRules, storageRule, builtRule, seedsRule, readsRows, finiteWarm, sweepRule, jointRule}
 use Rattle.model.specs.Calls.{Call, Answer, Outcome, rulesOf, grantedOf, run, eachJoint, rounds, buildOne, warmstartOne, sweepRound, removeBiasOne}
@@ -272,7 +272,7 @@ module _ (set : ℕ → Bool) (made : Type 0) (m m′ : Model) (rows rows′ : L
   unchanged c l l′ = rw (l .0, l .1, l′ .0, l′ .1) b
 
   read-rows-next : (j : ℕ) → Room m rows × Room m′ rows′ → Next set made m (readRows j) (run (readRows j) m rows) (run (readRows j) m′ rows′)
-  unfolding grantedOf
+  unfolding grantedOf jointIds
   read-rows-next j room = record {
     beside = unchanged (readRows j) (left-alone (readRows j) m rows refl refl) (left-alone (readRows j) m′ rows′ refl refl);
     answer = λ i.

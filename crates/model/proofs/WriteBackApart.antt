@@ -10,14 +10,13 @@ use borrow.Author.Tests.{eqb-true, eqb-false}
 use lib.Dec.{eqb}
 use lib.ListN.{length}
 use lib.Ieee.{Float}
-use Rattle.rows.specs.RowIds.{rowIds}
 use Rattle.rows.specs.Named.{SameNamed}
 use Rattle.rows.specs.Writeback.{writebackOf}
 use Rattle.rows.specs.declared.joint_constraint_builder.ImpulseJoint.{ImpulseJoint}
 use Rattle.rows.specs.declared.joint_velocity_constraint.WritebackId.{WritebackId}
 use Rattle.rows.proofs.WritebackNamed.{Axes, written-axes, named-written}
 use Rattle.model.specs.Store.{rowAt, jointAt, masksAt, putSeed}
-use Rattle.model.specs.JointRows.{rowCount, writeBackIds, writeBackJoint}
+use Rattle.model.specs.JointRows.{jointIds, rowCount, writeBackIds, writeBackJoint}
 use Rattle.model.specs.Model.{Model, withNumbers, jointCount, rowsBefore}
 use Rattle.model.specs.Calls.{eachJoint, writeBackOne, rowsFrom, rowsOf}
 use Rattle.model.specs.Studies.{Mine, Agree}
@@ -53,16 +52,16 @@ module _ (words : List ℕ) (rows : List Float) where
 
   one-other : (j j′ : ℕ) (n : List Float) → j′ ≢ j → jointAt words (writeBackOne rows words j n) j′ ≡ jointAt words n j′
   unfolding writeBackOne writeBackJoint
-  one-other j j′ n ne = back-other (rowsBefore words j) j j′ (rowIds 2 1 (masksAt words j)) n ne
+  one-other j j′ n ne = back-other (rowsBefore words j) j j′ (jointIds words j) n ne
 
   one-own : (j : ℕ) (n : List Float) → j * 42 + 42 ≤ length n
-      → jointAt words (writeBackOne rows words j n) j ≡ wroteOf rows (rowsBefore words j) (rowIds 2 1 (masksAt words j)) (jointAt words n j)
+      → jointAt words (writeBackOne rows words j n) j ≡ wroteOf rows (rowsBefore words j) (jointIds words j) (jointAt words n j)
   unfolding writeBackOne writeBackJoint
-  one-own j n room = back-own (rowsBefore words j) j (rowIds 2 1 (masksAt words j)) n room
+  one-own j n room = back-own (rowsBefore words j) j (jointIds words j) n room
 
   one-size : (j : ℕ) (n : List Float) → length (writeBackOne rows words j n) ≡ length n
   unfolding writeBackOne writeBackJoint
-  one-size j n = back-ids n rows (rowsBefore words j) j (rowIds 2 1 (masksAt words j)) n (same-but-seeds n) .size
+  one-size j n = back-ids n rows (rowsBefore words j) j (jointIds words j) n (same-but-seeds n) .size
 
   -- later joints' work leaves joint j
   later : (i t j : ℕ) (n : List Float) → j < i → jointAt words (eachJoint (writeBackOne rows words) i t n) j ≡ jointAt words n j
@@ -72,7 +71,7 @@ module _ (words : List ℕ) (rows : List Float) where
 
   -- joint j after the work on t joints from joint i on, of which it is one
   back-all : (i t j : ℕ) (n : List Float) → i ≤ j → j < i + t → j * 42 + 42 ≤ length n
-      → jointAt words (eachJoint (writeBackOne rows words) i t n) j ≡ wroteOf rows (rowsBefore words j) (rowIds 2 1 (masksAt words j)) (jointAt words n j)
+      → jointAt words (eachJoint (writeBackOne rows words) i t n) j ≡ wroteOf rows (rowsBefore words j) (jointIds words j) (jointAt words n j)
   unfolding eachJoint
   back-all i zero j n l u room = absurd (omega arith)
   back-all i (suc t) j n l u room = by-cases (eqb j i)
@@ -80,11 +79,11 @@ module _ (words : List ℕ) (rows : List Float) where
       (λ e.
       let h = eqb-false j i e in
       back-all (i + 1) t j (writeBackOne rows words i n) (omega arith) (omega arith) (rw one-size room)
-      ∙ ap (wroteOf rows (rowsBefore words j) (rowIds 2 1 (masksAt words j))) (one-other i j n h))
+      ∙ ap (wroteOf rows (rowsBefore words j) (jointIds words j)) (one-other i j n h))
 
 -- each joint that is there
 stored : (words : List ℕ) (rows n : List Float) (j : ℕ) → j < jointCount words n
-    → jointAt words (eachJoint (writeBackOne rows words) 0 (jointCount words n) n) j ≡ wroteOf rows (rowsBefore words j) (rowIds 2 1 (masksAt words j)) (jointAt words n j)
+    → jointAt words (eachJoint (writeBackOne rows words) 0 (jointCount words n) n) j ≡ wroteOf rows (rowsBefore words j) (jointIds words j) (jointAt words n j)
 stored words rows n j l = back-all words rows 0 (jointCount words n) j n (omega arith) (omega arith) (joint-numbers words n j l)
 
 -- ---- two joints
@@ -118,12 +117,12 @@ module _ (set : ℕ → Bool) (made : Type 0) (m m′ : Model) (agree : Agree se
   -- what is stored of a joint of the set
   wrote-both : (j : ℕ) → masksAt (m .words) j ≡ masksAt (m′ .words) j → rowsOf (m .words) rows j ≡ rowsOf (m′ .words) rows′ j
       → SameNamed (jointAt (m .words) (m .numbers) j) (jointAt (m′ .words) (m′ .numbers) j)
-      → SameNamed (wroteOf rows (rowsBefore (m .words) j) (rowIds 2 1 (masksAt (m .words) j)) (jointAt (m .words) (m .numbers) j))
-      (wroteOf rows′ (rowsBefore (m′ .words) j) (rowIds 2 1 (masksAt (m′ .words) j)) (jointAt (m′ .words) (m′ .numbers) j))
-  unfolding rowsOf rowCount
+      → SameNamed (wroteOf rows (rowsBefore (m .words) j) (jointIds (m .words) j) (jointAt (m .words) (m .numbers) j))
+      (wroteOf rows′ (rowsBefore (m′ .words) j) (jointIds (m′ .words) j) (jointAt (m′ .words) (m′ .numbers) j))
+  unfolding rowsOf jointIds rowCount
   wrote-both j e r s =
       rw (← e)
-      (wrote-named rows rows′ (rowsBefore (m .words) j) (rowsBefore (m′ .words) j) (rowIds 2 1 (masksAt (m .words) j)) _ _ (jointAt-axes (m .words) (m .numbers) j)
+      (wrote-named rows rows′ (rowsBefore (m .words) j) (rowsBefore (m′ .words) j) (jointIds (m .words) j) _ _ (jointAt-axes (m .words) (m .numbers) j)
       (jointAt-axes (m′ .words) (m′ .numbers) j) (rw (← e) at r) s)
 
   named-back : (j : ℕ) → Mine set m j → SameNamed (jointAt (m .words) (m .numbers) j) (jointAt (m′ .words) (m′ .numbers) j)

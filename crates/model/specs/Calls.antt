@@ -5,13 +5,12 @@ use mathlib.Core.List.{List, [], _∷_, _++_}
 use lib.Dec.{eqb}
 use lib.Ieee.{Float}
 use Rattle.floats.specs.declared.pose.Pose.{Pose}
-use Rattle.rows.specs.RowIds.{rowIds}
 use Rattle.rows.specs.declared.joint_constraint_builder.Warmstart.{Warmstart}
 use Rattle.rows.specs.declared.joint_velocity_constraint.JointConstraint.{JointConstraint}
 use Rattle.rows.specs.declared.joint_velocity_constraint.SolverVel.{SolverVel}
 use Rattle.rows.specs.declared.joint_velocity_constraint.WritebackId.{WritebackId}
-use Rattle.model.specs.Store.{rowAt, velAt, putPose, masksAt, body1At, body2At}
-use Rattle.model.specs.JointRows.{State, state, rowCount, buildJoint, sweepJoint, warmstartJoint, removeBiasJoint, writeBackJoint}
+use Rattle.model.specs.Store.{rowAt, velAt, putPose, body1At, body2At}
+use Rattle.model.specs.JointRows.{State, state, jointIds, rowCount, buildJoint, sweepJoint, warmstartJoint, removeBiasJoint, writeBackJoint}
 use Rattle.model.specs.Model.{Model, withMark, withBodies, withNumbers, bodyCount, jointCount, rowsBefore, totalRows}
 use Rattle.model.specs.Refusals.{Rule, refusal, finitePose, finiteWarm, modelRules, storageRule, sweepRule, builtRule, seedsRule, bodyRule, jointRule}
 
@@ -120,7 +119,7 @@ grantedOf (sweep n) m rows =
 grantedOf removeBias m rows = outcome granted m (eachJoint (removeBiasOne (m .words)) 0 (jointCount (m .words) (m .numbers)) rows)
 grantedOf writeBack m rows =
     outcome granted (withNumbers m (eachJoint (writeBackOne rows (m .words)) 0 (jointCount (m .words) (m .numbers)) (m .numbers))) rows
-grantedOf (readRows j) m rows = outcome (rowsRead (rowIds 2 1 (masksAt (m .words) j)) (rowsOf (m .words) rows j)) m rows
+grantedOf (readRows j) m rows = outcome (rowsRead (jointIds (m .words) j) (rowsOf (m .words) rows j)) m rows
 grantedOf (readVelocity i) m rows = outcome (velocityRead (velAt (m .bodies) i)) m rows
 
 -- a call: refused with the number of the first rule that fails, and then nothing changes

@@ -19,11 +19,11 @@ use crate::counts::joint_count;
 use crate::counts::rows_before;
 use crate::header::Header;
 use crate::joint_rows::count_at;
+use crate::joint_rows::ids_at;
 use crate::refusals::finite_pose;
 use crate::refusals::finite_warm;
 use crate::refusals::model_refusal;
 use crate::refusals::storage_refusal;
-use crate::store::masks_at;
 use crate::store::put_pose;
 use crate::store::vel_at;
 use floats::pose::Pose;
@@ -284,7 +284,7 @@ pub fn read_rows(
     }
     RowsAnswer {
         answer: Plain::Granted,
-        ids: row_ids(masks_at(words, j)),
+        ids: ids_at(words, j),
         rows: rows_from(rows, rows_before(words, j), count_at(words, j)),
     }
 }

@@ -3,8 +3,8 @@ ghost use mathlib.Core.Path.{_≡_};
 ghost use Prim.Native.Nat.{_+_, _*_, _≤_};
 ghost use lib.ListN.{length};
 ghost use Rattle.floats.specs.Operators.{bits};
-ghost use Rattle.rows.specs.RowIds.{filled};
-ghost use Rattle.model.specs.Store.{Present, body1At, body2At};
+ghost use Rattle.rows.specs.RowIds.{filled, rowIdsArray};
+ghost use Rattle.model.specs.Store.{Present, masksAt, body1At, body2At};
 ghost use Rattle.model.specs.JointRows.{state, rowCount, rowsList, putRows, impulsesAt, buildJoint, sweepRow, sweepJoint, warmstartRow, warmstartJoint, removeBiasJoint, writeBackJoint};
 use crate::store::body1_at;
 use crate::store::body2_at;
@@ -21,10 +21,19 @@ use rows::joint_constraint_builder::Warmstart;
 use rows::joint_constraint_builder::update;
 use rows::joint_velocity_constraint::Rows;
 use rows::joint_velocity_constraint::solve_row;
+use rows::row_ids::RowIds;
 use rows::row_ids::row_count;
 use rows::row_ids::row_ids;
 
-// Joint j's number of rows.
+// The ids of joint j's rows, in order.
+pub fn ids_at(words: &[u32], j: usize) -> RowIds
+    requires { ⌜ j * 9 + 9 ≤ length (now words) ⌝ }
+    ensures { λ r. ⌜ r ≡ rowIdsArray (masksAt (now (words .entry)) j) ⌝ }
+{
+    row_ids(masks_at(words, j))
+}
+
+// Their number.
 pub fn count_at(words: &[u32], j: usize) -> usize
     requires { ⌜ j * 9 + 9 ≤ length (now words) ⌝ }
     ensures { λ r. ⌜ r ≡ rowCount (now (words .entry)) j ⌝ }
@@ -167,7 +176,7 @@ pub fn write_back_joint(rows: &[f32], words: &[u32], k: usize, j: usize, numbers
     requires { ⌜ (k + rowCount (now words) j) * 18 ≤ length (now rows) ⌝ }
     ensures { λ _. ⌜ now (numbers .exit) ≡ writeBackJoint (now (rows .entry)) (now (words .entry)) k j (now (numbers .entry)) ⌝ }
 {
-    let ids = row_ids(masks_at(words, j));
+    let ids = ids_at(words, j);
     let n = ids.len;
     let mut i = 0usize;
     while i < n {
