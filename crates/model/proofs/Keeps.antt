@@ -8,7 +8,7 @@ use mathlib.Core.List.{List, [], _∷_, _++_}
 use native.Mathlib.Nat.{zero-add, add-zero, add-assoc}
 use native.Mathlib.Omega.{arith}
 use borrow.Author.Tests.{eqb-true, eqb-false, ne-eqb, ltb-true, ltb-false, leb-true}
-use lib.Dec.{eqb, ltb, leb, lit<, lit≤}
+use lib.Dec.{eqb, ltb, leb, lit≤}
 use lib.ListN.{length, getD}
 use lib.Ieee.{Float, nan, isNan}
 use Rattle.floats.specs.Scalar.{isFinite}
@@ -19,7 +19,7 @@ use Rattle.rows.specs.declared.joint_velocity_constraint.WritebackId.{Writeback
 use Rattle.rows.specs.declared.joint_velocity_constraint.WritebackId.the-variants.{Dof, Limit, Motor}
 use Rattle.rows.specs.declared.joint_constraint_builder.Warmstart.{Warmstart}
 use Rattle.model.specs.Records.{num, puts}
-use Rattle.model.specs.Store.{world, putVel, putPose, putRow, putSeed, seedIndex, axisOf, jointAt}
+use Rattle.model.specs.Store.{world, putVel, putPose, putRow, putSeed, seedIndex, axisOf}
 use Rattle.model.specs.JointRows.{State, state, putRows, buildJoint, sweepRow, sweepJoint, warmstartRow, warmstartJoint, removeBiasJoint, writeBackIds, writeBackJoint}
 use Rattle.model.specs.Model.{Model, model, withMark, withBodies, withNumbers, bodyCount, jointCount, rowsBefore, totalRows}
 use Rattle.model.specs.Refusals.{Rule, refusal, all, bodyRule, finiteFrom, noNanFrom, finitePose, finiteBody, finiteMotor, finiteJoint, presentOrWorld, bodiesPresent, modelRules}
@@ -230,23 +230,6 @@ module _ (s s′ : List Float) (same : SameButSeeds s s′) (j : ℕ) where
         finite-range 35 2 (lit≤ tt) refl,
         finite-range 40 2 (lit≤ tt) refl,
       )
-
-  -- frames and softness
-  number : (c : ℕ) → c < 42 → seedless c 1 ≡ true → num 42 s′ j c ≡ num 42 s j c
-  number c h free = same .numbers j c h (fixed c 1 free c (omega arith) (omega arith))
-
-  module _ (words : List ℕ) where
-    pub frame1-kept : jointAt words s′ j .«data» .«local_frame1» ≡ jointAt words s j .«data» .«local_frame1»
-    unfolding jointAt all
-    frame1-kept = cc (number 0 (lit< tt) refl, number 1 (lit< tt) refl, number 2 (lit< tt) refl, number 3 (lit< tt) refl)
-
-    pub frame2-kept : jointAt words s′ j .«data» .«local_frame2» ≡ jointAt words s j .«data» .«local_frame2»
-    unfolding jointAt all
-    frame2-kept = cc (number 4 (lit< tt) refl, number 5 (lit< tt) refl, number 6 (lit< tt) refl, number 7 (lit< tt) refl)
-
-    pub softness-kept : jointAt words s′ j .«data» .softness ≡ jointAt words s j .«data» .softness
-    unfolding jointAt all
-    softness-kept = cc (number 35 (lit< tt) refl, number 36 (lit< tt) refl)
 
 -- ---- bodies: a pose that is placed
 

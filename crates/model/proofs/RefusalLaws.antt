@@ -15,8 +15,9 @@ use Rattle.floats.specs.Operators.{bits}
 use Rattle.model.specs.Store.{world, Present, body1At, body2At}
 use Rattle.model.specs.Model.{Model, bodyCount, jointCount, rowCapacity, totalRows, Sound, Room}
 use Rattle.model.specs.Refusals.{Rule, rule, refusal, all, atMost, masksFit, presentOrWorld, bodiesPresent, bodiesApart, finitePose, finiteWarm, finiteParams, finiteBody, finiteJoint, modelRules, storageRule, sweepRule, builtRule, seedsRule, bodyRule, jointRule}
-use Rattle.model.specs.Calls.{Call, rulesOf}
+use Rattle.model.specs.Calls.{Call, Asked, table, handedRules, askedRules, firstRules, ownRules, rulesOf}
 use Rattle.model.specs.Calls.Call.{load, place, build, warmStart, sweep, removeBias, writeBack, readRows, readVelocity}
+use Rattle.model.specs.Calls.Asked.{nothing, body, joint}
 use Rattle.model.proofs.CountLaws.{body-there}
 
 -- ---- tests
@@ -194,20 +195,37 @@ unfolding storageRule
 storage-numbered m arguments rows = numbered-append (modelRules m arguments) (storageRule m rows ∷ []) (model-numbered m arguments) (omega arith)
 
 module _ (m : Model) where
-  after-model : (arguments : Bool) (rs : List Rule) → Numbered rs → Numbered (modelRules m arguments ++ rs)
-  after-model arguments rs n = numbered-append (modelRules m arguments) rs (model-numbered m arguments) n
+  handed-numbered : (stored finite : Bool) (rows : List Float) → Numbered (handedRules stored m finite rows)
+  handed-numbered true finite rows = storage-numbered m finite rows
+  handed-numbered false finite rows = model-numbered m finite
+
+  table-numbered : (c : Call) → Numbered (table c .own m)
+  unfolding sweepRule builtRule seedsRule
+  table-numbered load = tt
+  table-numbered (place i pose) = tt
+  table-numbered (build warm substep) = omega arith
+  table-numbered warmStart = omega arith
+  table-numbered (sweep n) = omega arith
+  table-numbered removeBias = omega arith
+  table-numbered writeBack = omega arith
+  table-numbered (readRows j) = omega arith
+  table-numbered (readVelocity i) = tt
+
+  asked-numbered : (a : Asked) → Numbered (askedRules m a)
+  unfolding bodyRule jointRule
+  asked-numbered nothing = tt
+  asked-numbered (body i) = omega arith
+  asked-numbered (joint j) = omega arith
+
+  -- a call's rules 1 to 8, and all that it tries
+  pub first-numbered : (c : Call) (rows : List Float) → Numbered (firstRules c m rows)
+  first-numbered c rows = handed-numbered (table c .rowStorage) (table c .finite) rows
 
   pub call-numbered : (c : Call) (rows : List Float) → Numbered (rulesOf c m rows)
-  unfolding rulesOf storageRule sweepRule builtRule seedsRule bodyRule jointRule
-  call-numbered load rows = after-model true (storageRule m rows ∷ []) (omega arith)
-  call-numbered (place i pose) rows = after-model (finitePose pose) (bodyRule m i ∷ []) (omega arith)
-  call-numbered (build warm substep) rows = after-model (finiteWarm warm) (storageRule m rows ∷ seedsRule m warm substep ∷ []) (omega arith)
-  call-numbered warmStart rows = after-model true (storageRule m rows ∷ builtRule m ∷ []) (omega arith)
-  call-numbered (sweep n) rows = after-model true (storageRule m rows ∷ sweepRule n ∷ builtRule m ∷ []) (omega arith)
-  call-numbered removeBias rows = after-model true (storageRule m rows ∷ builtRule m ∷ []) (omega arith)
-  call-numbered writeBack rows = after-model true (storageRule m rows ∷ builtRule m ∷ []) (omega arith)
-  call-numbered (readRows j) rows = after-model true (storageRule m rows ∷ builtRule m ∷ jointRule m j ∷ []) (omega arith)
-  call-numbered (readVelocity i) rows = after-model true (bodyRule m i ∷ []) (omega arith)
+  unfolding rulesOf
+  call-numbered c rows =
+      numbered-append (firstRules c m rows) (ownRules c m) (first-numbered c rows)
+      (numbered-append (table c .own m) (askedRules m (table c .asked)) (table-numbered c) (asked-numbered (table c .asked)))
 
 -- ---- rules 1 to 7
 

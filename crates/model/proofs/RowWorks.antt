@@ -25,8 +25,8 @@ use Rattle.model.specs.Calls.{eachJoint, buildOne, warmstartOne, sweepOn
 use Rattle.model.proofs.StoreLaws.{length-putRow, rowAt-putRow, rowAt-putRow-other, length-putVel, velAt-putVel, velAt-putVel-other}
 use Rattle.model.proofs.JointRowsLaws.{length-built}
 use Rattle.model.proofs.StoredRows.{length-putRows, putRows-other, putRows-at}
-use Rattle.model.proofs.Apart.{before-later, not-among, Side, Acted, RowWork, jointWork}
-use Rattle.model.proofs.ApartJoints.{layoutOf, InSet, no-world}
+use Rattle.model.proofs.JointLocality.{before-later, not-among, Side, Acted, RowWork, jointWork}
+use Rattle.model.proofs.ClosedSet.{layoutOf, InSet, no-world}
 
 -- ---- a joint's work, row by row
 
@@ -186,7 +186,7 @@ module _ (m : Model) (warm : Warmstart) (substep : ℕ) where
       row-kept = λ j q i s c ne.
           putRows-other (madeOf j s) s (rowsBefore (m .words) j) (rowsBefore (m .words) q + i)
           (λ p a b. not-among (layoutOf m) j q i p c a (omega (arith, length-made j s)) ne);
-      vel-kept = λ j b s n1 n2. refl;
+      vel-kept = λ j b s f. refl;
     }
 
     pub row-made : (j i : ℕ) (s : List Float) → j < jointCount (m .words) (m .numbers) → i < rowCount (m .words) j → length s ≡ length rows

@@ -1,5 +1,5 @@
--- A joint's rows in storage as a list: rows read from a row on are given one by one (`rowsFrom-at`, `rowsFrom-same`), and their impulses with them
--- (`impulses-of`). A list of rows stored from a row on is what is read there (`putRows-at`); every other row reads as before, and the length is kept.
+-- A joint's rows in storage as a list: rows read from a row on are given one by one (`rowsFrom-at`, `rowsFrom-same`), their number (`rowsFrom-length`) and their
+-- impulses with them (`impulses-of`). A list of rows stored from a row on is what is read there (`putRows-at`); every other row reads as before, and the length is kept.
 use Prim.Native.Nat.{ℕ, zero, suc, _+_, _*_, _≤_, _<_}
 use mathlib.Core.Path.{_≡_, refl, ap, _∙_}
 use mathlib.Core.Logic.{_≢_}
@@ -37,6 +37,11 @@ rowsFrom-same rows rows′ (suc n) k k′ h =
           let e′ : k′ + 1 + i ≡ k′ + suc i = omega arith in
           rw (e, e′) (h (suc i) (omega arith))),
     )
+
+pub rowsFrom-length : (rows : List Float) (k n : ℕ) → length (rowsFrom rows k n) ≡ n
+unfolding rowsFrom
+rowsFrom-length rows k zero = refl
+rowsFrom-length rows k (suc n) = ap suc (rowsFrom-length rows (k + 1) n)
 
 pub impulses-of : (s : List Float) (k n : ℕ) → impulsesAt s k n ≡ map (λ r. r .impulse) (rowsFrom s k n)
 unfolding impulsesAt rowsFrom

@@ -1,4 +1,5 @@
--- Document 01's eight calls on a model: which rules each one tries, what it does where none fails, and what it answers. A refused call leaves all as it was.
+-- Document 01's eight calls on a model: the table of what each one is handed, asks for and tries, what it does where no rule fails, and what it answers. A refused
+-- call leaves all as it was.
 use Prim.Native.Nat.{ℕ, zero, suc, _+_}
 use mathlib.Core.Bool.{Bool, true, false, cond}
 use mathlib.Core.List.{List, [], _∷_, _++_}
@@ -83,6 +84,14 @@ pub data Answer : Type 0 where
   velocityRead : SolverVel → Answer
   refused : ℕ → Answer
 
+-- the number of a refusal; 0 of what is granted
+abbrev pub refusalOf : Answer → ℕ
+refusalOf granted = 0
+refusalOf (total n) = 0
+refusalOf (rowsRead ids rows) = 0
+refusalOf (velocityRead v) = 0
+refusalOf (refused k) = k
+
 -- what a call answers, and how it leaves the model and the row storage
 pub record Outcome : Type 0 where
   pub answer : Answer
@@ -92,17 +101,60 @@ pub record Outcome : Type 0 where
 abbrev pub outcome : Answer → Model → List Float → Outcome
 outcome a m r = record { answer = a; after = m; rows = r }
 
--- the rules that a call tries, in order; place and a velocity read are handed no row storage
+-- what a call asks for by index
+pub data Asked : Type 0 where
+  nothing : Asked
+  body : ℕ → Asked
+  joint : ℕ → Asked
+
+-- What there is to know of a call beside what it does.
+pub record Entry : Type 0 where
+  -- its own numbers, a new pose or a warm coefficient, are finite (rule 6)
+  pub finite : Bool
+  -- it is handed row storage (rule 8)
+  pub rowStorage : Bool
+  -- its own rules, 9 and 10
+  pub own : Model → List Rule
+  -- what it asks for by index (rule 11)
+  pub asked : Asked
+  -- where it is granted, it makes rows
+  pub makesRows : Bool
+
+abbrev entry : Bool → Bool → (Model → List Rule) → Asked → Bool → Entry
+entry f s o a r = record { finite = f; rowStorage = s; own = o; asked = a; makesRows = r }
+
+-- The table of the calls, by column: finite, rowStorage, own, asked, makesRows. Place and a velocity read are handed no row storage.
+abbrev pub table : Call → Entry
+table load = entry true true (λ m. []) nothing false
+table (place i pose) = entry (finitePose pose) false (λ m. []) (body i) false
+table (build warm substep) = entry (finiteWarm warm) true (λ m. seedsRule m warm substep ∷ []) nothing true
+table warmStart = entry true true (λ m. builtRule m ∷ []) nothing false
+table (sweep n) = entry true true (λ m. sweepRule n ∷ builtRule m ∷ []) nothing false
+table removeBias = entry true true (λ m. builtRule m ∷ []) nothing false
+table writeBack = entry true true (λ m. builtRule m ∷ []) nothing false
+table (readRows j) = entry true true (λ m. builtRule m ∷ []) (joint j) false
+table (readVelocity i) = entry true false (λ m. []) (body i) false
+
+-- rules 1 to 8, over what a call is handed; a call handed no row storage passes over 8
+abbrev pub handedRules : Bool → Model → Bool → List Float → List Rule
+handedRules true m finite rows = modelRules m finite ++ (storageRule m rows ∷ [])
+handedRules false m finite rows = modelRules m finite
+
+-- rule 11
+abbrev pub askedRules : Model → Asked → List Rule
+askedRules m nothing = []
+askedRules m (body i) = bodyRule m i ∷ []
+askedRules m (joint j) = jointRule m j ∷ []
+
+-- the rules that a call tries, in order: 1 to 8, and then 9 to 11
+abbrev pub firstRules : Call → Model → List Float → List Rule
+firstRules c m rows = handedRules (table c .rowStorage) m (table c .finite) rows
+
+abbrev pub ownRules : Call → Model → List Rule
+ownRules c m = table c .own m ++ askedRules m (table c .asked)
+
 unfoldable pub rulesOf : Call → Model → List Float → List Rule
-rulesOf load m rows = modelRules m true ++ (storageRule m rows ∷ [])
-rulesOf (place i pose) m rows = modelRules m (finitePose pose) ++ (bodyRule m i ∷ [])
-rulesOf (build warm substep) m rows = modelRules m (finiteWarm warm) ++ (storageRule m rows ∷ seedsRule m warm substep ∷ [])
-rulesOf warmStart m rows = modelRules m true ++ (storageRule m rows ∷ builtRule m ∷ [])
-rulesOf (sweep n) m rows = modelRules m true ++ (storageRule m rows ∷ sweepRule n ∷ builtRule m ∷ [])
-rulesOf removeBias m rows = modelRules m true ++ (storageRule m rows ∷ builtRule m ∷ [])
-rulesOf writeBack m rows = modelRules m true ++ (storageRule m rows ∷ builtRule m ∷ [])
-rulesOf (readRows j) m rows = modelRules m true ++ (storageRule m rows ∷ builtRule m ∷ jointRule m j ∷ [])
-rulesOf (readVelocity i) m rows = modelRules m true ++ (bodyRule m i ∷ [])
+rulesOf c m rows = firstRules c m rows ++ ownRules c m
 
 -- what a call does where no rule fails
 unfoldable pub grantedOf : Call → Model → List Float → Outcome

@@ -5,4 +5,5 @@ pub mod Model
 pub mod Refusals
 pub mod Calls
 pub mod Answers
+pub mod Traces
 pub mod Studies

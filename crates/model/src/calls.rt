@@ -6,7 +6,7 @@ ghost use Rattle.model.specs.Calls.{outcome, run};
 ghost use Rattle.model.specs.Calls.Call.{load, place, build, warmStart, sweep, removeBias, writeBack, readRows, readVelocity};
 ghost use Rattle.model.specs.Store.{masksAt};
 ghost use Rattle.model.specs.Refusals.{readsRows};
-ghost use Rattle.model.specs.Answers.{WithoutRows, loadAnswer, loadHeader, plainAnswer, buildAnswer, buildHeader, noRows, rowsAnswerOf, velocityAnswer};
+ghost use Rattle.model.specs.Answers.{WithoutRows, loadAnswer, loadHeader, plainAnswer, buildAnswer, buildHeader, rowsAnswer, noRows, rowsAnswerOf, velocityAnswer};
 use crate::all_joints::blank_row;
 use crate::all_joints::build_all;
 use crate::all_joints::remove_bias_all;
@@ -260,7 +260,7 @@ fn no_rows(k: u32) -> RowsAnswer
     }
 }
 
-// One joint's rows, with their ids.
+// One joint's rows, with their ids: the call's answer, and how the arrays are filled up.
 pub fn read_rows(
     header: Header,
     bodies: &[f32],
@@ -269,6 +269,7 @@ pub fn read_rows(
     rows: &[f32],
     joint: u32,
 ) -> RowsAnswer
+    ensures { λ r. ⌜ outcome (rowsAnswer r) (modelOf header (now (bodies .entry)) (now (words .entry)) (now (numbers .entry))) (now (rows .entry)) ≡ run (readRows joint) (modelOf header (now (bodies .entry)) (now (words .entry)) (now (numbers .entry))) (now (rows .entry)) ⌝ }
     ensures { λ r. ⌜ r ≡ rowsAnswerOf (masksAt (now (words .entry)) joint) (run (readRows joint) (modelOf header (now (bodies .entry)) (now (words .entry)) (now (numbers .entry))) (now (rows .entry)) .answer) ⌝ }
 {
     let k = storage_refusal(header, bodies, words, numbers, rows, true);

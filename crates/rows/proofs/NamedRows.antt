@@ -175,7 +175,7 @@ module _ (nl na : ℕ) (k : Masks) (i : ℕ) where
 
 -- ---- the rows of two joints that agree on what they name
 
-module _ (params : IntegrationParameters) (body1 body2 : SolverPose) (a b : ImpulseJoint) (s : SameNamed a b) where
+module _ (params : IntegrationParameters) (body1 body2 : SolverPose) (a b : ImpulseJoint) (s : SameNamed (Names (a .«data» .masks)) a b) where
   x : RowContext
   x = jointContextOf params body1 body2 a
 

@@ -19,13 +19,14 @@ use Rattle.model.specs.Store.{rowAt, jointAt, masksAt, putSeed}
 use Rattle.model.specs.JointRows.{jointIds, rowCount, writeBackIds, writeBackJoint}
 use Rattle.model.specs.Model.{Model, withNumbers, jointCount, rowsBefore}
 use Rattle.model.specs.Calls.{eachJoint, writeBackOne, rowsFrom, rowsOf}
-use Rattle.model.specs.Studies.{Mine, Agree}
+use Rattle.model.specs.Studies.{OfSet, Agree}
 use Rattle.model.proofs.StoreLaws.{length-putSeed, jointAt-putSeed-other}
 use Rattle.model.proofs.WritebackLaws.{jointAt-putSeed-writeback}
 use Rattle.model.proofs.CountLaws.{joint-numbers}
 use Rattle.model.proofs.RefusalLaws.{by-cases}
-use Rattle.model.proofs.Keeps.{back-ids, back-keeps, same-but-seeds, frame1-kept, frame2-kept, softness-kept}
+use Rattle.model.proofs.Keeps.{back-ids, back-keeps, same-but-seeds}
 use Rattle.model.proofs.SameStudies.{RowsSame}
+use Rattle.model.proofs.ClosedSet.{same-ids}
 use Rattle.model.proofs.Agrees.{agree-after}
 
 -- ---- one joint
@@ -92,9 +93,9 @@ jointAt-axes : (words : List ℕ) (n : List Float) (j : ℕ) → Axes (jointAt w
 unfolding jointAt
 jointAt-axes words n j = record { limits = refl; motors = refl; impulses = refl }
 
-module _ (rows rows′ : List Float) where
-  wrote-named : (k k′ : ℕ) (is : List WritebackId) (a b : ImpulseJoint) → Axes a → Axes b → rowsFrom rows k (length is) ≡ rowsFrom rows′ k′ (length is) → SameNamed a b
-      → SameNamed (wroteOf rows k is a) (wroteOf rows′ k′ is b)
+module _ {named : WritebackId → Type 0} (rows rows′ : List Float) where
+  wrote-named : (k k′ : ℕ) (is : List WritebackId) (a b : ImpulseJoint) → Axes a → Axes b → rowsFrom rows k (length is) ≡ rowsFrom rows′ k′ (length is) → SameNamed named a b
+      → SameNamed named (wroteOf rows k is a) (wroteOf rows′ k′ is b)
   unfolding wroteOf rowsFrom
   wrote-named k k′ [] a b x y e s = s
   wrote-named k k′ (i ∷ is) a b x y e s =
@@ -102,12 +103,12 @@ module _ (rows rows′ : List Float) where
       let tail : rowsFrom rows (k + 1) (length is) ≡ rowsFrom rows′ (k′ + 1) (length is) = cc in
       let p = rowAt rows k .impulse in
       let q = rowAt rows′ k′ .impulse in
-      let t : SameNamed (writebackOf a i p) (writebackOf b i q) = rw (← head) (named-written a b i p x y s) in
+      let t : SameNamed named (writebackOf a i p) (writebackOf b i q) = rw (← head) (named-written a b i p x y s) in
       wrote-named (k + 1) (k′ + 1) is (writebackOf a i p) (writebackOf b i q) (written-axes a i p x) (written-axes b i q y) tail t
 
 -- ---- two models
 
-module _ (set : ℕ → Bool) (made : Type 0) (m m′ : Model) (agree : Agree set made m m′) (rows rows′ : List Float) (same : RowsSame set m m′ rows rows′) where
+module _ (set : ℕ → Bool) {named : ℕ → WritebackId → Type 0} (m m′ : Model) (agree : Agree set named m m′) (rows rows′ : List Float) (same : RowsSame set m m′ rows rows′) where
   abbrev numbers : List Float
   numbers = eachJoint (writeBackOne rows (m .words)) 0 (jointCount (m .words) (m .numbers)) (m .numbers)
 
@@ -115,35 +116,21 @@ module _ (set : ℕ → Bool) (made : Type 0) (m m′ : Model) (agree : Agree se
   numbers′ = eachJoint (writeBackOne rows′ (m′ .words)) 0 (jointCount (m′ .words) (m′ .numbers)) (m′ .numbers)
 
   -- what is stored of a joint of the set
-  wrote-both : (j : ℕ) → masksAt (m .words) j ≡ masksAt (m′ .words) j → rowsOf (m .words) rows j ≡ rowsOf (m′ .words) rows′ j
-      → SameNamed (jointAt (m .words) (m .numbers) j) (jointAt (m′ .words) (m′ .numbers) j)
-      → SameNamed (wroteOf rows (rowsBefore (m .words) j) (jointIds (m .words) j) (jointAt (m .words) (m .numbers) j))
+  wrote-both : (j : ℕ) → jointIds (m .words) j ≡ jointIds (m′ .words) j → rowsOf (m .words) rows j ≡ rowsOf (m′ .words) rows′ j
+      → SameNamed (named j) (jointAt (m .words) (m .numbers) j) (jointAt (m′ .words) (m′ .numbers) j)
+      → SameNamed (named j) (wroteOf rows (rowsBefore (m .words) j) (jointIds (m .words) j) (jointAt (m .words) (m .numbers) j))
       (wroteOf rows′ (rowsBefore (m′ .words) j) (jointIds (m′ .words) j) (jointAt (m′ .words) (m′ .numbers) j))
-  unfolding rowsOf jointIds rowCount
+  unfolding rowsOf rowCount
   wrote-both j e r s =
       rw (← e)
       (wrote-named rows rows′ (rowsBefore (m .words) j) (rowsBefore (m′ .words) j) (jointIds (m .words) j) _ _ (jointAt-axes (m .words) (m .numbers) j)
       (jointAt-axes (m′ .words) (m′ .numbers) j) (rw (← e) at r) s)
 
-  named-back : (j : ℕ) → Mine set m j → SameNamed (jointAt (m .words) (m .numbers) j) (jointAt (m′ .words) (m′ .numbers) j)
-      → SameNamed (jointAt (m .words) numbers j) (jointAt (m′ .words) numbers′ j)
-  named-back j i s =
-      rw (stored (m .words) rows (m .numbers) j (i .there), stored (m′ .words) rows′ (m′ .numbers) j (agree .joints j i .there))
-      (wrote-both j (agree .contents j i .masks) (same j i) s)
-
-  pub write-back-agrees : Agree set made (withNumbers m numbers) (withNumbers m′ numbers′)
+  pub write-back-agrees : Agree set named (withNumbers m numbers) (withNumbers m′ numbers′)
   write-back-agrees =
       let kept = back-keeps (m .numbers) rows (m .words) 0 (jointCount (m .words) (m .numbers)) in
       let kept′ = back-keeps (m′ .numbers) rows′ (m′ .words) 0 (jointCount (m′ .words) (m′ .numbers)) in
-      agree-after set made m m′ (m .built) (m′ .built) (m .bodies) (m′ .bodies) numbers numbers′ refl refl (kept .size) (kept′ .size) agree (agree .poses) (agree .velocities)
+      agree-after set m m′ (m .built) (m′ .built) (m .bodies) (m′ .bodies) numbers numbers′ refl refl (kept .size) (kept′ .size) agree (agree .poses) (agree .velocities)
       (λ j i.
-      let c = agree .contents j i in
-      record {
-        body1 = c .body1;
-        body2 = c .body2;
-        masks = c .masks;
-        frame1 = frame1-kept (m .numbers) numbers kept j (m .words) ∙ c .frame1 ∙ sym (frame1-kept (m′ .numbers) numbers′ kept′ j (m′ .words));
-        frame2 = frame2-kept (m .numbers) numbers kept j (m .words) ∙ c .frame2 ∙ sym (frame2-kept (m′ .numbers) numbers′ kept′ j (m′ .words));
-        softness = softness-kept (m .numbers) numbers kept j (m .words) ∙ c .softness ∙ sym (softness-kept (m′ .numbers) numbers′ kept′ j (m′ .words));
-        named = λ r. named-back j i (c .named r);
-      })
+      rw (stored (m .words) rows (m .numbers) j (i .there), stored (m′ .words) rows′ (m′ .numbers) j (agree .joints j i .there))
+      (wrote-both j (same-ids m m′ j (agree .contents j i)) (same j i) (agree .contents j i)))

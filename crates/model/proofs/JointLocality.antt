@@ -1,10 +1,11 @@
 -- Two studies that do the same work on the joints of a closed set keep the set's rows and velocities equal, whatever their other joints are, however many, and
--- wherever rows stand (`joints-alike`). Stated over any state, row and velocity: a joint's work changes its own rows and its two bodies' velocities alone
--- (`Side`), the set's joints change them alike in both studies (`Together`), and no other joint has a body of the set (`Split`). Work that takes a joint's rows
--- one by one is such work, over any action of a row on two velocities (`rows-alike`). The studies may have different numbers of joints. Assumes nothing.
+-- wherever rows stand (`joints-alike`). Stated over any state, row and velocity: a joint's work is local, it changes its own rows and its two bodies' velocities
+-- alone, and none of a joint without rows (`Side`); the set's joints change them alike in both studies (`Together`); and every other joint has no body of the
+-- set, or no rows (`Split`). Work that takes a joint's rows one by one is such work, over any action of a row on two velocities (`rows-alike`). The studies may
+-- have different numbers of joints. Assumes nothing.
 use Prim.Native.Nat.{ℕ, zero, suc, _+_, _-_, _≤_, _<_}
 use mathlib.Core.Path.{_≡_, refl, sym, ap, _∙_}
-use mathlib.Core.Logic.{_≢_, _⊎_, ⊎-elim}
+use mathlib.Core.Logic.{_≢_, _⊎_, inl, ⊎-elim}
 use native.Mathlib.Nat.{add-zero}
 use native.Mathlib.Decide.{ℕ-discrete, decLt}
 use native.Mathlib.Omega.{arith}
@@ -18,6 +19,11 @@ unfolding eachJoint
 each-keeps P work zero k s h p = p
 each-keeps P work (suc n) k s h p =
     each-keeps P work n (k + 1) (work k s) (λ q l g. h q (omega arith) (omega arith)) (h k (omega arith) (omega arith) s p)
+
+-- no turn changes nothing
+pub no-turns : {S Vel : Type 0} (vel : S → ℕ → Vel) (work : ℕ → S → S) (k : ℕ) (s : S) (b : ℕ) → vel (eachJoint work k 0 s) b ≡ vel s b
+unfolding eachJoint
+no-turns vel work k s b = refl
 
 -- the same number of turns in two studies, from turn k on in the one and k′ on in the other
 pub each-together : {S : Type 0} (P : S → S → Type 0) (work work′ : ℕ → S → S) (n k k′ : ℕ) (s s′ : S)
@@ -102,11 +108,15 @@ pub record Joint (l l′ : Layout) (set still : ℕ → Type 0) (j : ℕ) : Type
   pub inside1 : set (l .body1 j) ⊎ still (l .body1 j)
   pub inside2 : set (l .body2 j) ⊎ still (l .body2 j)
 
--- joint j of a study has no body of the set
-abbrev pub Foreign : Layout → (ℕ → Type 0) → ℕ → Type 0
-Foreign l set j = (b : ℕ) → set b → (b ≢ l .body1 j) × (b ≢ l .body2 j)
+-- joint j of a study cannot change body b's velocity: it is another body's joint, or it has no rows
+abbrev pub Spares : Layout → ℕ → ℕ → Type 0
+Spares l j b = ((b ≢ l .body1 j) × (b ≢ l .body2 j)) ⊎ (l .count j ≡ 0)
 
--- which joints are the set's; the others are foreign in each study that has them
+-- a joint outside the set: one with no body of the set, or one with no rows
+abbrev pub Foreign : Layout → (ℕ → Type 0) → ℕ → Type 0
+Foreign l set j = (b : ℕ) → set b → Spares l j b
+
+-- which joints are the set's; the others are outside it in each study that has them
 pub record Split (l l′ : Layout) (set still mine : ℕ → Type 0) : Type 0 where
   pub either : (j : ℕ) → Dec (mine j)
   pub joint : (j : ℕ) → mine j → Joint l l′ set still j
@@ -124,7 +134,7 @@ pub record Side (S Row Vel : Type 0) (l : Layout) : Type 1 where
   pub work : ℕ → S → S
   pub kept : (j : ℕ) (s : S) → j < l .joints → ok s → ok (work j s)
   pub row-kept : (j q i : ℕ) (s : S) → i < l .count q → q ≢ j → row (work j s) q i ≡ row s q i
-  pub vel-kept : (j b : ℕ) (s : S) → b ≢ l .body1 j → b ≢ l .body2 j → vel (work j s) b ≡ vel s b
+  pub vel-kept : (j b : ℕ) (s : S) → Spares l j b → vel (work j s) b ≡ vel s b
 
 module _ {S Row Vel : Type 0} {l l′ : Layout} (a : Side S Row Vel l) (a′ : Side S Row Vel l′) where
   -- joint j's rows, and body b's velocity, are the same in both
@@ -174,7 +184,7 @@ module _ {S Row Vel : Type 0} {l l′ : Layout} (a : Side S Row Vel l) (a′ : S
       | yes e ↦ rw e (z .first)
       | no ne ↦ elim (ℕ-discrete b (l .body2 j)) [
         | yes e ↦ rw e (z .second)
-        | no ne₂ ↦ a .vel-kept j b s ne ne₂ ∙ k .vels b sb ∙ sym (a′ .vel-kept j b s′ (rw (t .body1-same) at ne) (rw (t .body2-same) at ne₂))
+        | no ne₂ ↦ a .vel-kept j b s (inl (ne, ne₂)) ∙ k .vels b sb ∙ sym (a′ .vel-kept j b s′ (inl (rw (t .body1-same) at ne, rw (t .body2-same) at ne₂)))
       ]
     ];
   }
@@ -195,7 +205,7 @@ module _ {S Row Vel : Type 0} {l l′ : Layout} (a : Side S Row Vel l) (a′ : S
       ok = a .kept j s h (k .ok);
       ok′ = k .ok′;
       rows = λ q m r i g. a .row-kept j q i s g (not-here q m) ∙ k .rows q m r i g;
-      vels = λ b sb. let f = p .foreign j not-mine h b sb in a .vel-kept j b s (f .0) (f .1) ∙ k .vels b sb;
+      vels = λ b sb. a .vel-kept j b s (p .foreign j not-mine h b sb) ∙ k .vels b sb;
     }
 
     outside′ : (n : ℕ) (s s′ : S) → j < l′ .joints → AlikeAt n s s′ → AlikeAt n s (a′ .work j s′)
@@ -203,7 +213,7 @@ module _ {S Row Vel : Type 0} {l l′ : Layout} (a : Side S Row Vel l) (a′ : S
       ok = k .ok;
       ok′ = a′ .kept j s′ h (k .ok′);
       rows = λ q m r i g. k .rows q m r i g ∙ sym (a′ .row-kept j q i s′ (rw (p .joint q m .count-same) at g) (not-here q m));
-      vels = λ b sb. let f = p .foreign′ j not-mine h b sb in k .vels b sb ∙ sym (a′ .vel-kept j b s′ (f .0) (f .1));
+      vels = λ b sb. k .vels b sb ∙ sym (a′ .vel-kept j b s′ (p .foreign′ j not-mine h b sb));
     }
 
     passed : (s s′ : S) → AlikeAt j s s′ → AlikeAt (j + 1) s s′
@@ -276,9 +286,11 @@ module _ {S Row Vel : Type 0} {act : Row → Vel → Vel → Acted Row Vel} {set
     row-kept = λ j q i s c ne.
         each-keeps (λ t. w .row t (l .first q + i) ≡ w .row s (l .first q + i)) (w .work (l .body1 j) (l .body2 j)) (l .count j) (l .first j) s
         (λ k f g t e. w .row-kept (l .body1 j) (l .body2 j) k (l .first q + i) t (not-among l j q i k c f g ne) ∙ e) refl;
-    vel-kept = λ j b s n1 n2.
+    vel-kept = λ j b s f. ⊎-elim
+        (λ n.
         each-keeps (λ t. w .vel t b ≡ w .vel s b) (w .work (l .body1 j) (l .body2 j)) (l .count j) (l .first j) s
-        (λ k _ _ t e. w .vel-kept (l .body1 j) (l .body2 j) k b t n1 n2 ∙ e) refl;
+        (λ k _ _ t e. w .vel-kept (l .body1 j) (l .body2 j) k b t (n .0) (n .1) ∙ e) refl)
+        (λ z. ap (λ n. w .vel (eachJoint (w .work (l .body1 j) (l .body2 j)) (l .first j) n s) b) z ∙ no-turns (w .vel) (w .work (l .body1 j) (l .body2 j)) (l .first j) s b) f;
   }
 
   module _ {l l′ : Layout} (w : RowWork S Row Vel act l set) (w′ : RowWork S Row Vel act l′ set) (still : ℕ → Type 0)
