@@ -20,3 +20,4 @@ pub mod SameRefusals
 pub mod TraceLaws
 pub mod TwoStudies
 pub mod Premises
+pub mod StudyPair

@@ -86,10 +86,13 @@ pub record Agree (set : ℕ → Bool) (named : ℕ → WritebackId → Type 0) (
 abbrev pub MakesRows : Call → Outcome → Type 0
 MakesRows c o = (table c .makesRows ≡ true) × (refusalOf (o .answer) ≡ 0)
 
--- rows are made at a position, in either study, and the rules give joint j that row there
+-- the rules give joint j a row with this id, by its masks as they are
+abbrev pub HasRow : Model → ℕ → WritebackId → Type 0
+HasRow m j id = List·Memᴰ id (jointIds (m .words) j)
+
+-- at a position rows are made, in either study, and the rules give joint j that row there
 abbrev pub NamesAt : ℕ → WritebackId → Position planar → Study planar → Study planar → Type 0
-NamesAt j id p s s′ =
-    (MakesRows (p .call) (p .outcome) × List·Memᴰ id (jointIds (s .model .words) j)) ⊎ (MakesRows (p .call) (p .outcome′) × List·Memᴰ id (jointIds (s′ .model .words) j))
+NamesAt j id p s s′ = (MakesRows (p .call) (p .outcome) × HasRow (s .model) j id) ⊎ (MakesRows (p .call) (p .outcome′) × HasRow (s′ .model) j id)
 
 -- a joint names Motor(i), Dof(i) or Limit(i) if the rules give it that row at some making of rows in the list
 abbrev pub Names : List (Position planar) → Study planar → Study planar → ℕ → WritebackId → Type 0
