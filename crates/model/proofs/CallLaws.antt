@@ -16,7 +16,7 @@ use Rattle.rows.specs.Update.{rowsArray}
 use Rattle.model.specs.Store.{masksAt}
 use Rattle.model.specs.JointRows.{rowCount}
 use Rattle.model.specs.Model.{Model, bodyCount, jointCount, rowsBefore, Sound, Room}
-use Rattle.model.specs.Refusals.{Rule, refusal, finitePose, finiteWarm, modelRules, storageRule, sweepRule, builtRule, readsRows, seedsRule, bodyRule, jointRule}
+use Rattle.model.specs.Refusals.{mostRounds, Rule, refusal, finitePose, finiteWarm, modelRules, storageRule, sweepRule, builtRule, readsRows, seedsRule, bodyRule, jointRule}
 use Rattle.model.specs.Calls.{Call, outcome, rulesOf, grantedOf, run, rowsFrom, rowsOf}
 use Rattle.model.specs.Calls.Call.{load, place, build, warmStart, sweep, removeBias, writeBack, readRows, readVelocity}
 use Rattle.model.specs.Calls.Answer.{refused}
@@ -135,13 +135,13 @@ module _ (m : Model) (arguments : Bool) (rows : List Float) {k : ℕ} (e : k ≡
 -- ---- a call's own rules: each fails, or holds and leaves the rest to decide
 
 module _ (rest : List Rule) where
-  pub too-many : (n : ℕ) → 1000 < n → 9 ≡ refusal (sweepRule n ∷ rest)
+  pub too-many : (n : ℕ) → mostRounds < n → 9 ≡ refusal (sweepRule n ∷ rest)
   unfolding sweepRule
-  too-many n h = sym (rule-fails (sweepRule n) rest (ap not (lt-ltb 1000 n h)))
+  too-many n h = sym (rule-fails (sweepRule n) rest (ap not (lt-ltb mostRounds n h)))
 
-  pub few-rounds : (n : ℕ) → n ≤ 1000 → refusal (sweepRule n ∷ rest) ≡ refusal rest
+  pub few-rounds : (n : ℕ) → n ≤ mostRounds → refusal (sweepRule n ∷ rest) ≡ refusal rest
   unfolding sweepRule
-  few-rounds n h = rule-holds (sweepRule n) rest (ap not (le-ltb 1000 n h))
+  few-rounds n h = rule-holds (sweepRule n) rest (ap not (le-ltb mostRounds n h))
 
   module _ (m : Model) where
     pub not-built : m .built ≡ false → 10 ≡ refusal (builtRule m ∷ rest)
