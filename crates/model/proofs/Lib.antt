@@ -14,6 +14,7 @@ pub mod ApartJoints
 pub mod RowWorks
 pub mod ApartCalls
 pub mod Keeps
+pub mod PastTotal
 pub mod Agrees
 pub mod WriteBackApart
 pub mod SameRefusals
