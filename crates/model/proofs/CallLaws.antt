@@ -18,7 +18,7 @@ use Rattle.rows.proofs.RowArrays.{rowsArray-rows, rowIdsArray-ids}
 use Rattle.model.specs.Store.{masksAt}
 use Rattle.model.specs.JointRows.{jointIds, rowCount, rowsList}
 use Rattle.model.specs.Model.{Model, bodyCount, jointCount, rowsBefore, Sound, Room}
-use Rattle.model.specs.Refusals.{Rule, refusal, modelRules, storageRule, sweepRule, builtRule, readsRows, seedsRule, bodyRule, jointRule}
+use Rattle.model.specs.Refusals.{mostRounds, Rule, refusal, modelRules, storageRule, sweepRule, builtRule, readsRows, seedsRule, bodyRule, jointRule}
 use Rattle.model.specs.Calls.{Call, outcome, firstRules, ownRules, rulesOf, grantedOf, run, rowsFrom, rowsOf}
 use Rattle.model.specs.Calls.Call.{readRows}
 use Rattle.model.specs.Calls.Answer.{rowsRead, refused}
@@ -27,7 +27,7 @@ use Rattle.model.specs.declared.calls.Plain.{Plain}
 use Rattle.model.specs.declared.calls.RowsAnswer.{RowsAnswer}
 use Rattle.model.proofs.JointRowsLaws.{few-rows}
 use Rattle.model.proofs.StoredRows.{rowsFrom-length}
-use Rattle.model.proofs.RefusalLaws.{by-cases, Numbered, rule-holds, rule-fails, granted-append, refused-append, model-numbered, first-numbered, call-numbered, Hold, all-hold, sound-of, room-of}
+use Rattle.model.proofs.RefusalLaws.{by-cases, Numbered, rule-holds, rule-fails, granted-append, refused-append, model-numbered, first-numbered, call-numbered, Hold, all-hold, ruleOf, hold-number, sound-of, room-of}
 
 or-true : (t : Bool) → (t || true) ≡ true
 or-true true = refl
@@ -69,15 +69,16 @@ module _ (c : Call) (m : Model) (rows : List Float) {k : ℕ} (e : k ≡ refusal
   pub granted-late : k ≡ 0 → refusal (ownRules c m) ≡ 0 → grantedOf c m rows ≡ run c m rows
   granted-late z d = run-granted c m rows (own-decide z ∙ d)
 
--- ---- where a call is granted, its own rules hold
+-- ---- where a call is granted, each of its own rules holds
 
 hold-last : (qs rs : List Rule) → Hold (qs ++ rs) → Hold rs
 hold-last [] rs h = h
 hold-last (q ∷ qs) rs h = hold-last qs rs (h .1)
 
-pub own-hold : (c : Call) (m : Model) (rows : List Float) → refusal (rulesOf c m rows) ≡ 0 → Hold (ownRules c m)
+pub own-rule : (k : ℕ) (c : Call) (m : Model) (rows : List Float) → refusal (rulesOf c m rows) ≡ 0 → ruleOf k (ownRules c m) ≡ true
 unfolding rulesOf
-own-hold c m rows e = hold-last (firstRules c m rows) (ownRules c m) (all-hold (rulesOf c m rows) (call-numbered m c rows) e)
+own-rule k c m rows e =
+    hold-number k (ownRules c m) (hold-last (firstRules c m rows) (ownRules c m) (all-hold (rulesOf c m rows) (call-numbered m c rows) e))
 
 -- ---- what rules 1 to 8 see to
 
@@ -100,13 +101,13 @@ module _ (m : Model) (arguments : Bool) (rows : List Float) {k : ℕ} (e : k ≡
 -- ---- a call's own rules: each fails, or holds and leaves the rest to decide
 
 module _ (rest : List Rule) where
-  pub too-many : (n : ℕ) → 1000 < n → 9 ≡ refusal (sweepRule n ∷ rest)
+  pub too-many : (n : ℕ) → mostRounds < n → 9 ≡ refusal (sweepRule n ∷ rest)
   unfolding sweepRule
-  too-many n h = sym (rule-fails (sweepRule n) rest (ap not (lt-ltb 1000 n h)))
+  too-many n h = sym (rule-fails (sweepRule n) rest (ap not (lt-ltb mostRounds n h)))
 
-  pub few-rounds : (n : ℕ) → n ≤ 1000 → refusal (sweepRule n ∷ rest) ≡ refusal rest
+  pub few-rounds : (n : ℕ) → n ≤ mostRounds → refusal (sweepRule n ∷ rest) ≡ refusal rest
   unfolding sweepRule
-  few-rounds n h = rule-holds (sweepRule n) rest (ap not (le-ltb 1000 n h))
+  few-rounds n h = rule-holds (sweepRule n) rest (ap not (le-ltb mostRounds n h))
 
   module _ (m : Model) where
     pub not-built : m .built ≡ false → 10 ≡ refusal (builtRule m ∷ rest)

@@ -29,6 +29,7 @@ use Rattle.rows.specs.declared.row_ids.RowIds.{RowIds}
 use Rattle.rows.proofs.Filled.{set-filled, length-filled}
 use Rattle.rows.proofs.RowIdsCount.{at-most-six}
 use Rattle.rows.proofs.RowArrays.{rowsArray-len, rowsArray-rows, rowIdsArray-len, rowIdsArray-id, length-builderUpdateOf}
+use Rattle.model.specs.Layout.{rowWidth}
 use Rattle.model.specs.Store.{rowAt, putRow, velAt, putVel, solverPoseAt, jointAt, masksAt, body1At, body2At, putSeed}
 use Rattle.model.specs.JointRows.{State, state, jointIds, rowCount, rowsList, putRows, buildJoint, impulsesAt, sweepRow, sweepJoint, warmstartRow, warmstartJoint, removeBiasJoint, writeBackIds}
 
@@ -47,7 +48,7 @@ fill-turn x l f len snoc m i {y = y} h e r =
 
 -- ---- impulses read
 
-impulse-read : (s : List Float) (k : ℕ) → rowAt s k .impulse ≡ getD s (k * 18) nan
+impulse-read : (s : List Float) (k : ℕ) → rowAt s k .impulse ≡ getD s (k * rowWidth) nan
 unfolding rowAt
 impulse-read s k = rw add-zero
 
@@ -65,7 +66,7 @@ impulses-snoc s k (suc n) =
 
 -- one more impulse
 pub impulse-turn : (s : List Float) (k i : ℕ) {out : List Float} → i < 6 → out ≡ filled 6 (bits 0) (impulsesAt s k i)
-    → set out i (getD s ((k + i) * 18) nan) ≡ filled 6 (bits 0) (impulsesAt s k (i + 1))
+    → set out i (getD s ((k + i) * rowWidth) nan) ≡ filled 6 (bits 0) (impulsesAt s k (i + 1))
 impulse-turn s k i h e =
     fill-turn (bits 0) (impulsesAt s k) (λ n. rowAt s (k + n) .impulse) (length-impulsesAt s k) (impulses-snoc s k) 6 i h e (rw impulse-read)
 
@@ -168,7 +169,7 @@ ids-len words j e = ap (λ m. m .len) e ∙ rowIdsArray-len (masksAt words j)
 
 -- the ids left at turn i, once the turn's impulse is stored
 pub back-turn : (rows : List Float) (words : List ℕ) (k j i : ℕ) (numbers : List Float) (d : RowId) {ids : RowIds} {numbers′ : List Float}
-    → i < rowCount words j → ids ≡ rowIdsArray (masksAt words j) → numbers′ ≡ putSeed numbers j (getD (ids .ids) i d .id) (getD rows ((k + i) * 18) nan)
+    → i < rowCount words j → ids ≡ rowIdsArray (masksAt words j) → numbers′ ≡ putSeed numbers j (getD (ids .ids) i d .id) (getD rows ((k + i) * rowWidth) nan)
     → writeBackIds rows (k + (i + 1)) j (drop (i + 1) (jointIds words j)) numbers′ ≡ writeBackIds rows (k + i) j (drop i (jointIds words j)) numbers
 unfolding writeBackIds jointIds rowCount
 back-turn rows words k j i numbers d {ids} h e g =

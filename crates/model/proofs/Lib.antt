@@ -14,6 +14,7 @@ pub mod ClosedSet
 pub mod RowWorks
 pub mod CallLocality
 pub mod Keeps
+pub mod PastTotal
 pub mod Agrees
 pub mod WriteBackLocality
 pub mod SameRefusals

@@ -10,6 +10,7 @@ use lib.ListN.{length, getD}
 use lib.Ieee.{Float}
 use Rattle.rows.specs.Update.{blankRow}
 use Rattle.rows.specs.declared.joint_velocity_constraint.JointConstraint.{JointConstraint}
+use Rattle.model.specs.Layout.{rowWidth}
 use Rattle.model.specs.Store.{rowAt, putRow}
 use Rattle.model.specs.JointRows.{putRows, impulsesAt}
 use Rattle.model.specs.Calls.{rowsFrom}
@@ -62,7 +63,7 @@ putRows-other [] s k q h = refl
 putRows-other (r ∷ rs) s k q h =
     putRows-other rs (putRow s k r) (k + 1) q (λ p a b. h p (omega arith) (omega arith)) ∙ rowAt-putRow-other s k q r (h k (omega arith) (omega arith))
 
-pub putRows-at : (rs : List JointConstraint) (s : List Float) (k i : ℕ) → i < length rs → (k + length rs) * 18 ≤ length s
+pub putRows-at : (rs : List JointConstraint) (s : List Float) (k i : ℕ) → i < length rs → (k + length rs) * rowWidth ≤ length s
     → rowAt (putRows s k rs) (k + i) ≡ getD rs i blankRow
 unfolding putRows
 putRows-at [] s k i h room = absurd (omega arith)

@@ -24,7 +24,7 @@ use Rattle.rows.proofs.WritebackNamed.{named-seeds}
 use Rattle.model.specs.Store.{world, solverPoseAt, velAt, putPose}
 use Rattle.model.specs.JointRows.{jointIds}
 use Rattle.model.specs.Model.{Model, model, withBodies, jointCount, Sound, Room}
-use Rattle.model.specs.Refusals.{refusal, modelRules, storageRule, builtRule, seedsRule, readsRows}
+use Rattle.model.specs.Refusals.{refusal, modelRules, storageRule, sweepRule, builtRule, seedsRule, jointRule, readsRows}
 use Rattle.model.specs.Calls.{Call, Outcome, Asked, table, rulesOf, grantedOf, run, refusalOf}
 use Rattle.model.specs.Calls.Call.{load, place, build, warmStart, sweep, removeBias, writeBack, readRows, readVelocity}
 use Rattle.model.specs.Calls.Answer.{granted, velocityRead, refused}
@@ -34,7 +34,7 @@ use Rattle.model.specs.Studies.{planar, Loaded, Enough, Agree, MakesRows
 use Rattle.model.proofs.StoreLaws.{withPose, solverPoseAt-cong, solverPoseAt-putPose, solverPoseAt-putPose-other, velAt-putPose, length-putPose}
 use Rattle.model.proofs.CountLaws.{body-there}
 use Rattle.model.proofs.RefusalLaws.{by-cases, RulesHold, rules-hold, sound-held}
-use Rattle.model.proofs.CallLaws.{run-granted, run-refused, own-hold}
+use Rattle.model.proofs.CallLaws.{run-granted, run-refused, own-rule}
 use Rattle.model.proofs.RefusedExactly.{told}
 use Rattle.model.proofs.Keeps.{SamePoses, warm-keeps, sweep-keeps, back-keeps, granted-front, run-cases, run-holds, run-counts}
 use Rattle.model.proofs.SameStudies.{RowsSame, VelsSame}
@@ -50,25 +50,25 @@ use Rattle.model.proofs.TraceLaws.{each-map, each-both, each-of-some, K
 module _ (m : Model) (rows : List Float) where
   built-warm : refusal (rulesOf warmStart m rows) ≡ 0 → m .built ≡ true
   unfolding builtRule
-  built-warm e = own-hold warmStart m rows e .0
+  built-warm e = own-rule 10 warmStart m rows e
 
   built-sweep : (n : ℕ) → refusal (rulesOf (sweep n) m rows) ≡ 0 → m .built ≡ true
-  unfolding builtRule
-  built-sweep n e = own-hold (sweep n) m rows e .1 .0
+  unfolding sweepRule builtRule
+  built-sweep n e = own-rule 10 (sweep n) m rows e
 
   built-back : refusal (rulesOf writeBack m rows) ≡ 0 → m .built ≡ true
   unfolding builtRule
-  built-back e = own-hold writeBack m rows e .0
+  built-back e = own-rule 10 writeBack m rows e
 
   built-read : (j : ℕ) → refusal (rulesOf (readRows j) m rows) ≡ 0 → m .built ≡ true
-  unfolding builtRule
-  built-read j e = own-hold (readRows j) m rows e .0
+  unfolding builtRule jointRule
+  built-read j e = own-rule 10 (readRows j) m rows e
 
   -- a build that reads the rows of the last one is of a model marked built
   built-build : (warm : Warmstart) (substep : ℕ) → refusal (rulesOf (build warm substep) m rows) ≡ 0 → readsRows warm substep ≡ true → m .built ≡ true
   unfolding seedsRule
   built-build warm substep e r =
-      let t = own-hold (build warm substep) m rows e .0 in
+      let t = own-rule 10 (build warm substep) m rows e in
       by-cases (m .built) (λ b. b) (λ b. absurd (false≢true (rw (b, r) at t)))
 
 -- ---- one call

@@ -15,6 +15,7 @@ use Rattle.rows.specs.Writeback.{writebackOf}
 use Rattle.rows.specs.declared.joint_constraint_builder.ImpulseJoint.{ImpulseJoint}
 use Rattle.rows.specs.declared.joint_velocity_constraint.WritebackId.{WritebackId}
 use Rattle.rows.proofs.WritebackNamed.{Axes, written-axes, named-written}
+use Rattle.model.specs.Layout.{numbersWidth}
 use Rattle.model.specs.Store.{rowAt, jointAt, masksAt, putSeed}
 use Rattle.model.specs.JointRows.{jointIds, rowCount, writeBackIds, writeBackJoint}
 use Rattle.model.specs.Model.{Model, withNumbers, jointCount, rowsBefore}
@@ -37,7 +38,7 @@ wroteOf rows k [] joint = joint
 wroteOf rows k (i ∷ is) joint = wroteOf rows (k + 1) is (writebackOf joint i (rowAt rows k .impulse))
 
 module _ (words : List ℕ) (rows : List Float) where
-  back-own : (k j : ℕ) (is : List WritebackId) (n : List Float) → j * 42 + 42 ≤ length n → jointAt words (writeBackIds rows k j is n) j ≡ wroteOf rows k is (jointAt words n j)
+  back-own : (k j : ℕ) (is : List WritebackId) (n : List Float) → j * numbersWidth + numbersWidth ≤ length n → jointAt words (writeBackIds rows k j is n) j ≡ wroteOf rows k is (jointAt words n j)
   unfolding writeBackIds wroteOf
   back-own k j [] n room = refl
   back-own k j (i ∷ is) n room =
@@ -55,7 +56,7 @@ module _ (words : List ℕ) (rows : List Float) where
   unfolding writeBackOne writeBackJoint
   one-other j j′ n ne = back-other (rowsBefore words j) j j′ (jointIds words j) n ne
 
-  one-own : (j : ℕ) (n : List Float) → j * 42 + 42 ≤ length n
+  one-own : (j : ℕ) (n : List Float) → j * numbersWidth + numbersWidth ≤ length n
       → jointAt words (writeBackOne rows words j n) j ≡ wroteOf rows (rowsBefore words j) (jointIds words j) (jointAt words n j)
   unfolding writeBackOne writeBackJoint
   one-own j n room = back-own (rowsBefore words j) j (jointIds words j) n room
@@ -71,7 +72,7 @@ module _ (words : List ℕ) (rows : List Float) where
   later i (suc t) j n l = later (i + 1) t j (writeBackOne rows words i n) (omega arith) ∙ one-other i j n (λ e. omega arith)
 
   -- joint j after the work on t joints from joint i on, of which it is one
-  back-all : (i t j : ℕ) (n : List Float) → i ≤ j → j < i + t → j * 42 + 42 ≤ length n
+  back-all : (i t j : ℕ) (n : List Float) → i ≤ j → j < i + t → j * numbersWidth + numbersWidth ≤ length n
       → jointAt words (eachJoint (writeBackOne rows words) i t n) j ≡ wroteOf rows (rowsBefore words j) (jointIds words j) (jointAt words n j)
   unfolding eachJoint
   back-all i zero j n l u room = absurd (omega arith)

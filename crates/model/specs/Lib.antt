@@ -1,3 +1,4 @@
+pub mod Layout
 pub mod Records
 pub mod Store
 pub mod JointRows
