@@ -7,13 +7,12 @@ use mathlib.Core.Bool.{Bool, true, Bool-discrete}
 use mathlib.Core.List.{List}
 use native.Mathlib.Decide.{ℕ-discrete, decLt, map-dec}
 use native.Mathlib.Omega.{arith}
-use lib.Ieee.{Float}
 use Rattle.rows.specs.Named.{SameNamed}
 use Rattle.rows.specs.declared.joint_velocity_constraint.WritebackId.{WritebackId}
 use Rattle.model.specs.Store.{world, jointAt, masksAt, body1At, body2At}
 use Rattle.model.specs.JointRows.{jointIds, rowCount}
 use Rattle.model.specs.Model.{Model, bodyCount, jointCount, rowsBefore, Sound}
-use Rattle.model.specs.Studies.{Ties, Inside, OfSet, Closed, Agree}
+use Rattle.model.specs.Studies.{Inside, OfSet, Closed, Agree}
 use Rattle.model.proofs.JointLocality.{Layout, Joint, Foreign, Split}
 
 -- joints of equal contents have the same ids

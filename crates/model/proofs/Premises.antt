@@ -2,7 +2,7 @@
 -- handed no row storage asks for no room (`no-storage-enough`), and where no rows are made nothing is named (`nothing-named`). All bodies of a loaded study are a
 -- closed set, and the study agrees with itself on it whatever is named (`whole-agrees`); so for any loaded study and any list of calls, whose row storage has room,
 -- all premises hold of the study and itself (`with-itself`), those of the empty list too.
-use Prim.Native.Nat.{ℕ, _<_}
+use Prim.Native.Nat.{ℕ}
 use mathlib.Core.Path.{_≡_, refl, sym, ap, _∙_}
 use mathlib.Core.Logic.{_≢_, ⊎-elim}
 use mathlib.Core.Bool.{Bool, true, false, false≢true}
@@ -15,8 +15,7 @@ use Rattle.rows.specs.declared.joint_constraint_builder.ImpulseJoint.{ImpulseJo
 use Rattle.rows.specs.declared.joint_velocity_constraint.WritebackId.{WritebackId}
 use Rattle.model.specs.Store.{world, Present, body1At, body2At}
 use Rattle.model.specs.Model.{Model, bodyCount, Sound, Room}
-use Rattle.model.specs.Refusals.{refusal}
-use Rattle.model.specs.Calls.{Call, Outcome, outcome, table, rulesOf, grantedOf, run, refusalOf}
+use Rattle.model.specs.Calls.{Call, Outcome, outcome, table, grantedOf, run, refusalOf}
 use Rattle.model.specs.Calls.Call.{load}
 use Rattle.model.specs.Calls.Answer.{granted}
 use Rattle.model.specs.Traces.{Study, Position, left, handed, AtEach, Returned}

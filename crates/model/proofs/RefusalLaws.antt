@@ -4,7 +4,7 @@
 use Prim.Native.Nat.{ℕ, zero, suc, _+_, _-_, _≤_, _<_}
 use mathlib.Core.Path.{_≡_, refl, sym, ap, _∙_}
 use mathlib.Core.Bool.{Bool, true, false, not, cond, _&&_, false≢true}
-use mathlib.Core.List.{List, [], _∷_, _++_}
+use mathlib.Core.List.{List, [], _∷_, _++_, map}
 use mathlib.Core.Logic.{_≢_, ⊎-elim}
 use native.Mathlib.Nat.{add-assoc, eq-or-lt-of-le}
 use native.Mathlib.Omega.{arith}
@@ -14,9 +14,9 @@ use lib.Ieee.{Float, lt}
 use Rattle.floats.specs.Operators.{bits}
 use Rattle.model.specs.Store.{world, Present, body1At, body2At}
 use Rattle.model.specs.Model.{mostBodies, mostJoints, Model, bodyCount, jointCount, rowCapacity, totalRows, Sound, Room}
-use Rattle.model.specs.Refusals.{Rule, rule, refusal, all, atMost, masksFit, presentOrWorld, bodiesPresent, bodiesApart, finitePose, finiteWarm, finiteParams, finiteBody, finiteJoint, modelRules, storageRule, sweepRule, builtRule, seedsRule, bodyRule, jointRule}
-use Rattle.model.specs.Calls.{Call, Asked, table, handedRules, askedRules, firstRules, ownRules, rulesOf}
-use Rattle.model.specs.Calls.Call.{load, place, build, warmStart, sweep, removeBias, writeBack, readRows, readVelocity}
+use Rattle.model.specs.Refusals.{Rule, rule, refusal, all, atMost, masksFit, presentOrWorld, bodiesPresent, bodiesApart, finiteParams, finiteBody, finiteJoint, modelRules, storageRule, sweepRule, builtRule, seedsRule, bodyRule, jointRule}
+use Rattle.model.specs.Calls.{Call, Asked, Own, ownRule, table, handedRules, askedRules, firstRules, ownRules, rulesOf}
+use Rattle.model.specs.Calls.Own.{fewRounds, afterBuild, afterRead}
 use Rattle.model.specs.Calls.Asked.{nothing, body, joint}
 use Rattle.model.proofs.CountLaws.{body-there}
 
@@ -209,17 +209,15 @@ module _ (m : Model) where
   handed-numbered true finite rows = storage-numbered m finite rows
   handed-numbered false finite rows = model-numbered m finite
 
-  table-numbered : (c : Call) → Numbered (table c .own m)
+  own-numbered : (o : Own) → ownRule m o .number ≢ 0
   unfolding sweepRule builtRule seedsRule
-  table-numbered load = tt
-  table-numbered (place i pose) = tt
-  table-numbered (build warm substep) = omega arith
-  table-numbered warmStart = omega arith
-  table-numbered (sweep n) = omega arith
-  table-numbered removeBias = omega arith
-  table-numbered writeBack = omega arith
-  table-numbered (readRows j) = omega arith
-  table-numbered (readVelocity i) = tt
+  own-numbered (fewRounds n) = omega arith
+  own-numbered afterBuild = omega arith
+  own-numbered (afterRead warm substep) = omega arith
+
+  all-numbered : (os : List Own) → Numbered (map (ownRule m) os)
+  all-numbered [] = tt
+  all-numbered (o ∷ os) = (own-numbered o, all-numbered os)
 
   asked-numbered : (a : Asked) → Numbered (askedRules m a)
   unfolding bodyRule jointRule
@@ -235,7 +233,7 @@ module _ (m : Model) where
   unfolding rulesOf
   call-numbered c rows =
       numbered-append (firstRules c m rows) (ownRules c m) (first-numbered c rows)
-      (numbered-append (table c .own m) (askedRules m (table c .asked)) (table-numbered c) (asked-numbered (table c .asked)))
+      (numbered-append (map (ownRule m) (table c .own)) (askedRules m (table c .asked)) (all-numbered (table c .own)) (asked-numbered (table c .asked)))
 
 -- ---- rules 1 to 7
 

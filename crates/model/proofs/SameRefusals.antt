@@ -4,14 +4,14 @@
 use Prim.Native.Nat.{ℕ}
 use mathlib.Core.Path.{_≡_, refl, sym, ap, _∙_}
 use mathlib.Core.Bool.{Bool, true, false}
-use mathlib.Core.List.{List, [], _∷_, _++_, append-assoc}
+use mathlib.Core.List.{List, [], _∷_, _++_, map, append-assoc}
 use borrow.Author.Tests.{le-ltb, lt-ltb}
 use lib.Ieee.{Float}
 use Rattle.rows.specs.declared.joint_velocity_constraint.WritebackId.{WritebackId}
 use Rattle.model.specs.Model.{Model, bodyCount, jointCount, rowCapacity, totalRows, Room}
 use Rattle.model.specs.Refusals.{Rule, refusal, modelRules, storageRule, builtRule, seedsRule, bodyRule, jointRule}
-use Rattle.model.specs.Calls.{Call, Asked, table, handedRules, askedRules, ownRules, rulesOf}
-use Rattle.model.specs.Calls.Call.{load, place, build, warmStart, sweep, removeBias, writeBack, readRows, readVelocity}
+use Rattle.model.specs.Calls.{Call, Asked, Own, ownRule, table, handedRules, askedRules, ownRules, rulesOf}
+use Rattle.model.specs.Calls.Own.{fewRounds, afterBuild, afterRead}
 use Rattle.model.specs.Calls.Asked.{nothing, body, joint}
 use Rattle.model.specs.Studies.{Agree, AboutSet, SameAsked}
 use Rattle.model.proofs.RefusalLaws.{by-cases, rule-holds, RulesHold, rules-rest, rules-arguments}
@@ -51,24 +51,22 @@ module _ (m m′ : Model) (held : RulesHold m) (held′ : RulesHold m′) where
   same-asked (joint j) e = rw e
 
   module _ (mark : m .built ≡ m′ .built) where
-    same-own : (c : Call) → table c .own m ≡ table c .own m′
+    same-own : (o : Own) → ownRule m o ≡ ownRule m′ o
     unfolding builtRule seedsRule
-    same-own load = refl
-    same-own (place i pose) = refl
-    same-own (build warm substep) = rw mark
-    same-own warmStart = rw mark
-    same-own (sweep n) = rw mark
-    same-own removeBias = rw mark
-    same-own writeBack = rw mark
-    same-own (readRows j) = rw mark
-    same-own (readVelocity i) = refl
+    same-own (fewRounds n) = refl
+    same-own afterBuild = rw mark
+    same-own (afterRead warm substep) = rw mark
+
+    same-owns : (os : List Own) → map (ownRule m) os ≡ map (ownRule m′) os
+    same-owns [] = refl
+    same-owns (o ∷ os) = rw (same-own o, same-owns os)
 
     pub same-refusal : (rows rows′ : List Float) (c : Call) → SameAsked m m′ (table c .asked) → (table c .rowStorage ≡ true → Room m rows × Room m′ rows′)
         → refusal (rulesOf c m rows) ≡ refusal (rulesOf c m′ rows′)
     unfolding rulesOf
     same-refusal rows rows′ c a r =
         same-handed rows rows′ (table c .rowStorage) (table c .finite) (ownRules c m) (ownRules c m′) r
-        (ap (λ rs. refusal (rs ++ askedRules m (table c .asked))) (same-own c) ∙ ap (λ rs. refusal (table c .own m′ ++ rs)) (same-asked (table c .asked) a))
+        (ap (λ rs. refusal (rs ++ askedRules m (table c .asked))) (same-owns (table c .own)) ∙ ap (λ rs. refusal (map (ownRule m′) (table c .own) ++ rs)) (same-asked (table c .asked) a))
 
 -- ---- of the set
 

@@ -1,14 +1,14 @@
 -- Two studies that differ and meet every premise of demand 3 (`side-by-side`): bodies 0 and 1 are the set, with a joint between them that locks both linear axes;
 -- body 2 hangs on the world by a joint that locks two axes in the one study and three in the other, and stands elsewhere in each. The set's joint has another
 -- target velocity of its first motor in each, which it does not name (`motors-differ`). The list is a build, granted in both (`builds`). All of it is computed.
-use Prim.Native.Nat.{ℕ, zero, suc, _<_}
+use Prim.Native.Nat.{ℕ, zero, suc}
 use mathlib.Core.Path.{_≡_, refl, sym, ap, _∙_}
 use mathlib.Core.Logic.{_≢_, inl, ⊎-elim}
 use mathlib.Core.Bool.{Bool, true, false, true≢false}
-use mathlib.Core.List.{List, [], _∷_, _++_, List·Memᴰ, List·Memᴰ·not-nil, List·Memᴰ·cases-cons}
+use mathlib.Core.List.{List, [], _∷_, _++_, List·Memᴰ·not-nil, List·Memᴰ·cases-cons}
 use native.Mathlib.Omega.{arith}
 use borrow.Author.Tests.{ltb-true}
-use lib.Dec.{ltb, lit<, lit≤}
+use lib.Dec.{ltb, lit≤}
 use lib.IntN.{pos}
 use lib.ListN.{replicate}
 use lib.Ieee.{Float, fin, lt, eq, isNan, ofBits}
@@ -24,10 +24,10 @@ use Rattle.model.specs.Store.{world, solverPoseAt, velAt, jointAt, masks
 use Rattle.model.specs.JointRows.{jointIds, rowCount}
 use Rattle.model.specs.Model.{Model, model, bodyCount, jointCount, rowCapacity, rowsBefore}
 use Rattle.model.specs.Refusals.{refusal, all, masksFit, presentOrWorld, bodiesPresent, bodiesApart, finiteFrom, noNanFrom, finiteParams, finiteWarm, finiteBody, finiteMotor, finiteJoint, modelRules, storageRule, seedsRule, readsRows}
-use Rattle.model.specs.Calls.{Call, rulesOf, grantedOf}
+use Rattle.model.specs.Calls.{rulesOf, grantedOf}
 use Rattle.model.specs.Calls.Call.{load, build}
-use Rattle.model.specs.Traces.{Study, Position, AtEach, AtSome}
-use Rattle.model.specs.Studies.{planar, Loaded, Enough, Ties, Closed, OfSet, Agree, MakesRows, HasRow, Names, SideBySide, SameNumbers, Noninterference}
+use Rattle.model.specs.Traces.{Study, AtEach, AtSome}
+use Rattle.model.specs.Studies.{planar, Loaded, Enough, Closed, OfSet, Agree, MakesRows, HasRow, Names, SideBySide, SameNumbers, Noninterference}
 use Rattle.model.proofs.CallLaws.{run-granted}
 use Rattle.model.proofs.RefusedExactly.{told}
 use Rattle.model.proofs.Premises.{Turn, recorded, recorded-returns}

@@ -3,7 +3,7 @@
 -- row storage that each call keeps is kept through the list, where it implies that the marks are equal and asks nothing of the row storage of models not built.
 use mathlib.Core.Path.{_≡_, sym, _∙_}
 use mathlib.Core.Logic.{inl, inr}
-use mathlib.Core.Bool.{Bool, true, false}
+use mathlib.Core.Bool.{true, false}
 use mathlib.Core.List.{List, [], _∷_}
 use Rattle.model.specs.Traces.{Machine, Study, Position, left, handed, AtEach, AtSome, after, after′, Returned}
 use Rattle.model.proofs.RefusalLaws.{by-cases}

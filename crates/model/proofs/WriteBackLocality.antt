@@ -1,7 +1,7 @@
 -- Write-back keeps agreement (`write-back-agrees`): where two models agree and the rows of the set's joints are the same, the impulses that are stored for a
 -- joint of the set are the same, and they are stored by the same ids. A joint's own rows decide what is stored of it (`back-all`).
 use Prim.Native.Nat.{ℕ, zero, suc, _+_, _*_, _≤_, _<_}
-use mathlib.Core.Path.{_≡_, refl, sym, ap, _∙_}
+use mathlib.Core.Path.{_≡_, refl, ap, _∙_}
 use mathlib.Core.Logic.{_≢_}
 use mathlib.Core.Bool.{Bool}
 use mathlib.Core.List.{List, [], _∷_}
@@ -16,11 +16,11 @@ use Rattle.rows.specs.declared.joint_constraint_builder.ImpulseJoint.{ImpulseJo
 use Rattle.rows.specs.declared.joint_velocity_constraint.WritebackId.{WritebackId}
 use Rattle.rows.proofs.WritebackNamed.{Axes, written-axes, named-written}
 use Rattle.model.specs.Layout.{numbersWidth}
-use Rattle.model.specs.Store.{rowAt, jointAt, masksAt, putSeed}
+use Rattle.model.specs.Store.{rowAt, jointAt, putSeed}
 use Rattle.model.specs.JointRows.{jointIds, rowCount, writeBackIds, writeBackJoint}
 use Rattle.model.specs.Model.{Model, withNumbers, jointCount, rowsBefore}
 use Rattle.model.specs.Calls.{eachJoint, writeBackOne, rowsFrom, rowsOf}
-use Rattle.model.specs.Studies.{OfSet, Agree}
+use Rattle.model.specs.Studies.{Agree}
 use Rattle.model.proofs.StoreLaws.{length-putSeed, jointAt-putSeed-other}
 use Rattle.model.proofs.WritebackLaws.{jointAt-putSeed-writeback}
 use Rattle.model.proofs.CountLaws.{joint-numbers}

@@ -2,7 +2,7 @@
 -- call leaves all as it was.
 use Prim.Native.Nat.{ℕ, zero, suc, _+_}
 use mathlib.Core.Bool.{Bool, true, false, cond}
-use mathlib.Core.List.{List, [], _∷_, _++_}
+use mathlib.Core.List.{List, [], _∷_, _++_, map}
 use lib.Dec.{eqb}
 use lib.Ieee.{Float}
 use Rattle.floats.specs.declared.pose.Pose.{Pose}
@@ -12,7 +12,7 @@ use Rattle.rows.specs.declared.joint_velocity_constraint.SolverVel.{SolverVel}
 use Rattle.rows.specs.declared.joint_velocity_constraint.WritebackId.{WritebackId}
 use Rattle.model.specs.Store.{rowAt, velAt, putPose, body1At, body2At}
 use Rattle.model.specs.JointRows.{State, state, jointIds, rowCount, buildJoint, sweepJoint, warmstartJoint, removeBiasJoint, writeBackJoint}
-use Rattle.model.specs.Model.{Model, withMark, withBodies, withNumbers, bodyCount, jointCount, rowsBefore, totalRows}
+use Rattle.model.specs.Model.{Model, withMark, withBodies, withNumbers, jointCount, rowsBefore, totalRows}
 use Rattle.model.specs.Refusals.{Rule, refusal, finitePose, finiteWarm, modelRules, storageRule, sweepRule, builtRule, seedsRule, bodyRule, jointRule}
 
 -- ---- all joints
@@ -107,6 +107,17 @@ pub data Asked : Type 0 where
   body : ℕ → Asked
   joint : ℕ → Asked
 
+-- a rule of a call's own: 9, so many rounds are not too many; 10, a build comes before it; 10, one comes before it where it reads the rows of the last one
+pub data Own : Type 0 where
+  fewRounds : ℕ → Own
+  afterBuild : Own
+  afterRead : Warmstart → ℕ → Own
+
+abbrev pub ownRule : Model → Own → Rule
+ownRule m (fewRounds n) = sweepRule n
+ownRule m afterBuild = builtRule m
+ownRule m (afterRead warm substep) = seedsRule m warm substep
+
 -- What there is to know of a call beside what it does.
 pub record Entry : Type 0 where
   -- its own numbers, a new pose or a warm coefficient, are finite (rule 6)
@@ -114,26 +125,26 @@ pub record Entry : Type 0 where
   -- it is handed row storage (rule 8)
   pub rowStorage : Bool
   -- its own rules, 9 and 10
-  pub own : Model → List Rule
+  pub own : List Own
   -- what it asks for by index (rule 11)
   pub asked : Asked
   -- where it is granted, it makes rows
   pub makesRows : Bool
 
-abbrev entry : Bool → Bool → (Model → List Rule) → Asked → Bool → Entry
+abbrev entry : Bool → Bool → List Own → Asked → Bool → Entry
 entry f s o a r = record { finite = f; rowStorage = s; own = o; asked = a; makesRows = r }
 
 -- The table of the calls, by column: finite, rowStorage, own, asked, makesRows. Place and a velocity read are handed no row storage.
 abbrev pub table : Call → Entry
-table load = entry true true (λ m. []) nothing false
-table (place i pose) = entry (finitePose pose) false (λ m. []) (body i) false
-table (build warm substep) = entry (finiteWarm warm) true (λ m. seedsRule m warm substep ∷ []) nothing true
-table warmStart = entry true true (λ m. builtRule m ∷ []) nothing false
-table (sweep n) = entry true true (λ m. sweepRule n ∷ builtRule m ∷ []) nothing false
-table removeBias = entry true true (λ m. builtRule m ∷ []) nothing false
-table writeBack = entry true true (λ m. builtRule m ∷ []) nothing false
-table (readRows j) = entry true true (λ m. builtRule m ∷ []) (joint j) false
-table (readVelocity i) = entry true false (λ m. []) (body i) false
+table load = entry true true [] nothing false
+table (place i pose) = entry (finitePose pose) false [] (body i) false
+table (build warm substep) = entry (finiteWarm warm) true (afterRead warm substep ∷ []) nothing true
+table warmStart = entry true true (afterBuild ∷ []) nothing false
+table (sweep n) = entry true true (fewRounds n ∷ afterBuild ∷ []) nothing false
+table removeBias = entry true true (afterBuild ∷ []) nothing false
+table writeBack = entry true true (afterBuild ∷ []) nothing false
+table (readRows j) = entry true true (afterBuild ∷ []) (joint j) false
+table (readVelocity i) = entry true false [] (body i) false
 
 -- rules 1 to 8, over what a call is handed; a call handed no row storage passes over 8
 abbrev pub handedRules : Bool → Model → Bool → List Float → List Rule
@@ -151,7 +162,7 @@ abbrev pub firstRules : Call → Model → List Float → List Rule
 firstRules c m rows = handedRules (table c .rowStorage) m (table c .finite) rows
 
 abbrev pub ownRules : Call → Model → List Rule
-ownRules c m = table c .own m ++ askedRules m (table c .asked)
+ownRules c m = map (ownRule m) (table c .own) ++ askedRules m (table c .asked)
 
 unfoldable pub rulesOf : Call → Model → List Float → List Rule
 rulesOf c m rows = firstRules c m rows ++ ownRules c m
