@@ -3,6 +3,7 @@ pub mod StoreLaws
 pub mod WritebackLaws
 pub mod JointRowsLaws
 pub mod CountLaws
+pub mod SingleRecordsLaws
 pub mod RefusalLaws
 pub mod AllJointsLaws
 pub mod CallLaws

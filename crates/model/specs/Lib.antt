@@ -3,6 +3,7 @@ pub mod Records
 pub mod Store
 pub mod JointRows
 pub mod Model
+pub mod SingleRecords
 pub mod Refusals
 pub mod Calls
 pub mod Answers
