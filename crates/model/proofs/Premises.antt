@@ -1,5 +1,6 @@
 -- The premises of demand 3 can be met. Any granted load gives a loaded study (`loaded-of`). What the calls return is a trace (`recorded-returns`). A call that is
--- handed no row storage asks for no room (`no-storage-enough`), and where no rows are made nothing is named (`nothing-named`). All bodies of a loaded study are a
+-- handed no row storage asks for no room (`no-storage-enough`), storage of the larger of the two totals is enough (`larger-enough`), and where no rows are made
+-- nothing is named (`nothing-named`). All bodies of a loaded study are a
 -- closed set, and the study agrees with itself on it whatever is named (`whole-agrees`); so for any loaded study and any list of calls, whose row storage has room,
 -- all premises hold of the study and itself (`with-itself`), those of the empty list too.
 use Prim.Native.Nat.{ℕ}
@@ -19,7 +20,7 @@ use Rattle.model.specs.Calls.{Call, Outcome, outcome, table, grantedOf, 
 use Rattle.model.specs.Calls.Call.{load}
 use Rattle.model.specs.Calls.Answer.{granted}
 use Rattle.model.specs.Traces.{Study, Position, left, handed, AtEach, Returned}
-use Rattle.model.specs.Studies.{planar, Loaded, Enough, Ties, Agree, MakesRows, NamesAt, Names, SideBySide}
+use Rattle.model.specs.Studies.{planar, Loaded, Enough, Ties, Agree, MakesRows, NamesAt, Names, Compared}
 use Rattle.model.proofs.CountLaws.{there-body}
 use Rattle.model.proofs.RefusalLaws.{sound-held}
 use Rattle.model.proofs.CallLaws.{run-granted}
@@ -64,8 +65,17 @@ recorded-returns (t ∷ ts) s s′ = (record { one = refl; other = refl }, recor
 
 -- ---- row storage, and naming
 
+-- a storage holds at least the larger of the two totals
+abbrev pub HoldsBoth : Study planar → Study planar → List Float → Type 0
+HoldsBoth s s′ rows = Room (s .model) rows × Room (s′ .model) rows
+
 pub no-storage-enough : (p : Position planar) (s s′ : Study planar) → table (p .call) .rowStorage ≡ false → Enough p s s′
 no-storage-enough p s s′ e t = absurd (false≢true (sym e ∙ t))
+
+-- the larger of the two totals, which document 01 asks of both storages, is enough
+pub larger-enough : (p : Position planar) (s s′ : Study planar)
+    → (table (p .call) .rowStorage ≡ true → HoldsBoth s s′ (handed s (p .lent)) × HoldsBoth s s′ (handed s′ (p .lent′))) → Enough p s s′
+larger-enough p s s′ h e = (h e .0 .0, h e .1 .1)
 
 -- no call of the list makes rows, in either study
 pub record MakesNone (p : Position planar) (s s′ : Study planar) : Type 0 where
@@ -140,7 +150,7 @@ roomy-enough [] s r = tt
 roomy-enough (g ∷ gs) s r = (λ e. (r .0 e, r .0 e), roomy-enough gs _ (r .1))
 
 pub with-itself : (gs : List Given) (s : Study planar) → Loaded s → AtEach Roomy (recorded (doubled gs) s s) s s
-    → SideBySide (λ i. ltb i (bodyCount (s .model .bodies))) (recorded (doubled gs) s s) s s
+    → Compared (λ i. ltb i (bodyCount (s .model .bodies))) (recorded (doubled gs) s s) s s
 with-itself gs s l r = record {
   loaded = l;
   loaded′ = l;

@@ -1,4 +1,4 @@
--- Two studies that differ and meet every premise of demand 3 (`side-by-side`): bodies 0 and 1 are the set, with a joint between them that locks both linear axes;
+-- Two studies that differ and meet every premise of demand 3 (`compared`): bodies 0 and 1 are the set, with a joint between them that locks both linear axes;
 -- body 2 hangs on the world by a joint that locks two axes in the one study and three in the other, and stands elsewhere in each. The set's joint has another
 -- target velocity of its first motor in each, which it does not name (`motors-differ`). The list is a build, granted in both (`builds`). All of it is computed.
 use Prim.Native.Nat.{ℕ, zero, suc}
@@ -27,7 +27,7 @@ use Rattle.model.specs.Refusals.{refusal, all, masksFit, presentOrWorld,
 use Rattle.model.specs.Calls.{rulesOf, grantedOf}
 use Rattle.model.specs.Calls.Call.{load, build}
 use Rattle.model.specs.Traces.{Study, AtEach, AtSome}
-use Rattle.model.specs.Studies.{planar, Loaded, Enough, Closed, OfSet, Agree, MakesRows, HasRow, Names, SideBySide, SameNumbers, Noninterference}
+use Rattle.model.specs.Studies.{planar, Loaded, Enough, Closed, OfSet, Agree, MakesRows, HasRow, Names, Compared, SameNumbers, Noninterference}
 use Rattle.model.proofs.CallLaws.{run-granted}
 use Rattle.model.proofs.RefusedExactly.{told}
 use Rattle.model.proofs.Premises.{Turn, recorded, recorded-returns}
@@ -197,14 +197,14 @@ agree = record {
 
 -- ---- what is shown
 
-pub side-by-side : SideBySide set (recorded ts s s′) s s′
-side-by-side = record { loaded = loaded; loaded′ = loaded′; agree = agree; storage = enough; traces = recorded-returns ts s s′ }
+pub compared : Compared set (recorded ts s s′) s s′
+compared = record { loaded = loaded; loaded′ = loaded′; agree = agree; storage = enough; traces = recorded-returns ts s s′ }
 
 same-numbers : SameNumbers m m′
 same-numbers = record { bodies = three-bodies two one 7 ∙ sym (three-bodies o two 3); joints = two-joints two one 7 ∙ sym (two-joints o two 3) }
 
 pub shared : Noninterference set (recorded ts s s′) s s′
-shared = two-studies set (recorded ts s s′) s s′ same-numbers side-by-side
+shared = two-studies set (recorded ts s s′) s s′ same-numbers compared
 
 -- rows are made
 pub builds : AtEach (λ p s s′. MakesRows (p .call) (p .outcome) × MakesRows (p .call) (p .outcome′)) (recorded ts s s′) s s′

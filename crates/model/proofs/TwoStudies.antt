@@ -30,7 +30,7 @@ use Rattle.model.specs.Calls.Call.{load, place, build, warmStart, sweep,
 use Rattle.model.specs.Calls.Answer.{granted, velocityRead, refused}
 use Rattle.model.specs.Calls.Asked.{nothing, body, joint}
 use Rattle.model.specs.Traces.{Study, Position, left, handed, AtEach, after, after′, Returned}
-use Rattle.model.specs.Studies.{planar, Loaded, Enough, Agree, MakesRows, NamesAt, Names, RefusedAlike, withoutTotal, AboutSet, SameAnswer, Shared, SideBySide, SameNumbers, TwoStudies, SameAsked, RefusedWhereAsked}
+use Rattle.model.specs.Studies.{planar, Loaded, Enough, Agree, MakesRows, NamesAt, Names, RefusedAlike, withoutTotal, AboutSet, SameAnswer, Shared, Compared, SameNumbers, TwoStudies, SameAsked, RefusedWhereAsked}
 use Rattle.model.proofs.StoreLaws.{withPose, solverPoseAt-cong, solverPoseAt-putPose, solverPoseAt-putPose-other, velAt-putPose, length-putPose}
 use Rattle.model.proofs.CountLaws.{body-there}
 use Rattle.model.proofs.RefusalLaws.{by-cases, RulesHold, rules-hold, sound-held}
@@ -384,25 +384,29 @@ related-shared set named s s′ b = record {
   impulses = λ j i id n. named-seeds _ _ (b .agree .contents j i) id n;
 }
 
-module _ (set : ℕ → Bool) (ps : List (Position planar)) (s s′ : Study planar) (h : SideBySide set ps s s′) where
+module _ (set : ℕ → Bool) (ps : List (Position planar)) (s s′ : Study planar) (h : Compared set ps s s′) where
   abbrev named : ℕ → WritebackId → Type 0
   named = Names ps s s′
 
-  through : AtEach (Tells set named) ps s s′ × Related set named (after ps s .model) (after′ ps s′ .model) (after ps s .rows) (after′ ps s′ .rows)
-  through =
+  related-start : Related set named (s .model) (s′ .model) (s .rows) (s′ .rows)
+  related-start =
       let q = loaded-start s (h .loaded) in
       let q′ = loaded-start s′ (h .loaded′) in
-      kept-through (Related set named) (Asks set named) (Tells set named) (related-kept set named) ps s s′
-      (record {
+      record {
         held = q .0;
         held′ = q′ .0;
         agree = h .agree;
         mark = q .1 ∙ sym (q′ .1);
         same-rows = λ e. absurd (false≢true (sym (q .1) ∙ e));
-      })
-      (h .traces)
-      (each-both Enough (λ p s s′. (x : ℕ × WritebackId) → NamesAt (x .0) (x .1) p s s′ → named (x .0) (x .1)) ps s s′ (h .storage)
-      (each-of-some (λ (x : ℕ × WritebackId). NamesAt (x .0) (x .1)) (λ (x : ℕ × WritebackId). named (x .0) (x .1)) ps s s′ (λ x n. n)))
+      }
+
+  asks-each : AtEach (Asks set named) ps s s′
+  asks-each =
+      each-both Enough (λ p s s′. (x : ℕ × WritebackId) → NamesAt (x .0) (x .1) p s s′ → named (x .0) (x .1)) ps s s′ (h .storage)
+      (each-of-some (λ (x : ℕ × WritebackId). NamesAt (x .0) (x .1)) (λ (x : ℕ × WritebackId). named (x .0) (x .1)) ps s s′ (λ x n. n))
+
+  through : AtEach (Tells set named) ps s s′ × Related set named (after ps s .model) (after′ ps s′ .model) (after ps s .rows) (after′ ps s′ .rows)
+  through = kept-through (Related set named) (Asks set named) (Tells set named) (related-kept set named) ps s s′ related-start (h .traces) asks-each
 
   pub any-numbers : AtEach RefusedWhereAsked ps s s′ × AtEach (SameAnswer set) ps s s′ × Shared set named (after ps s) (after′ ps s′)
   any-numbers = (
@@ -420,24 +424,28 @@ numbers-step p s s′ ret n =
     let k′ = run-counts (s′ .model) (handed s′ (p .lent′)) (p .call) in
     rw (ret .one, ret .other) (record { bodies = k .bodies ∙ n .bodies ∙ sym (k′ .bodies); joints = k .joints ∙ n .joints ∙ sym (k′ .joints) })
 
-numbers-each : (ps : List (Position planar)) (s s′ : Study planar) → SameNumbers (s .model) (s′ .model) → AtEach Returned ps s s′
-    → AtEach (λ p s s′. SameNumbers (s .model) (s′ .model)) ps s s′
-unfolding AtEach
-numbers-each [] s s′ n t = tt
-numbers-each (p ∷ ps) s s′ n t = (n, numbers-each ps (left (p .outcome)) (left (p .outcome′)) (numbers-step p s s′ (t .0) n) (t .1))
-
 numbers-asked : (m m′ : Model) → SameNumbers m m′ → (a : Asked) → SameAsked m m′ a
 numbers-asked m m′ n nothing = tt
 numbers-asked m m′ n (body i) = rw (n .bodies)
 numbers-asked m m′ n (joint j) = rw (n .joints)
 
+-- so the studies stay related with equal numbers, and every call is refused alike
+numbers-kept : (set : ℕ → Bool) (named : ℕ → WritebackId → Type 0) → Kept (λ m m′ r r′. Related set named m m′ r r′ × SameNumbers m m′) (Asks set named) RefusedAlike
+numbers-kept set named = record {
+  mark = λ m m′ r r′ b. b .0 .mark;
+  any = λ m m′ r r′ q q′ b e. (any-rows set named m m′ r r′ q q′ (b .0) e, b .1);
+  step = λ p s s′ ret b a.
+      let x = one-step set named p s s′ ret (b .0) a in
+      (x .0 .0 (numbers-asked (s .model) (s′ .model) (b .1) (table (p .call) .asked)), (x .1, numbers-step p s s′ ret (b .1)));
+}
+
 pub two-studies : TwoStudies
 two-studies set ps s s′ n h =
+    let named = Names ps s s′ in
     let a = any-numbers set ps s s′ h in
     record {
-      refusals = each-map (λ p s s′. SameNumbers (s .model) (s′ .model) × RefusedWhereAsked p s s′) RefusedAlike
-          (λ p s s′ k. k .1 (numbers-asked (s .model) (s′ .model) (k .0) (table (p .call) .asked))) ps s s′
-          (each-both (λ p s s′. SameNumbers (s .model) (s′ .model)) RefusedWhereAsked ps s s′ (numbers-each ps s s′ n (h .traces)) (a .0));
+      refusals = kept-through (λ m m′ r r′. Related set named m m′ r r′ × SameNumbers m m′) (Asks set named) RefusedAlike (numbers-kept set named) ps s s′
+          (related-start set ps s s′ h, n) (h .traces) (asks-each set ps s s′ h) .0;
       answers = a .1;
       shared = a .2;
     }

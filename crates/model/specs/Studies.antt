@@ -135,7 +135,7 @@ pub record Shared (set : ℕ → Bool) (named : ℕ → WritebackId → Type 0) 
 
 -- Two studies go through a list of calls: each starts as its granted load left it, and they agree on the set; at each position row storage is large enough, and
 -- each study's call did what its contract promises. So the claim is made of the definition and of a program alike.
-pub record SideBySide (set : ℕ → Bool) (ps : List (Position planar)) (s s′ : Study planar) : Type 0 where
+pub record Compared (set : ℕ → Bool) (ps : List (Position planar)) (s s′ : Study planar) : Type 0 where
   pub loaded : Loaded s
   pub loaded′ : Loaded s′
   pub agree : Agree set (Names ps s s′) (s .model) (s′ .model)
@@ -155,7 +155,7 @@ pub record Noninterference (set : ℕ → Bool) (ps : List (Position planar)) (s
 
 abbrev pub TwoStudies : Type 0
 TwoStudies =
-    (set : ℕ → Bool) (ps : List (Position planar)) (s s′ : Study planar) → SameNumbers (s .model) (s′ .model) → SideBySide set ps s s′ → Noninterference set ps s s′
+    (set : ℕ → Bool) (ps : List (Position planar)) (s s′ : Study planar) → SameNumbers (s .model) (s′ .model) → Compared set ps s s′ → Noninterference set ps s s′
 
 -- Of any numbers of bodies and joints: a call that asks by index for nothing that one study has and the other has not is refused alike. A call for a body or a joint
 -- of the set is such a call.
