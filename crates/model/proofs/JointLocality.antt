@@ -117,11 +117,11 @@ abbrev pub Foreign : Layout → (ℕ → Type 0) → ℕ → Type 0
 Foreign l set j = (b : ℕ) → set b → Spares l j b
 
 -- which joints are the set's; the others are outside it in each study that has them
-pub record Split (l l′ : Layout) (set still mine : ℕ → Type 0) : Type 0 where
-  pub either : (j : ℕ) → Dec (mine j)
-  pub joint : (j : ℕ) → mine j → Joint l l′ set still j
-  pub foreign : (j : ℕ) → (mine j → ⊥) → j < l .joints → Foreign l set j
-  pub foreign′ : (j : ℕ) → (mine j → ⊥) → j < l′ .joints → Foreign l′ set j
+pub record Split (l l′ : Layout) (set still ofSet : ℕ → Type 0) : Type 0 where
+  pub either : (j : ℕ) → Dec (ofSet j)
+  pub joint : (j : ℕ) → ofSet j → Joint l l′ set still j
+  pub foreign : (j : ℕ) → (ofSet j → ⊥) → j < l .joints → Foreign l set j
+  pub foreign′ : (j : ℕ) → (ofSet j → ⊥) → j < l′ .joints → Foreign l′ set j
 
 -- ---- work on joints
 
@@ -157,22 +157,22 @@ module _ {S Row Vel : Type 0} {l l′ : Layout} (a : Side S Row Vel l) (a′ : S
 
   -- The two studies are alike before joint n's turn: the set's velocities are the same, and so are the rows of the set's joints whose turn is over, and of the
   -- others where rows are read.
-  pub record Alike (set mine : ℕ → Type 0) (read : Type 0) (n : ℕ) (s s′ : S) : Type 0 where
+  pub record Alike (set ofSet : ℕ → Type 0) (read : Type 0) (n : ℕ) (s s′ : S) : Type 0 where
     pub ok : a .ok s
     pub ok′ : a′ .ok s′
-    pub rows : (j : ℕ) → mine j → (n ≤ j → read) → RowsAlike j s s′
+    pub rows : (j : ℕ) → ofSet j → (n ≤ j → read) → RowsAlike j s s′
     pub vels : (b : ℕ) → set b → VelAlike b s s′
 
-module _ {S Row Vel : Type 0} {l l′ : Layout} (a : Side S Row Vel l) (a′ : Side S Row Vel l′) (set still mine : ℕ → Type 0) (read : Type 0)
-    (p : Split l l′ set still mine) (rest : (b : ℕ) → still b → (s s′ : S) → VelAlike a a′ b s s′) (work : (j : ℕ) → mine j → Together a a′ read j) where
+module _ {S Row Vel : Type 0} {l l′ : Layout} (a : Side S Row Vel l) (a′ : Side S Row Vel l′) (set still ofSet : ℕ → Type 0) (read : Type 0)
+    (p : Split l l′ set still ofSet) (rest : (b : ℕ) → still b → (s s′ : S) → VelAlike a a′ b s s′) (work : (j : ℕ) → ofSet j → Together a a′ read j) where
   abbrev AlikeAt : ℕ → S → S → Type 0
-  AlikeAt = Alike a a′ set mine read
+  AlikeAt = Alike a a′ set ofSet read
 
   inside-vel : (n b : ℕ) (s s′ : S) → AlikeAt n s s′ → set b ⊎ still b → VelAlike a a′ b s s′
   inside-vel n b s s′ k i = ⊎-elim (k .vels b) (λ t. rest b t s s′) i
 
   -- a joint of the set's
-  inside : (j : ℕ) (s s′ : S) → mine j → AlikeAt j s s′ → AlikeAt (j + 1) (a .work j s) (a′ .work j s′)
+  inside : (j : ℕ) (s s′ : S) → ofSet j → AlikeAt j s s′ → AlikeAt (j + 1) (a .work j s) (a′ .work j s′)
   inside j s s′ m k = record {
     ok = a .kept j s (t .there) (k .ok);
     ok′ = a′ .kept j s′ (t .there′) (k .ok′);
@@ -195,9 +195,9 @@ module _ {S Row Vel : Type 0} {l l′ : Layout} (a : Side S Row Vel l) (a′ : S
       z : JointAlike a a′ j (a .work j s) (a′ .work j s′)
       z = work j m s s′ (k .ok) (k .ok′) (λ r. k .rows j m (λ h. r)) (inside-vel j (l .body1 j) s s′ k (t .inside1)) (inside-vel j (l .body2 j) s s′ k (t .inside2))
 
-  module _ (j : ℕ) (not-mine : mine j → ⊥) where
-    not-here : (q : ℕ) → mine q → q ≢ j
-    not-here q m e = not-mine (rw e at m)
+  module _ (j : ℕ) (not-ofSet : ofSet j → ⊥) where
+    not-here : (q : ℕ) → ofSet q → q ≢ j
+    not-here q m e = not-ofSet (rw e at m)
 
     -- any other joint, in the one study and in the other
     outside : (n : ℕ) (s s′ : S) → j < l .joints → AlikeAt n s s′ → AlikeAt n (a .work j s) s′
@@ -205,7 +205,7 @@ module _ {S Row Vel : Type 0} {l l′ : Layout} (a : Side S Row Vel l) (a′ : S
       ok = a .kept j s h (k .ok);
       ok′ = k .ok′;
       rows = λ q m r i g. a .row-kept j q i s g (not-here q m) ∙ k .rows q m r i g;
-      vels = λ b sb. a .vel-kept j b s (p .foreign j not-mine h b sb) ∙ k .vels b sb;
+      vels = λ b sb. a .vel-kept j b s (p .foreign j not-ofSet h b sb) ∙ k .vels b sb;
     }
 
     outside′ : (n : ℕ) (s s′ : S) → j < l′ .joints → AlikeAt n s s′ → AlikeAt n s (a′ .work j s′)
@@ -213,7 +213,7 @@ module _ {S Row Vel : Type 0} {l l′ : Layout} (a : Side S Row Vel l) (a′ : S
       ok = k .ok;
       ok′ = a′ .kept j s′ h (k .ok′);
       rows = λ q m r i g. k .rows q m r i g ∙ sym (a′ .row-kept j q i s′ (rw (p .joint q m .count-same) at g) (not-here q m));
-      vels = λ b sb. k .vels b sb ∙ sym (a′ .vel-kept j b s′ (p .foreign′ j not-mine h b sb));
+      vels = λ b sb. k .vels b sb ∙ sym (a′ .vel-kept j b s′ (p .foreign′ j not-ofSet h b sb));
     }
 
     passed : (s s′ : S) → AlikeAt j s s′ → AlikeAt (j + 1) s s′
@@ -231,15 +231,15 @@ module _ {S Row Vel : Type 0} {l l′ : Layout} (a : Side S Row Vel l) (a′ : S
       | no f ↦ passed j f (a .work j s) (a′ .work j s′) (outside j f j s (a′ .work j s′) h (outside′ j f j s s′ h′ k))
     ];
     left = λ j s s′ h g k.
-        let f : mine j → ⊥ = λ m. omega (arith, p .joint j m .there′) in
+        let f : ofSet j → ⊥ = λ m. omega (arith, p .joint j m .there′) in
         passed j f (a .work j s) s′ (outside j f j s s′ h k);
     right = λ j s s′ g h′ k.
-        let f : mine j → ⊥ = λ m. omega (arith, p .joint j m .there) in
+        let f : ofSet j → ⊥ = λ m. omega (arith, p .joint j m .there) in
         passed j f s (a′ .work j s′) (outside′ j f j s s′ h′ k);
   }
 
   -- The work on all joints: the set's velocities stay the same, and so do its joints' rows, or they become the same where they were not read.
-  pub joints-alike : (s s′ : S) → AlikeAt 0 s s′ → Alike a a′ set mine Unit 0 (eachJoint (a .work) 0 (l .joints) s) (eachJoint (a′ .work) 0 (l′ .joints) s′)
+  pub joints-alike : (s s′ : S) → AlikeAt 0 s s′ → Alike a a′ set ofSet Unit 0 (eachJoint (a .work) 0 (l .joints) s) (eachJoint (a′ .work) 0 (l′ .joints) s′)
   joints-alike s s′ k =
       let e = each-apart AlikeAt (a .work) (a′ .work) (l .joints) (l′ .joints) s s′ turns k in
       record {
@@ -348,8 +348,8 @@ module _ {S Row Vel : Type 0} {act : Row → Vel → Vel → Acted Row Vel} {set
         (record { ok = o; ok′ = o′; alike = record { rows = r tt; first = v1; second = v2 } }) .alike)
 
   -- the work on all rows of all joints keeps two studies alike
-  pub rows-alike : {l l′ : Layout} (w : RowWork S Row Vel act l set) (w′ : RowWork S Row Vel act l′ set) (still mine : ℕ → Type 0)
-      → ((b : ℕ) → still b → (s s′ : S) → w .vel s b ≡ w′ .vel s′ b) → Split l l′ set still mine
-      → (s s′ : S) → Alike (sideOf w) (sideOf w′) set mine Unit 0 s s′
-      → Alike (sideOf w) (sideOf w′) set mine Unit 0 (eachJoint (jointWork w) 0 (l .joints) s) (eachJoint (jointWork w′) 0 (l′ .joints) s′)
-  rows-alike w w′ still mine rest p = joints-alike (sideOf w) (sideOf w′) set still mine Unit p rest (λ j t. rows-together w w′ still rest j (p .joint j t))
+  pub rows-alike : {l l′ : Layout} (w : RowWork S Row Vel act l set) (w′ : RowWork S Row Vel act l′ set) (still ofSet : ℕ → Type 0)
+      → ((b : ℕ) → still b → (s s′ : S) → w .vel s b ≡ w′ .vel s′ b) → Split l l′ set still ofSet
+      → (s s′ : S) → Alike (sideOf w) (sideOf w′) set ofSet Unit 0 s s′
+      → Alike (sideOf w) (sideOf w′) set ofSet Unit 0 (eachJoint (jointWork w) 0 (l .joints) s) (eachJoint (jointWork w′) 0 (l′ .joints) s′)
+  rows-alike w w′ still ofSet rest p = joints-alike (sideOf w) (sideOf w′) set still ofSet Unit p rest (λ j t. rows-together w w′ still rest j (p .joint j t))

@@ -1,6 +1,6 @@
 -- The premises of demand 3 can be met. Any granted load gives a loaded study (`loaded-of`). What the calls return is a trace (`recorded-returns`). A call that is
 -- handed no row storage asks for no room (`no-storage-enough`), storage of the larger of the two totals is enough (`larger-enough`), and where no rows are made
--- nothing is named (`nothing-named`). All bodies of a loaded study are a
+-- nothing is named (`nothing-named`). Of what calls answer, all but a build's total is compared (`whole-answer`). All bodies of a loaded study are a
 -- closed set, and the study agrees with itself on it whatever is named (`whole-agrees`); so for any loaded study and any list of calls, whose row storage has room,
 -- all premises hold of the study and itself (`with-itself`), those of the empty list too.
 use Prim.Native.Nat.{ℕ}
@@ -16,11 +16,11 @@ use Rattle.rows.specs.declared.joint_constraint_builder.ImpulseJoint.{ImpulseJo
 use Rattle.rows.specs.declared.joint_velocity_constraint.WritebackId.{WritebackId}
 use Rattle.model.specs.Store.{world, Present, body1At, body2At}
 use Rattle.model.specs.Model.{Model, bodyCount, Sound, Room}
-use Rattle.model.specs.Calls.{Call, Outcome, outcome, table, grantedOf, run, refusalOf}
+use Rattle.model.specs.Calls.{Call, Answer, Outcome, outcome, table, grantedOf, run, refusalOf}
 use Rattle.model.specs.Calls.Call.{load}
-use Rattle.model.specs.Calls.Answer.{granted}
+use Rattle.model.specs.Calls.Answer.{granted, total, rowsRead, velocityRead, refused}
 use Rattle.model.specs.Traces.{Study, Position, left, handed, AtEach, Returned}
-use Rattle.model.specs.Studies.{planar, Loaded, Enough, Ties, Agree, MakesRows, NamesAt, Names, Compared}
+use Rattle.model.specs.Studies.{planar, Loaded, Enough, Ties, Agree, MakesRows, NamesAt, Names, withoutTotal, Compared}
 use Rattle.model.proofs.CountLaws.{there-body}
 use Rattle.model.proofs.RefusalLaws.{sound-held}
 use Rattle.model.proofs.CallLaws.{run-granted}
@@ -86,6 +86,16 @@ pub nothing-named : (ps : List (Position planar)) (s s′ : Study planar) → At
 nothing-named ps s s′ n j id h =
     some-none (NamesAt j id) ps s s′
     (each-map MakesNone (λ p s s′. NamesAt j id p s s′ → ⊥) (λ p s s′ k. ⊎-elim (λ x. k .one (x .0)) (λ x. k .other (x .0))) ps s s′ n) h
+
+-- ---- answers
+
+-- an answer that is no build's total is compared whole
+pub whole-answer : (a : Answer) → ((n : ℕ) → a ≢ total n) → withoutTotal a ≡ a
+whole-answer granted h = refl
+whole-answer (total n) h = absurd (h n refl)
+whole-answer (rowsRead ids rows) h = refl
+whole-answer (velocityRead v) h = refl
+whole-answer (refused k) h = refl
 
 -- ---- a study and itself
 

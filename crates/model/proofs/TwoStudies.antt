@@ -158,17 +158,17 @@ module _ (set : ℕ → Bool) {named : ℕ → WritebackId → Type 0} (m m′ :
   }
 
   -- place, of a body of the set
-  module _ (i : ℕ) (pose : Pose) (mine : set i ≡ true) where
+  module _ (i : ℕ) (pose : Pose) (inSet : set i ≡ true) where
     not-world : i ≢ world
-    not-world e = omega (arith, sound-held m (b .held) .few, b .agree .present i mine .0)
+    not-world e = omega (arith, sound-held m (b .held) .few, b .agree .present i inSet .0)
 
     placed-poses : (i′ : ℕ) → set i′ ≡ true → solverPoseAt (putPose (m .bodies) i pose) i′ ≡ solverPoseAt (putPose (m′ .bodies) i pose) i′
     placed-poses i′ s = by-cases (eqb i′ i)
         (λ t.
         rw (eqb-true i′ i t)
-        (solverPoseAt-putPose (m .bodies) i pose not-world (body-there (m .bodies) i (b .agree .present i mine .0))
-        ∙ ap (λ (q : SolverPose). withPose q pose) (b .agree .poses i mine)
-        ∙ sym (solverPoseAt-putPose (m′ .bodies) i pose not-world (body-there (m′ .bodies) i (b .agree .present i mine .1)))))
+        (solverPoseAt-putPose (m .bodies) i pose not-world (body-there (m .bodies) i (b .agree .present i inSet .0))
+        ∙ ap (λ (q : SolverPose). withPose q pose) (b .agree .poses i inSet)
+        ∙ sym (solverPoseAt-putPose (m′ .bodies) i pose not-world (body-there (m′ .bodies) i (b .agree .present i inSet .1)))))
         (λ t.
         let n = eqb-false i′ i t in
         solverPoseAt-putPose-other (m .bodies) i i′ pose n ∙ b .agree .poses i′ s ∙ sym (solverPoseAt-putPose-other (m′ .bodies) i i′ pose n))
