@@ -19,8 +19,8 @@ use model::store::joint_at;
 use model::store::put_row;
 use model::store::put_seed;
 use model::store::row_at;
+use rows::generic_joint::JointMotor;
 use rows::generic_joint::Masks;
-use rows::generic_joint::max_impulse;
 use rows::integration_parameters::IntegrationParameters;
 use rows::integration_parameters::SpringCoefficients;
 use rows::joint_constraint_builder::ImpulseJoint;
@@ -267,7 +267,7 @@ pub extern "C" fn katydidzinc_max_corrective_velocity(length_unit: f32, normaliz
 pub extern "C" fn katydidzinc_max_impulse(max_force: f32, dt: f32) -> f32
     ensures { λ r. ⌜ r ≡ maxImpulseOf «max_force» dt ⌝ }
 {
-    max_impulse(max_force, dt)
+    JointMotor::max_impulse(max_force, dt)
 }
 
 #[no_mangle]

@@ -18,7 +18,7 @@ use Rattle.rows.proofs.MakerShapes.{limit-linear-is}
 use Rattle.rows.specs.Finalize.{isLock}
 use Rattle.rows.specs.declared.integration_parameters.IntegrationParameters.{IntegrationParameters}
 use Rattle.rows.specs.declared.generic_joint.JointMotor.{JointMotor}
-use Rattle.rows.specs.declared.generic_joint.MotorParameters.{MotorParameters}
+use Rattle.rows.specs.declared.joint_velocity_constraint.MotorParameters.{MotorParameters}
 use Rattle.rows.specs.declared.joint_constraint_helper.AngularLimitParams.{AngularLimitParams}
 use Rattle.rows.specs.declared.joint_constraint_helper.JointConstraintHelper.{JointConstraintHelper}
 use Rattle.rows.specs.declared.joint_constraint_helper.RowAxis.{RowAxis}

@@ -16,7 +16,7 @@ use Rattle.rows.specs.IntegrationParameters.{invDtOf, maxCorrectiveVeloc
 use Rattle.rows.specs.Helper.{coordOf, linearAxisOf, coupledStepOf, coupledAxisOf}
 use Rattle.rows.specs.Makers.{assembleOf, lockLinearOf, limitBoundsOf, limitBiasOf, limitLinearOf, limitLinearCoupledOf, limitedTargetVelOf, motorRhsOf, motorBoundsOf, motorRowOf, motorLinearOf, motorLinearCoupledOf}
 use Rattle.rows.specs.declared.integration_parameters.IntegrationParameters.{IntegrationParameters}
-use Rattle.rows.specs.declared.generic_joint.MotorParameters.{MotorParameters}
+use Rattle.rows.specs.declared.joint_velocity_constraint.MotorParameters.{MotorParameters}
 use Rattle.rows.specs.declared.joint_constraint_helper.JointConstraintHelper.{JointConstraintHelper}
 use Rattle.rows.specs.declared.joint_constraint_helper.RowAxis.{RowAxis}
 use Rattle.rows.specs.declared.joint_constraint_helper.LimitEnds.{LimitEnds}

@@ -13,7 +13,7 @@ use Rattle.rows.specs.IntegrationParameters.{invDtOf, maxCorrectiveVeloc
 use Rattle.rows.specs.Row.{withBounds, withRhs, withRhsWoBias, withCfmGain, withCfmCoeff}
 use Rattle.rows.specs.Helper.{linearAxisOf, angularAxis, coupledAxisOf}
 use Rattle.rows.specs.declared.integration_parameters.IntegrationParameters.{IntegrationParameters}
-use Rattle.rows.specs.declared.generic_joint.MotorParameters.{MotorParameters}
+use Rattle.rows.specs.declared.joint_velocity_constraint.MotorParameters.{MotorParameters}
 use Rattle.rows.specs.declared.joint_constraint_helper.AngularLimitParams.{AngularLimitParams}
 use Rattle.rows.specs.declared.joint_constraint_helper.JointConstraintHelper.{JointConstraintHelper}
 use Rattle.rows.specs.declared.joint_constraint_helper.RowAxis.{RowAxis}

@@ -20,6 +20,16 @@ use floats::pose::Pose;
 use floats::scalar::clamp;
 use floats::vector::Vector;
 
+// What a motor's row reads of its motor at a timestep.
+pub struct MotorParameters {
+    pub erp_inv_dt: f32,
+    pub cfm_coeff: f32,
+    pub cfm_gain: f32,
+    pub target_pos: f32,
+    pub target_vel: f32,
+    pub max_impulse: f32,
+}
+
 // Which stored impulse of its joint a row is for: an axis's lock, limit or motor.
 pub enum WritebackId {
     Dof(usize),
