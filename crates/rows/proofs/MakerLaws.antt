@@ -13,7 +13,7 @@ use Rattle.floats.specs.Operators.{bits}
 use Rattle.floats.specs.Constants.{one, maxFloat}
 use Rattle.rows.specs.GenericJoint.{maxImpulseOf, motorParamsOf}
 use Rattle.rows.specs.Helper.{linearAxisOf}
-use Rattle.rows.specs.Makers.{assembleOf, limitBoundsOf, limitBiasOf, limitLinearOf, limitLinearCoupledOf, recenteredAngleOf, limitAngularOf, motorBoundsOf, motorRowOf}
+use Rattle.rows.specs.Makers.{RowTerms, assembleOf, limitBoundsOf, limitBiasOf, limitLinearOf, limitLinearCoupledOf, recenteredAngleOf, limitAngularOf, motorBoundsOf, motorRowOf}
 use Rattle.rows.proofs.MakerShapes.{limit-linear-is}
 use Rattle.rows.specs.Finalize.{isLock}
 use Rattle.rows.specs.declared.integration_parameters.IntegrationParameters.{IntegrationParameters}
@@ -85,10 +85,9 @@ module _ (dist low high : Float) where
 abbrev pub boundsOf : JointConstraint → ImpulseBounds
 boundsOf c = record { min = c .«impulse_min»; max = c .«impulse_max» }
 
-assembled-bounds : (body1 body2 : JointSolverBody) (axis : RowAxis) (bounds : ImpulseBounds) (rhs rhsWoBias cfmCoeff cfmGain : Float)
-    → boundsOf (assembleOf body1 body2 axis bounds rhs rhsWoBias cfmCoeff cfmGain) ≡ bounds
+assembled-bounds : (body1 body2 : JointSolverBody) (axis : RowAxis) (bounds : ImpulseBounds) (terms : RowTerms) → boundsOf (assembleOf body1 body2 axis bounds terms) ≡ bounds
 unfolding assembleOf
-assembled-bounds body1 body2 axis bounds rhs rhsWoBias cfmCoeff cfmGain = refl
+assembled-bounds body1 body2 axis bounds terms = refl
 
 module _ (h : JointConstraintHelper) (p : IntegrationParameters) (body1 body2 : JointSolverBody) (erpInvDt cfmCoeff : Float) where
   module _ (i : ℕ) (limits : LimitEnds) where
@@ -99,7 +98,7 @@ module _ (h : JointConstraintHelper) (p : IntegrationParameters) (body1 body2 : 
     linear = limitLinearOf h p body1 body2 i limits erpInvDt cfmCoeff
 
     linear-bounds : boundsOf linear ≡ limitBoundsOf dist (limits .min) (limits .max)
-    linear-bounds = rw limit-linear-is (assembled-bounds body1 body2 (linearAxisOf h i) _ _ _ _ _)
+    linear-bounds = rw limit-linear-is (assembled-bounds body1 body2 (linearAxisOf h i) _ _)
 
     pub limit-linear-inside : lt (limits .min) dist ≡ true → lt dist (limits .max) ≡ true → boundsOf linear ≡ record { min = bits 0; max = bits 0 }
     limit-linear-inside l u = linear-bounds ∙ inside _ _ _ l u

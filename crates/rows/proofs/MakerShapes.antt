@@ -30,7 +30,7 @@ module _ (h : JointConstraintHelper) (p : IntegrationParameters) (body1 body2 : 
   pub limit-linear-is : (limits : LimitEnds) (erpInvDt cfmCoeff : Float)
       → limitLinearOf h p body1 body2 i limits erpInvDt cfmCoeff
       ≡ assembleOf body1 body2 (linearAxisOf h i) (limitBoundsOf (linearAxisOf h i .dist) (limits .min) (limits .max))
-      (bits 0 ⊕ limitBiasOf p (linearAxisOf h i .dist) (limits .min) (limits .max) erpInvDt) (bits 0) cfmCoeff (bits 0)
+      (record { rhs = bits 0 ⊕ limitBiasOf p (linearAxisOf h i .dist) (limits .min) (limits .max) erpInvDt; rhsWoBias = bits 0; cfmCoeff = cfmCoeff; cfmGain = bits 0 })
   unfolding limitLinearOf lockLinearOf assembleOf linearAxisOf
   limit-linear-is limits erpInvDt cfmCoeff = refl
 

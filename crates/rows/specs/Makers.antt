@@ -24,9 +24,16 @@ use Rattle.rows.specs.declared.joint_constraint_helper.MotorLimits.the-v
 use Rattle.rows.specs.declared.joint_velocity_constraint.JointSolverBody.{JointSolverBody}
 use Rattle.rows.specs.declared.joint_velocity_constraint.JointConstraint.{JointConstraint}
 
+-- a row's right-hand side, with and without its bias, and its softness
+pub record RowTerms : Type 0 where
+  pub rhs : Float
+  pub rhsWoBias : Float
+  pub cfmCoeff : Float
+  pub cfmGain : Float
+
 -- The literal that ends the Rust's makers: impulse 0, and an inverse left-hand side that comes with its group.
-unfoldable pub assembleOf : JointSolverBody → JointSolverBody → RowAxis → ImpulseBounds → Float → Float → Float → Float → JointConstraint
-assembleOf body1 body2 axis bounds rhs rhsWoBias cfmCoeff cfmGain = record {
+unfoldable pub assembleOf : JointSolverBody → JointSolverBody → RowAxis → ImpulseBounds → RowTerms → JointConstraint
+assembleOf body1 body2 axis bounds terms = record {
   impulse = bits 0;
   «impulse_min» = bounds .min;
   «impulse_max» = bounds .max;
@@ -36,10 +43,10 @@ assembleOf body1 body2 axis bounds rhs rhsWoBias cfmCoeff cfmGain = record {
   «ii_ang_jac1» = transformVectorOf (body1 .ii) (axis .«ang_jac1»);
   «ii_ang_jac2» = transformVectorOf (body2 .ii) (axis .«ang_jac2»);
   «inv_lhs» = bits 0;
-  rhs = rhs;
-  «rhs_wo_bias» = rhsWoBias;
-  «cfm_gain» = cfmGain;
-  «cfm_coeff» = cfmCoeff;
+  rhs = terms .rhs;
+  «rhs_wo_bias» = terms .rhsWoBias;
+  «cfm_gain» = terms .cfmGain;
+  «cfm_coeff» = terms .cfmCoeff;
   im1 = body1 .im;
   im2 = body2 .im;
 }
@@ -55,13 +62,13 @@ unfoldable pub lockLinearOf : JointConstraintHelper → JointSolverBody → Join
 lockLinearOf h body1 body2 i erpInvDt cfmCoeff =
     let axis = linearAxisOf h i in
     let bias = gdotOf (axis .«lin_jac») (h .«lin_err») ⊗ erpInvDt in
-    assembleOf body1 body2 axis lockBounds (bits 0 ⊕ bias) (bits 0) cfmCoeff (bits 0)
+    assembleOf body1 body2 axis lockBounds (record { rhs = bits 0 ⊕ bias; rhsWoBias = bits 0; cfmCoeff = cfmCoeff; cfmGain = bits 0 })
 
 -- `lock_angular`
 unfoldable pub lockAngularOf : JointConstraintHelper → JointSolverBody → JointSolverBody → Float → Float → JointConstraint
 lockAngularOf h body1 body2 erpInvDt cfmCoeff =
     let bias = h .«ang_err» .im ⊗ erpInvDt in
-    assembleOf body1 body2 angularAxis lockBounds (bits 0 ⊕ bias) (bits 0) cfmCoeff (bits 0)
+    assembleOf body1 body2 angularAxis lockBounds (record { rhs = bits 0 ⊕ bias; rhsWoBias = bits 0; cfmCoeff = cfmCoeff; cfmGain = bits 0 })
 
 -- ---- limits
 
@@ -94,7 +101,8 @@ limitLinearCoupledOf h p body1 body2 coupled limits erpInvDt cfmCoeff =
     let passed = axis .dist ⊖ limits .max in
     let rhsWoBias = minOf passed (bits 0) ⊗ invDtOf p in
     let bias = cappedOf p (maxOf passed (bits 0) ⊗ erpInvDt) in
-    assembleOf body1 body2 axis (record { min = bits 0; max = inf false }) (rhsWoBias ⊕ bias) rhsWoBias cfmCoeff (bits 0)
+    let bounds : ImpulseBounds = record { min = bits 0; max = inf false } in
+    assembleOf body1 body2 axis bounds (record { rhs = rhsWoBias ⊕ bias; rhsWoBias = rhsWoBias; cfmCoeff = cfmCoeff; cfmGain = bits 0 })
 
 -- `recentered_angle`: the joint's angle from its limit's centre
 unfoldable pub recenteredAngleOf : JointConstraintHelper → AngularLimitParams → Float
@@ -109,7 +117,7 @@ limitAngularOf h p body1 body2 limit erpInvDt cfmCoeff =
     let ang = recenteredAngleOf h limit in
     let high = limit .«half_range» in
     let bias = limitBiasOf p ang (neg high) high erpInvDt in
-    assembleOf body1 body2 angularAxis (limitBoundsOf ang (neg high) high) (bits 0 ⊕ bias) (bits 0) cfmCoeff (bits 0)
+    assembleOf body1 body2 angularAxis (limitBoundsOf ang (neg high) high) (record { rhs = bits 0 ⊕ bias; rhsWoBias = bits 0; cfmCoeff = cfmCoeff; cfmGain = bits 0 })
 
 -- ---- motors
 
@@ -129,7 +137,8 @@ motorBoundsOf m = record { min = neg (m .«max_impulse»); max = m .«max_impuls
 
 -- a motor's row: its right-hand side has no bias
 unfoldable pub motorRowOf : JointSolverBody → JointSolverBody → RowAxis → MotorParameters → Float → JointConstraint
-motorRowOf body1 body2 axis m rhs = assembleOf body1 body2 axis (motorBoundsOf m) rhs rhs (m .«cfm_coeff») (m .«cfm_gain»)
+motorRowOf body1 body2 axis m rhs =
+    assembleOf body1 body2 axis (motorBoundsOf m) (record { rhs = rhs; rhsWoBias = rhs; cfmCoeff = m .«cfm_coeff»; cfmGain = m .«cfm_gain» })
 
 -- `motor_linear`: the lock's row with no softness, with five fields overwritten
 unfoldable pub motorLinearOf : JointConstraintHelper → IntegrationParameters → JointSolverBody → JointSolverBody → ℕ → MotorParameters → MotorLimits → JointConstraint

@@ -199,7 +199,8 @@ pub fn assemble(
     cfm_coeff: f32,
     cfm_gain: f32,
 ) -> JointConstraint
-    ensures { λ r. ⌜ r ≡ assembleOf body1 body2 axis bounds rhs «rhs_wo_bias» «cfm_coeff» «cfm_gain» ⌝ }
+    ensures { λ r. ⌜ r ≡ assembleOf body1 body2 axis bounds
+        (record { rhs = rhs; rhsWoBias = «rhs_wo_bias»; cfmCoeff = «cfm_coeff»; cfmGain = «cfm_gain» }) ⌝ }
 {
     let lin_jac = axis.lin_jac;
     let im1 = body1.im;
