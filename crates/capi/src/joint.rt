@@ -22,8 +22,8 @@ use model::single_records::read_joint;
 use model::single_records::read_row;
 use model::single_records::write_impulse;
 use model::single_records::write_row;
+use rows::generic_joint::JointMotor;
 use rows::generic_joint::Masks;
-use rows::generic_joint::max_impulse;
 use rows::integration_parameters::IntegrationParameters;
 use rows::integration_parameters::SpringCoefficients;
 use rows::joint_constraint_builder::ImpulseJoint;
@@ -285,7 +285,7 @@ pub extern "C" fn katydidzinc_max_corrective_velocity(length_unit: f32, normaliz
 pub extern "C" fn katydidzinc_max_impulse(max_force: f32, dt: f32) -> f32
     ensures { λ r. ⌜ r ≡ maxImpulseOf «max_force» dt ⌝ }
 {
-    max_impulse(max_force, dt)
+    JointMotor::max_impulse(max_force, dt)
 }
 
 #[no_mangle]

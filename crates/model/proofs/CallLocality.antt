@@ -42,8 +42,8 @@ last-impulses : (params : IntegrationParameters) (body1 body2 : SolverPose) (joi
     → length ps ≡ 6 → length qs ≡ 6 → (readsRows warm substep ≡ true → ps ≡ qs)
     → builderUpdateOf params substep warm body1 body2 joint ps ≡ builderUpdateOf params substep warm body1 body2 joint qs
 unfolding readsRows
-last-impulses params body1 body2 joint Cold substep ps qs six six′ h = cold params body1 body2 substep joint ps six ∙ sym (cold params body1 body2 substep joint qs six′)
-last-impulses params body1 body2 joint (Warm c) zero ps qs six six′ h = first-reads-no-row params body1 body2 (Warm c) joint ps qs (six ∙ sym six′)
+last-impulses params body1 body2 joint Cold substep ps qs six six′ h = cold params body1 body2 substep joint ps ∙ sym (cold params body1 body2 substep joint qs)
+last-impulses params body1 body2 joint (Warm c) zero ps qs six six′ h = first-reads-no-row params body1 body2 (Warm c) joint ps qs
 last-impulses params body1 body2 joint (Warm c) (suc substep) ps qs six six′ h = rw (h (lt-ltb 0 (suc substep) (omega arith)))
 
 -- joint j's rows are the same in both, one by one

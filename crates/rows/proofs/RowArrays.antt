@@ -97,5 +97,5 @@ module _ (params : IntegrationParameters) (substep : ℕ) (warm : Warmstart) (bo
 
   pub reads-no-row : (warm ≡ Cold) ⊎ (substep ≡ 0) → (ps qs : List Float) → length ps ≡ 6 → length qs ≡ 6
       → builderUpdateOf params substep warm body1 body2 joint ps ≡ builderUpdateOf params substep warm body1 body2 joint qs
-  reads-no-row (inl e) ps qs p q = rw e (cold params body1 body2 substep joint ps p ∙ sym (cold params body1 body2 substep joint qs q))
-  reads-no-row (inr e) ps qs p q = rw e (first-reads-no-row params body1 body2 warm joint ps qs (p ∙ sym q))
+  reads-no-row (inl e) ps qs p q = rw e (cold params body1 body2 substep joint ps ∙ sym (cold params body1 body2 substep joint qs))
+  reads-no-row (inr e) ps qs p q = rw e (first-reads-no-row params body1 body2 warm joint ps qs)

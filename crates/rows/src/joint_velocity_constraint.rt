@@ -5,11 +5,13 @@ ghost use Prim.Native.Nat.{_+_, _≤_};
 ghost use mathlib.Core.List.{_++_};
 ghost use lib.ListN.{take, drop};
 ghost use Rattle.rows.specs.Update.{contextOf, motorLimitsOf, rowOf, updateOf, blankRow, rowsArray, groupRows};
-ghost use Rattle.rows.specs.Step.{wantedImpulseOf, appliedOf, stepOf, warmstartOf, removeBiasOf, withImpulse};
+ghost use Rattle.rows.specs.Step.{wantedImpulseOf, appliedOf, stepOf, warmstartOf, removeBiasOf};
+ghost use Rattle.rows.specs.Row.{withImpulse};
 use crate::generic_joint::GenericJoint;
 use crate::integration_parameters::IntegrationParameters;
 use crate::joint_constraint_helper::AngularLimitParams;
 use crate::joint_constraint_helper::JointConstraintHelper;
+use crate::joint_constraint_helper::LimitEnds;
 use crate::joint_constraint_helper::MotorLimits;
 use crate::joint_constraint_helper::finalize_group;
 use crate::row_ids::RowIds;
@@ -17,6 +19,16 @@ use crate::row_ids::row_ids;
 use floats::pose::Pose;
 use floats::scalar::clamp;
 use floats::vector::Vector;
+
+// What a motor's row reads of its motor at a timestep.
+pub struct MotorParameters {
+    pub erp_inv_dt: f32,
+    pub cfm_coeff: f32,
+    pub cfm_gain: f32,
+    pub target_pos: f32,
+    pub target_vel: f32,
+    pub max_impulse: f32,
+}
 
 // Which stored impulse of its joint a row is for: an axis's lock, limit or motor.
 pub enum WritebackId {
@@ -286,6 +298,10 @@ impl RowContext {
         let joint = self.joint;
         let masks = joint.masks;
         let limits = joint.limits_at(axis);
+        let ends = LimitEnds {
+            min: limits.min,
+            max: limits.max,
+        };
         if masks.is_coupled(axis) {
             let coupled = masks.coupled_axes;
             return helper.limit_linear_coupled(
@@ -293,12 +309,12 @@ impl RowContext {
                 body1,
                 body2,
                 coupled,
-                limits,
+                ends,
                 erp_inv_dt,
                 cfm_coeff,
             );
         }
-        helper.limit_linear(params, body1, body2, axis, limits, erp_inv_dt, cfm_coeff)
+        helper.limit_linear(params, body1, body2, axis, ends, erp_inv_dt, cfm_coeff)
     }
 
     pub fn motor_row(self, axis: usize) -> JointConstraint
