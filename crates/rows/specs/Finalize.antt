@@ -1,5 +1,5 @@
 -- Orthogonalising a group of rows: the Rust's `finalize_constraints`, the loops first over any kind of row.
-use Prim.Native.Nat.{ℕ, zero, suc}
+use Prim.Native.Nat.{ℕ, zero, suc, _-_}
 use mathlib.Core.Bool.{Bool, cond, _&&_}
 use mathlib.Core.List.{List, [], _∷_, _++_, map}
 use lib.ListN.{length, take, drop}
@@ -76,3 +76,7 @@ finalizeOf (c ∷ cs) = orthogonalise (headOf (imSumOf c)) isLock (pairOf (imSum
 -- the first n of a list of rows orthogonalised as one group; the rows after them stay
 unfoldable pub finalizeFirst : ℕ → List JointConstraint → List JointConstraint
 finalizeFirst n cs = finalizeOf (take n cs) ++ drop n cs
+
+-- the first len of a list of rows orthogonalised as two groups, of which the first has n rows; the rows after them stay
+unfoldable pub finalizeGroups : ℕ → ℕ → List JointConstraint → List JointConstraint
+finalizeGroups n len cs = finalizeOf (take n cs) ++ (finalizeOf (take (len - n) (drop n cs)) ++ drop len cs)

@@ -98,6 +98,6 @@ blankRow = record {
 unfoldable pub rowsArray : List JointConstraint → Rows
 rowsArray l = record { rows = filled 6 blankRow l; len = length l }
 
--- a group's rows before it is orthogonalised, from an array of ids: `count` of them from id `from` on
-unfoldable pub groupRows : RowContext → List RowId → ℕ → ℕ → List JointConstraint
-groupRows cx ids from count = filled 6 blankRow (map (λ i. rowOf cx (i .id)) (take count (drop from ids)))
+-- the rows of the first `count` ids of an array, before their groups are orthogonalised
+unfoldable pub madeRows : RowContext → List RowId → ℕ → List JointConstraint
+madeRows cx ids count = filled 6 blankRow (map (λ i. rowOf cx (i .id)) (take count ids))

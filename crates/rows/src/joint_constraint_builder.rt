@@ -133,7 +133,7 @@ pub fn update(
     let data = joint.data;
     let ids = row_ids(data.masks);
     let context = joint.context(params, body1, body2);
-    let made = context.update();
+    let made = context.update_by(ids);
     let mut rows = made.rows;
     let len = made.len;
     let mut k = 0usize;

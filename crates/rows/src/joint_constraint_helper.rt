@@ -1,8 +1,9 @@
 // The Rust's dynamics/solver/joint_constraint/joint_constraint_helper.rs: one function a row kind.
 ghost use mathlib.Core.Path.{_≡_};
+ghost use Prim.Native.Nat.{_≤_};
 ghost use Rattle.floats.specs.Operators.{_⊗_};
 ghost use Rattle.floats.specs.Utils.{simdInvOf};
-ghost use Rattle.rows.specs.Finalize.{imSumOf, rowDotOf, headOf, isLock, lessOf, finalizeOf, finalizeFirst};
+ghost use Rattle.rows.specs.Finalize.{imSumOf, rowDotOf, headOf, isLock, lessOf, finalizeOf, finalizeFirst, finalizeGroups};
 ghost use Rattle.rows.specs.Helper.{angularLimitParamsOf, snappedOf, newOf, coordOf, linearAxisOf, angularAxis, coupledStepOf, coupledAxisOf};
 ghost use Rattle.rows.specs.Makers.{assembleOf, lockBounds, limitBoundsOf, limitBiasOf, limitedTargetVelOf, motorRhsOf, motorBoundsOf, motorRowOf, limitLinearOf, limitLinearCoupledOf, motorLinearOf, motorLinearCoupledOf, lockLinearOf, recenteredAngleOf, limitAngularOf, motorAngularRhsOf, motorAngularOf, lockAngularOf};
 use crate::generic_joint::has_axis;
@@ -669,4 +670,20 @@ pub fn finalize_group(rows: [JointConstraint; 6], n: usize) -> [JointConstraint;
     }
     finalize_constraints(&mut group[..len]);
     group
+}
+
+// `finalize_constraints` for two groups of an array that is handed over: the rows before row `first`, and those from there
+// to before row `len`.
+pub(crate) fn finalize_groups(
+    rows: [JointConstraint; 6],
+    first: usize,
+    len: usize,
+) -> [JointConstraint; 6]
+    requires { ⌜ (first ≤ len) × (len ≤ 6) ⌝ }
+    ensures { λ r. ⌜ r ≡ finalizeGroups first len rows ⌝ }
+{
+    let mut groups = rows;
+    finalize_constraints(&mut groups[..first]);
+    finalize_constraints(&mut groups[first..len]);
+    groups
 }
