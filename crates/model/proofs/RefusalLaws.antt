@@ -16,7 +16,7 @@ use Rattle.model.specs.Store.{world, Present, body1At, body2At}
 use Rattle.model.specs.Model.{mostBodies, mostJoints, Model, bodyCount, jointCount, rowCapacity, totalRows, Sound, Room}
 use Rattle.model.specs.Refusals.{Rule, rule, refusal, all, atMost, masksFit, presentOrWorld, bodiesPresent, bodiesApart, finiteParams, finiteBody, finiteJoint, modelRules, storageRule, sweepRule, builtRule, seedsRule, bodyRule, jointRule}
 use Rattle.model.specs.Calls.{Call, Asked, Own, ownRule, table, handedRules, askedRules, firstRules, ownRules, rulesOf}
-use Rattle.model.specs.Calls.Own.{fewRounds, afterBuild, afterRead}
+use Rattle.model.specs.Calls.Own.{fewRounds, afterBuild, rowsToRead}
 use Rattle.model.specs.Calls.Asked.{nothing, body, joint}
 use Rattle.model.proofs.CountLaws.{body-there}
 
@@ -213,7 +213,7 @@ module _ (m : Model) where
   unfolding sweepRule builtRule seedsRule
   own-numbered (fewRounds n) = omega arith
   own-numbered afterBuild = omega arith
-  own-numbered (afterRead warm substep) = omega arith
+  own-numbered (rowsToRead warm substep) = omega arith
 
   all-numbered : (os : List Own) → Numbered (map (ownRule m) os)
   all-numbered [] = tt

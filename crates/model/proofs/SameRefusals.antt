@@ -11,7 +11,7 @@ use Rattle.rows.specs.declared.joint_velocity_constraint.WritebackId.{Writeback
 use Rattle.model.specs.Model.{Model, bodyCount, jointCount, rowCapacity, totalRows, Room}
 use Rattle.model.specs.Refusals.{Rule, refusal, modelRules, storageRule, builtRule, seedsRule, bodyRule, jointRule}
 use Rattle.model.specs.Calls.{Call, Asked, Own, ownRule, table, handedRules, askedRules, ownRules, rulesOf}
-use Rattle.model.specs.Calls.Own.{fewRounds, afterBuild, afterRead}
+use Rattle.model.specs.Calls.Own.{fewRounds, afterBuild, rowsToRead}
 use Rattle.model.specs.Calls.Asked.{nothing, body, joint}
 use Rattle.model.specs.Studies.{Agree, AboutSet, SameAsked}
 use Rattle.model.proofs.RefusalLaws.{by-cases, rule-holds, RulesHold, rules-rest, rules-arguments}
@@ -55,7 +55,7 @@ module _ (m m′ : Model) (held : RulesHold m) (held′ : RulesHold m′) where
     unfolding builtRule seedsRule
     same-own (fewRounds n) = refl
     same-own afterBuild = rw mark
-    same-own (afterRead warm substep) = rw mark
+    same-own (rowsToRead warm substep) = rw mark
 
     same-owns : (os : List Own) → map (ownRule m) os ≡ map (ownRule m′) os
     same-owns [] = refl

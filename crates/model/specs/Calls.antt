@@ -107,16 +107,16 @@ pub data Asked : Type 0 where
   body : ℕ → Asked
   joint : ℕ → Asked
 
--- a rule of a call's own: 9, so many rounds are not too many; 10, a build comes before it; 10, one comes before it where it reads the rows of the last one
+-- a rule of a call's own: 9, so many rounds are not too many; 10, a build comes before it; 10, a build comes before one that reads the last rows
 pub data Own : Type 0 where
   fewRounds : ℕ → Own
   afterBuild : Own
-  afterRead : Warmstart → ℕ → Own
+  rowsToRead : Warmstart → ℕ → Own
 
 abbrev pub ownRule : Model → Own → Rule
 ownRule m (fewRounds n) = sweepRule n
 ownRule m afterBuild = builtRule m
-ownRule m (afterRead warm substep) = seedsRule m warm substep
+ownRule m (rowsToRead warm substep) = seedsRule m warm substep
 
 -- What there is to know of a call beside what it does.
 pub record Entry : Type 0 where
@@ -138,7 +138,7 @@ entry f s o a r = record { finite = f; rowStorage = s; own = o; asked = a; makes
 abbrev pub table : Call → Entry
 table load = entry true true [] nothing false
 table (place i pose) = entry (finitePose pose) false [] (body i) false
-table (build warm substep) = entry (finiteWarm warm) true (afterRead warm substep ∷ []) nothing true
+table (build warm substep) = entry (finiteWarm warm) true (rowsToRead warm substep ∷ []) nothing true
 table warmStart = entry true true (afterBuild ∷ []) nothing false
 table (sweep n) = entry true true (fewRounds n ∷ afterBuild ∷ []) nothing false
 table removeBias = entry true true (afterBuild ∷ []) nothing false
