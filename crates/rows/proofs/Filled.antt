@@ -1,13 +1,13 @@
 -- A list that is filled up to a length, as an array holds it: a store at its end, its first elements and those after them, and the loops
 -- that fill one and that overwrite one from its start. Over any kind of element; assumes nothing.
 use Prim.Native.Nat.{ℕ, zero, suc, _+_, _-_, _≤_, _<_}
-use native.Mathlib.Nat.{le-of-suc-le-suc, not-suc-le-zero, suc-sub-suc, sub-zero}
+use native.Mathlib.Nat.{le-of-suc-le-suc, not-suc-le-zero, suc-sub-suc, sub-zero, zero-sub}
 use native.Mathlib.Numerals.{add-one}
 use native.Mathlib.Omega.{arith}
 use mathlib.Core.Path.{_≡_, refl, ap, sym, _∙_}
 use mathlib.Core.List.{List, [], _∷_, _++_, map, append-assoc, map-append}
 use lib.ListN.{length, getD, set, take, drop, replicate, length-map}
-use lib.Seq.{take-at, drop-at, take-suc, drop-cons, length-take-le, getD-at, set-at, append-snoc}
+use lib.Seq.{take-at, drop-at, take-suc, drop-cons, length-take-le, set-at, append-snoc}
 use Rattle.rows.specs.RowIds.{filled}
 
 module _ {A : Type 0} (x : A) where
@@ -52,11 +52,16 @@ module _ {A : Type 0} (x : A) where
       let rest : List A = replicate (m - length (l ++ r)) x in
       rw (filled-split m (l ++ r) h, append-assoc, drop-at l (r ++ rest) n e) (take-at r rest k f)
 
-  -- the first part of a filled list, changed to another list of its length
-  pub front-filled : (m n : ℕ) (l r : List A) → length l ≡ n → length r ≡ n → n ≤ m → r ++ drop n (filled m x l) ≡ filled m x r
-  front-filled m n l r e f h =
-      let k : length r ≤ m = omega (arith, f) in
-      rw (drop-filled m n l e h, filled-split m r k, f)
+  drop-replicate : (n m : ℕ) → drop n (replicate m x) ≡ replicate (m - n) x
+  drop-replicate zero m = rw sub-zero
+  drop-replicate (suc n) zero = rw zero-sub
+  drop-replicate (suc n) (suc m) = rw suc-sub-suc (drop-replicate n m)
+
+  -- an array of one filler whose first n elements are overwritten
+  pub over-blank : (m n : ℕ) (l : List A) → length l ≡ n → n ≤ m → l ++ drop n (replicate m x) ≡ filled m x l
+  over-blank m n l e h =
+      let k : length l ≤ m = omega (arith, e) in
+      rw (drop-replicate n m, filled-split m l k, e)
 
 module _ {A B : Type 0} (f : A → B) (x : B) where
   -- a turn of the loop that fills an array with what f makes of a list
@@ -71,10 +76,7 @@ module _ {A B : Type 0} (f : A → B) (x : B) where
       rw (e, more) (rw q at stored)
 
 module _ {A : Type 0} (w o : List A) (k : ℕ) (h : k < length w) (g : k < length o) where
-  -- the loop that overwrites the list o by the list w from its start: what it reads at its place, and a turn of it
-  pub overwrite-read : {ys : List A} (d : A) → ys ≡ take k w ++ drop k o → getD ys k d ≡ getD o k d
-  overwrite-read d e = rw (e, drop-cons o k d g) (getD-at (take k w) (getD o k d) (drop (suc k) o) d k (length-take-le k w (omega arith)))
-
+  -- a turn of the loop that overwrites the list o by the list w from its start
   pub overwrite-turn : {ys : List A} {y : A} (d : A) → ys ≡ take k w ++ drop k o → y ≡ getD w k d → set ys k y ≡ take (k + 1) w ++ drop (k + 1) o
   overwrite-turn {ys} {y} d e v =
       rw (e, drop-cons o k d g, v, add-one, take-suc w k d h, append-snoc)

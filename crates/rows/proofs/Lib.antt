@@ -10,6 +10,7 @@ pub mod RowIdsPush
 pub mod RowIdsLaws
 pub mod Filled
 pub mod UpdateRows
+pub mod WarmedFinalize
 pub mod WarmedRows
 pub mod BuilderLaws
 pub mod RowArrays

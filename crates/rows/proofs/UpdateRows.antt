@@ -36,7 +36,7 @@ length-updateOf cx =
     )
 
 -- two groups of rows, each orthogonalised in their array
-finalize-filled : (m n k : ℕ) (cs ds : List JointConstraint) → length cs ≡ n → length (cs ++ ds) ≡ k → k ≤ m
+pub finalize-filled : (m n k : ℕ) (cs ds : List JointConstraint) → length cs ≡ n → length (cs ++ ds) ≡ k → k ≤ m
     → finalizeGroups n k (filled m blankRow (cs ++ ds)) ≡ filled m blankRow (finalizeOf cs ++ finalizeOf ds)
 unfolding finalizeGroups
 finalize-filled m n k cs ds e f h =

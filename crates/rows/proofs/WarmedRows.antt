@@ -1,11 +1,11 @@
--- What the builder's `update` does to the rows after it made them: row by row the row's start, from its id and its last impulse. A turn of its
--- loop overwrites one row by its warmed one (`warm-turn`), and at the end the array is that of the warmed rows (`warmed-rows`).
+-- The rows that the builder's `update` makes: row by row the id's row with the impulse that it starts from. A turn of its loop overwrites one
+-- blank row (`start-turn`); the array at the end (`start-end`), with its groups orthogonalised, is that of the joint's rows (`started-rows`).
 use Prim.Native.Nat.{ℕ, zero, suc, _+_, _≤_, _<_}
 use native.Mathlib.Nat.{le-of-suc-le-suc, not-suc-le-zero}
 use native.Mathlib.Omega.{arith}
 use mathlib.Core.Path.{_≡_, refl, ap, sym, _∙_}
-use mathlib.Core.List.{List, [], _∷_, _++_, map, map-map, map-id}
-use lib.ListN.{length, getD, set, take, drop, length-map, length-set, List·getD-map}
+use mathlib.Core.List.{List, [], _∷_, _++_, map, map-append, map-map, map-id}
+use lib.ListN.{length, getD, set, take, drop, replicate, length-map, length-append, length-drop, length-set, List·getD-map}
 use lib.Seq.{take-all, getD-take, length-take-le}
 use lib.Ieee.{Float}
 use Rattle.rows.specs.declared.integration_parameters.IntegrationParameters.{IntegrationParameters}
@@ -19,12 +19,15 @@ use Rattle.rows.specs.declared.joint_velocity_constraint.WritebackId.{Wr
 use Rattle.rows.specs.declared.joint_velocity_constraint.WritebackId.the-variants.{Dof}
 use Rattle.rows.specs.declared.row_ids.RowId.{RowId}
 use Rattle.rows.specs.declared.row_ids.RowIds.{RowIds}
-use Rattle.rows.specs.RowIds.{filled, rowId, rowIds, rowIdsArray}
-use Rattle.rows.specs.Update.{contextOf, updateOf, blankRow, rowsArray}
+use Rattle.rows.specs.RowIds.{filled, rowId, groupOne, groupTwo, rowIds, rowIdsArray}
+use Rattle.rows.specs.Finalize.{finalizeOf, finalizeGroups}
+use Rattle.rows.specs.Update.{contextOf, rowOf, updateOf, blankRow, rowsArray}
 use Rattle.rows.specs.Builder.{jointContextOf, seedOf, warmedOf, warmedAll, builderUpdateOf}
-use Rattle.rows.proofs.Filled.{take-filled, front-filled, length-filled, overwrite-read, overwrite-turn}
+use Rattle.rows.proofs.Filled.{take-filled, length-filled, over-blank, overwrite-turn}
+use Rattle.rows.proofs.OrthogonaliseLaws.{length-finalizeOf}
 use Rattle.rows.proofs.RowIdsCount.{at-most-six}
-use Rattle.rows.proofs.UpdateRows.{length-updateOf}
+use Rattle.rows.proofs.UpdateRows.{finalize-filled}
+use Rattle.rows.proofs.WarmedFinalize.{finalize-warmed, warmed-append}
 
 module _ (warm : Warmstart) (substep : ℕ) (joint : ImpulseJoint) where
   pub length-warmedAll : (is : List WritebackId) (ps : List Float) (rs : List JointConstraint) → length rs ≡ length is → length is ≤ length ps
@@ -46,24 +49,27 @@ module _ (warm : Warmstart) (substep : ℕ) (joint : ImpulseJoint) where
   getD-warmedAll (j ∷ is) (q ∷ ps) (s ∷ rs) (suc k) i p r d f g h =
       getD-warmedAll is ps rs k i p r d (le-of-suc-le-suc f) (le-of-suc-le-suc g) (le-of-suc-le-suc h)
 
-  -- the first len rows of an array, warmed by the first len ids of another
-  abbrev pub warmedFirst : List RowId → List Float → List JointConstraint → ℕ → List JointConstraint
-  warmedFirst ids prevs rows len = warmedAll warm substep joint (map (λ (i : RowId). i .id) (take len ids)) prevs (take len rows)
+  -- the rows of the first len ids of an array, each with the impulse that it starts from, before their groups are orthogonalised
+  abbrev pub startedFirst : RowContext → List RowId → List Float → ℕ → List JointConstraint
+  startedFirst cx ids prevs len =
+      warmedAll warm substep joint (map (λ (i : RowId). i .id) (take len ids)) prevs (map (rowOf cx) (map (λ (i : RowId). i .id) (take len ids)))
 
--- what the builder's loop keeps at row k of the array that `update` made, of which len are rows: the rows before k are warmed
-pub record Warming (warm : Warmstart) (substep : ℕ) (joint : ImpulseJoint) (prevs : List Float) (ids : List RowId) (made : List JointConstraint) (len : ℕ) (rows : List JointConstraint) (k : ℕ) : Type 0 where
+abbrev blanks : List JointConstraint
+blanks = replicate 6 blankRow
+
+-- what the builder's loop keeps at row k: the rows before k are made and have the impulses that they start from
+pub record Starting (warm : Warmstart) (substep : ℕ) (joint : ImpulseJoint) (cx : RowContext) (prevs : List Float) (ids : List RowId) (len : ℕ) (rows : List JointConstraint) (k : ℕ) : Type 0 where
   pub reached : k ≤ len
   pub few : len ≤ 6
   pub six-ids : length ids ≡ 6
   pub six-prevs : length prevs ≡ 6
-  pub six-made : length made ≡ 6
   pub six-rows : length rows ≡ 6
-  pub so-far : rows ≡ take k (warmedFirst warm substep joint ids prevs made len) ++ drop k made
+  pub so-far : rows ≡ take k (startedFirst warm substep joint cx ids prevs len) ++ drop k blanks
 
-module _ (warm : Warmstart) (substep : ℕ) (joint : ImpulseJoint) (prevs : List Float) (ids : List RowId) (made : List JointConstraint) (len : ℕ) (rows : List JointConstraint) (k : ℕ)
-    (s : Warming warm substep joint prevs ids made len rows k) where
-  abbrev warmed : List JointConstraint
-  warmed = warmedFirst warm substep joint ids prevs made len
+module _ (warm : Warmstart) (substep : ℕ) (joint : ImpulseJoint) (cx : RowContext) (prevs : List Float) (ids : List RowId) (len : ℕ) (rows : List JointConstraint) (k : ℕ)
+    (s : Starting warm substep joint cx prevs ids len rows k) where
+  abbrev started : List JointConstraint
+  started = startedFirst warm substep joint cx ids prevs len
 
   abbrev named : List WritebackId
   named = map (λ (i : RowId). i .id) (take len ids)
@@ -71,40 +77,36 @@ module _ (warm : Warmstart) (substep : ℕ) (joint : ImpulseJoint) (prevs : List
   length-named : length named ≡ len
   length-named = length-map (take len ids) (λ (i : RowId). i .id) ∙ length-take-le len ids (omega (arith, s .few, s .six-ids))
 
-  length-taken : length (take len made) ≡ len
-  length-taken = length-take-le len made (omega (arith, s .few, s .six-made))
+  length-started : length started ≡ len
+  length-started =
+      length-warmedAll warm substep joint named prevs (map (rowOf cx) named) (length-map named (rowOf cx)) (omega (arith, length-named, s .few, s .six-prevs)) ∙ length-named
 
-  length-warmed : length warmed ≡ len
-  length-warmed =
-      length-warmedAll warm substep joint named prevs (take len made) (length-taken ∙ sym length-named) (omega (arith, length-named, s .few, s .six-prevs)) ∙ length-named
-
-  -- a turn: i, p and r stand for what the code would read past an array's end
-  pub warm-turn : {y : JointConstraint} (i : RowId) (p : Float) (r : JointConstraint) → k < len
-      → y ≡ warmedOf warm substep (seedOf joint (getD ids k i .id)) (getD prevs k p) (getD rows k r)
-      → Warming warm substep joint prevs ids made len (set rows k y) (k + 1)
-  warm-turn {y} i p r g v =
-      let at : k < length warmed = omega (arith, length-warmed) in
-      let inside : k < length made = omega (arith, s .few, s .six-made) in
+  -- a turn: i and p stand for what the code would read past an array's end
+  pub start-turn : {y : JointConstraint} (i : RowId) (p : Float) → k < len
+      → y ≡ warmedOf warm substep (seedOf joint (getD ids k i .id)) (getD prevs k p) (rowOf cx (getD ids k i .id))
+      → Starting warm substep joint cx prevs ids len (set rows k y) (k + 1)
+  start-turn {y} i p g v =
+      let at : k < length started = omega (arith, length-started) in
+      let inside : k < length blanks = omega (arith, s .few) in
       let read-id : getD named k (i .id) ≡ getD ids k i .id =
       List·getD-map (λ (i : RowId). i .id) (take len ids) k i ∙ ap (λ (i : RowId). i .id) (getD-take len ids k i g) in
-      let read-row : getD rows k r ≡ getD (take len made) k r = overwrite-read warmed made k at inside r (s .so-far) ∙ sym (getD-take len made k r g) in
-      let read : getD warmed k r ≡ warmedOf warm substep (seedOf joint (getD named k (i .id))) (getD prevs k p) (getD (take len made) k r) =
-      getD-warmedAll warm substep joint named prevs (take len made) k (i .id) p r r (omega (arith, length-named)) (omega (arith, s .few, s .six-prevs)) (omega (arith, length-taken)) in
+      let read-row : getD (map (rowOf cx) named) k (rowOf cx (i .id)) ≡ rowOf cx (getD named k (i .id)) = List·getD-map (rowOf cx) named k (i .id) in
+      let read : getD started k blankRow ≡ warmedOf warm substep (seedOf joint (getD named k (i .id))) (getD prevs k p) (getD (map (rowOf cx) named) k (rowOf cx (i .id))) =
+      getD-warmedAll warm substep joint named prevs (map (rowOf cx) named) k (i .id) p (rowOf cx (i .id)) blankRow (omega (arith, length-named)) (omega (arith, s .few, s .six-prevs)) (omega (arith, length-map named (rowOf cx), length-named)) in
       record {
         reached = omega arith;
         few = s .few;
         six-ids = s .six-ids;
         six-prevs = s .six-prevs;
-        six-made = s .six-made;
         six-rows = length-set rows k y ∙ s .six-rows;
-        so-far = overwrite-turn warmed made k at inside r (s .so-far) (v ∙ rw (read-row, ← read-id) (sym read));
+        so-far = overwrite-turn started blanks k at inside blankRow (s .so-far) (v ∙ sym (read ∙ rw (read-row, read-id)));
       }
 
   -- after the last turn
-  pub warm-end : len ≤ k → rows ≡ warmed ++ drop len made
-  warm-end h =
+  pub start-end : len ≤ k → rows ≡ filled 6 blankRow started
+  start-end h =
       let e : k ≡ len = omega (arith, s .reached) in
-      s .so-far ∙ rw e (ap (λ t. t ++ drop len made) (take-all len warmed (omega (arith, length-warmed))))
+      s .so-far ∙ rw e (ap (λ t. t ++ drop len blanks) (take-all len started (omega (arith, length-started)))) ∙ over-blank blankRow 6 len started length-started (s .few)
 
 -- the joint that the context holds
 pub context-joint : (params : IntegrationParameters) (body1 body2 : SolverPose) (joint : ImpulseJoint) → jointContextOf params body1 body2 joint .joint ≡ joint .«data»
@@ -112,42 +114,90 @@ unfolding jointContextOf contextOf
 context-joint params body1 body2 joint = refl
 
 -- before the first turn
-pub warm-start : (params : IntegrationParameters) (substep : ℕ) (warm : Warmstart) (body1 body2 : SolverPose) (joint : ImpulseJoint) (prevs : List Float)
-    {ids : RowIds} {made : Rows} → length prevs ≡ 6
-    → ids ≡ rowIdsArray (joint .«data» .masks) → made ≡ rowsArray (updateOf (jointContextOf params body1 body2 joint))
-    → Warming warm substep joint prevs (ids .ids) (made .rows) (made .len) (made .rows) 0
-unfolding rowIdsArray rowsArray
-warm-start params substep warm body1 body2 joint prevs {ids} {made} six e f =
-    let cx : RowContext = jointContextOf params body1 body2 joint in
-    let made-six : length (made .rows) ≡ 6 = ap (λ m. length (m .rows)) f ∙ length-filled blankRow 6 (updateOf cx) in
-    record {
-      reached = omega arith;
-      few = omega (arith, ap (λ m. m .len) f, length-updateOf cx, at-most-six (cx .joint .masks));
-      six-ids = ap (λ i. length (i .ids)) e ∙ length-filled (rowId (Dof 0)) 6 (map rowId (rowIds 2 1 (joint .«data» .masks)));
-      six-prevs = six;
-      six-made = made-six;
-      six-rows = made-six;
-      so-far = refl;
-    }
+pub start-start : (warm : Warmstart) (substep : ℕ) (joint : ImpulseJoint) (cx : RowContext) (prevs : List Float) {ids : RowIds} → length prevs ≡ 6
+    → ids ≡ rowIdsArray (joint .«data» .masks) → Starting warm substep joint cx prevs (ids .ids) (ids .len) blanks 0
+unfolding rowIdsArray
+start-start warm substep joint cx prevs {ids} six e = record {
+  reached = omega arith;
+  few = omega (arith, ap (λ (i : RowIds). i .len) e, at-most-six (joint .«data» .masks));
+  six-ids = ap (λ (i : RowIds). length (i .ids)) e ∙ length-filled (rowId (Dof 0)) 6 (map rowId (rowIds 2 1 (joint .«data» .masks)));
+  six-prevs = six;
+  six-rows = refl;
+  so-far = refl;
+}
 
--- what the code returns: the warmed rows, and the rest of the array that `update` made
-pub warmed-rows : (params : IntegrationParameters) (substep : ℕ) (warm : Warmstart) (body1 body2 : SolverPose) (joint : ImpulseJoint) (prevs : List Float)
-    {ids : RowIds} {made : Rows} {ys : List JointConstraint} → length prevs ≡ 6
-    → ids ≡ rowIdsArray (joint .«data» .masks) → made ≡ rowsArray (updateOf (jointContextOf params body1 body2 joint))
-    → ys ≡ warmedFirst warm substep joint (ids .ids) prevs (made .rows) (made .len) ++ drop (made .len) (made .rows)
-    → _≡_ {A = Rows} (record { rows = ys; len = made .len }) (rowsArray (builderUpdateOf params substep warm body1 body2 joint prevs))
-unfolding rowIdsArray rowsArray builderUpdateOf
-warmed-rows params substep warm body1 body2 joint prevs {ids} {made} {ys} six e f g =
-    let is : List WritebackId = rowIds 2 1 (joint .«data» .masks) in
-    let rs : List JointConstraint = updateOf (jointContextOf params body1 body2 joint) in
-    let all : List JointConstraint = warmedAll warm substep joint is prevs rs in
-    let same : length rs ≡ length is = length-updateOf (jointContextOf params body1 body2 joint) ∙ rw context-joint in
-    let few : length is ≤ 6 = at-most-six (joint .«data» .masks) in
-    let count : length all ≡ length rs = length-warmedAll warm substep joint is prevs rs same (omega (arith, six)) ∙ sym same in
-    let ids-read : map (λ (i : RowId). i .id) (take (length rs) (filled 6 (rowId (Dof 0)) (map rowId is))) ≡ is =
-    ap (λ t. map (λ (i : RowId). i .id) t) (take-filled (rowId (Dof 0)) 6 (length rs) (map rowId is) (length-map is rowId ∙ sym same) (omega (arith, same)))
-    ∙ map-map (λ (i : RowId). i .id) rowId is ∙ map-id is in
-    let rows-read : take (length rs) (filled 6 blankRow rs) ≡ rs = take-filled blankRow 6 (length rs) rs refl (omega (arith, same)) in
-    let rest : all ++ drop (length rs) (filled 6 blankRow rs) ≡ filled 6 blankRow all = front-filled blankRow 6 (length rs) rs all refl count (omega (arith, same)) in
-    let whole : ys ≡ filled 6 blankRow all = g ∙ rw (e, f) (rw (ids-read, rows-read) rest) in
-    rw (whole, f, count)
+module _ (warm : Warmstart) (substep : ℕ) (joint : ImpulseJoint) (cx : RowContext) (prevs : List Float) (l r : List WritebackId) (six : length prevs ≡ 6) (h : length (l ++ r) ≤ 6) where
+  abbrev all : List WritebackId → List Float → List JointConstraint → List JointConstraint
+  all = warmedAll warm substep joint
+
+  abbrev made : List WritebackId → List JointConstraint
+  made is = map (rowOf cx) is
+
+  abbrev later : List Float
+  later = drop (length l) prevs
+
+  few-one : length l ≤ length prevs
+  few-one = omega (arith, length-append l r, six)
+
+  few-two : length r ≤ length later
+  few-two = omega (arith, length-append l r, length-drop (length l) prevs, six)
+
+  one : length (all l prevs (made l)) ≡ length l
+  one = length-warmedAll warm substep joint l prevs (made l) (length-map l (rowOf cx)) few-one
+
+  two : length (all r later (made r)) ≡ length r
+  two = length-warmedAll warm substep joint r later (made r) (length-map r (rowOf cx)) few-two
+
+  -- the started rows of two groups, orthogonalised in their array
+  started-groups : finalizeGroups (length l) (length (l ++ r)) (filled 6 blankRow (all (l ++ r) prevs (made (l ++ r))))
+      ≡ filled 6 blankRow (all (l ++ r) prevs (finalizeOf (made l) ++ finalizeOf (made r)))
+  started-groups =
+      let split : all (l ++ r) prevs (made (l ++ r)) ≡ all l prevs (made l) ++ all r later (made r) =
+      ap (λ t. all (l ++ r) prevs t) (map-append (rowOf cx) l r) ∙ warmed-append warm substep joint l r prevs (made l) (made r) (length-map l (rowOf cx)) few-one in
+      let join : all (l ++ r) prevs (finalizeOf (made l) ++ finalizeOf (made r)) ≡ all l prevs (finalizeOf (made l)) ++ all r later (finalizeOf (made r)) =
+      warmed-append warm substep joint l r prevs (finalizeOf (made l)) (finalizeOf (made r)) (length-finalizeOf (made l) ∙ length-map l (rowOf cx)) few-one in
+      let count : length (all l prevs (made l) ++ all r later (made r)) ≡ length (l ++ r) =
+      omega (arith, length-append (all l prevs (made l)) (all r later (made r)), one, two, length-append l r) in
+      ap (λ t. finalizeGroups (length l) (length (l ++ r)) (filled 6 blankRow t)) split
+      ∙ finalize-filled 6 (length l) (length (l ++ r)) (all l prevs (made l)) (all r later (made r)) one count h
+      ∙ rw (
+        finalize-warmed warm substep joint l prevs (made l) (length-map l (rowOf cx)) few-one,
+        finalize-warmed warm substep joint r later (made r) (length-map r (rowOf cx)) few-two,
+        join,
+      )
+
+-- what the code returns
+pub started-rows : (params : IntegrationParameters) (substep : ℕ) (warm : Warmstart) (body1 body2 : SolverPose) (joint : ImpulseJoint) (prevs : List Float)
+    {ids : RowIds} {cx : RowContext} {rows : List JointConstraint} → length prevs ≡ 6
+    → ids ≡ rowIdsArray (joint .«data» .masks) → cx ≡ jointContextOf params body1 body2 joint
+    → rows ≡ finalizeGroups (ids .first) (ids .len) (filled 6 blankRow (startedFirst warm substep joint cx (ids .ids) prevs (ids .len)))
+    → _≡_ {A = Rows} (record { rows = rows; len = ids .len }) (rowsArray (builderUpdateOf params substep warm body1 body2 joint prevs))
+unfolding rowIdsArray rowIds rowsArray builderUpdateOf updateOf
+started-rows params substep warm body1 body2 joint prevs {ids} {cx} {rows} six e x g =
+    let l : List WritebackId = groupOne 2 1 (joint .«data» .masks) in
+    let r : List WritebackId = groupTwo 2 1 (joint .«data» .masks) in
+    let cx′ : RowContext = jointContextOf params body1 body2 joint in
+    let few : length (l ++ r) ≤ 6 = at-most-six (joint .«data» .masks) in
+    let masks : cx′ .joint .masks ≡ joint .«data» .masks = rw context-joint in
+    let ids-read : map (λ (i : RowId). i .id) (take (length (l ++ r)) (filled 6 (rowId (Dof 0)) (map rowId (l ++ r)))) ≡ l ++ r =
+    ap (λ t. map (λ (i : RowId). i .id) t) (take-filled (rowId (Dof 0)) 6 (length (l ++ r)) (map rowId (l ++ r)) (length-map (l ++ r) rowId) few)
+    ∙ map-map (λ (i : RowId). i .id) rowId (l ++ r) ∙ map-id (l ++ r) in
+    let whole : rows ≡ filled 6 blankRow (warmedAll warm substep joint (l ++ r) prevs (finalizeOf (map (rowOf cx′) l) ++ finalizeOf (map (rowOf cx′) r))) =
+    g ∙ rw (e, x) (rw ids-read (started-groups warm substep joint cx′ prevs l r six few)) in
+    let made : length (finalizeOf (map (rowOf cx′) l) ++ finalizeOf (map (rowOf cx′) r)) ≡ length (l ++ r) =
+    omega (
+      arith,
+      length-append (finalizeOf (map (rowOf cx′) l)) (finalizeOf (map (rowOf cx′) r)),
+      length-finalizeOf (map (rowOf cx′) l),
+      length-finalizeOf (map (rowOf cx′) r),
+      length-map l (rowOf cx′),
+      length-map r (rowOf cx′),
+      length-append l r,
+    ) in
+    let count : length (warmedAll warm substep joint (l ++ r) prevs (finalizeOf (map (rowOf cx′) l) ++ finalizeOf (map (rowOf cx′) r))) ≡ length (l ++ r) =
+    length-warmedAll warm substep joint (l ++ r) prevs (finalizeOf (map (rowOf cx′) l) ++ finalizeOf (map (rowOf cx′) r)) made (omega (arith, six, few)) in
+    let all : List JointConstraint → List JointConstraint = warmedAll warm substep joint (l ++ r) prevs in
+    let updated : updateOf cx′ ≡ finalizeOf (map (rowOf cx′) l) ++ finalizeOf (map (rowOf cx′) r) = rw masks in
+    let whole′ : rows ≡ filled 6 blankRow (all (updateOf cx′)) = whole ∙ ap (λ t. filled 6 blankRow (all t)) (sym updated) in
+    let len′ : ids .len ≡ length (all (updateOf cx′)) = ap (λ (i : RowIds). i .len) e ∙ sym count ∙ ap (λ t. length (all t)) (sym updated) in
+    λ i. record { rows = whole′ i; len = len′ i }

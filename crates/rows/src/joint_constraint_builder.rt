@@ -6,11 +6,13 @@ ghost use Rattle.rows.specs.Update.{rowsArray};
 use crate::generic_joint::GenericJoint;
 use crate::integration_parameters::IntegrationParameters;
 use crate::joint_constraint_helper::AngularLimitParams;
+use crate::joint_constraint_helper::finalize_groups;
 use crate::joint_velocity_constraint::JointConstraint;
 use crate::joint_velocity_constraint::JointSolverBody;
 use crate::joint_velocity_constraint::RowContext;
 use crate::joint_velocity_constraint::Rows;
 use crate::joint_velocity_constraint::WritebackId;
+use crate::joint_velocity_constraint::blank_row;
 use crate::row_ids::row_ids;
 use floats::pose::Pose;
 use floats::rotation_ops::Rotation;
@@ -118,7 +120,8 @@ pub fn warmed(
 }
 
 // The Rust's `update`, after `update_warmstart_seeds`. `prevs` are the impulses of the rows that the
-// last build made, by row.
+// last build made, by row. A row gets the impulse that it starts from as soon as it is made, because
+// orthogonalising a group reads and changes none.
 pub fn update(
     params: IntegrationParameters,
     substep_id: u32,
@@ -133,18 +136,24 @@ pub fn update(
     let data = joint.data;
     let ids = row_ids(data.masks);
     let context = joint.context(params, body1, body2);
-    let made = context.update_by(ids);
-    let mut rows = made.rows;
-    let len = made.len;
+    let len = ids.len;
+    let blank = blank_row();
+    let mut rows = [blank; 6];
     let mut k = 0usize;
     while k < len {
         let named = ids.ids[k];
         let id = named.id;
-        rows[k] = warmed(warmstart, substep_id, joint.seed(id), prevs[k], rows[k]);
+        rows[k] = warmed(
+            warmstart,
+            substep_id,
+            joint.seed(id),
+            prevs[k],
+            context.row(id),
+        );
         k += 1;
     }
     Rows {
-        rows: rows,
+        rows: finalize_groups(rows, ids.first, len),
         len: len,
     }
 }

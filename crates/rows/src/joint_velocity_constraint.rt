@@ -2,7 +2,6 @@
 // to the velocities of its two bodies.
 ghost use mathlib.Core.Path.{_≡_};
 ghost use Prim.Native.Nat.{_≤_};
-ghost use Rattle.rows.specs.RowIds.{rowIdsArray};
 ghost use Rattle.rows.specs.Update.{contextOf, motorLimitsOf, rowOf, updateOf, blankRow, rowsArray, madeRows};
 ghost use Rattle.rows.specs.Step.{wantedImpulseOf, appliedOf, stepOf, warmstartOf, removeBiasOf};
 ghost use Rattle.rows.specs.Row.{withImpulse};
@@ -370,14 +369,7 @@ impl RowContext {
         ensures { λ r. ⌜ r ≡ rowsArray (updateOf self) ⌝ }
     {
         let joint = self.joint;
-        self.update_by(row_ids(joint.masks))
-    }
-
-    // `update`, with the joint's ids at hand.
-    pub(crate) fn update_by(self, ids: RowIds) -> Rows
-        requires { ⌜ ids ≡ rowIdsArray (self .joint .masks) ⌝ }
-        ensures { λ r. ⌜ r ≡ rowsArray (updateOf self) ⌝ }
-    {
+        let ids = row_ids(joint.masks);
         let len = ids.len;
         Rows {
             rows: finalize_groups(self.made(ids, len), ids.first, len),

@@ -1,18 +1,18 @@
--- The builder's `update` meets its contract. The loop keeps `Warming`: of the rows that `update` made, those before k are warmed.
+-- The builder's `update` meets its contract. The loop keeps `Starting`: the rows before k are made and have the impulses that they start from.
 use Prim.Native.Nat.{_-_}
-use mathlib.Core.Path.{sym, ap, _∙_}
-use Rattle.rows.specs.declared.generic_joint.GenericJoint.{GenericJoint}
-use Rattle.rows.specs.RowIds.{rowIdsArray}
-use Rattle.rows.proofs.WarmedRows.{Warming, context-joint, warm-start, warm-turn, warm-end, warmed-rows}
+use mathlib.Core.Path.{ap, _∙_}
+use Rattle.rows.specs.Finalize.{finalizeGroups}
+use Rattle.rows.proofs.UpdateRows.{counts}
+use Rattle.rows.proofs.WarmedRows.{Starting, start-start, start-turn, start-end, started-rows}
 use borrow.Author.Needs.{needs}
 use Rattle.rows.proofs.joint_constraint_builder.update.Statement.{statement}
 use Rattle.rows.proofs.joint_constraint_builder.update.Tie as tie
 
 abbrev Inv-loop : tie.InvT-loop
-Inv-loop substep-id warmstart joint prevs ids rows₀ len k₀ rows k = Warming warmstart substep-id joint prevs (ids .ids) rows₀ len rows k
+Inv-loop substep-id warmstart joint prevs ids context len rows₀ k₀ rows k = Starting warmstart substep-id joint context prevs (ids .ids) len rows k
 
 abbrev μ-loop : tie.MeasureT-loop
-μ-loop substep-id warmstart joint prevs ids rows₀ len k₀ rows k = len - k
+μ-loop substep-id warmstart joint prevs ids context len rows₀ k₀ rows k = len - k
 
 row-ids-requires : tie.Need-row-ids-requires Inv-loop μ-loop
 row-ids-requires c κs = search needs
@@ -20,18 +20,15 @@ row-ids-requires c κs = search needs
 context-requires : tie.Need-context-requires Inv-loop μ-loop
 context-requires c κs = search needs
 
-update-by-requires : tie.Need-update-by-requires Inv-loop μ-loop
-update-by-requires c κs =
-    let a = c .before .before .before .args in
-    c .before .row-ids .ensures ∙ rw (c .context .ensures) (ap (λ (d : GenericJoint). rowIdsArray (d .masks)) (sym (context-joint (a .params) (a .body1) (a .body2) (a .joint))))
+blank-row-requires : tie.Need-blank-row-requires Inv-loop μ-loop
+blank-row-requires c κs = search needs
 
 loop-holds : tie.Need-loop-holds Inv-loop μ-loop
 loop-holds c =
-    let d = c .before .before in
+    let d = c .before in
     let a = d .before .before .before .args in
     let six = d .before .before .before .good .1 .1 .1 .1 .1 .1 .0 .1 .0 .1 in
-    warm-start (a .params) (a .substep-id) (a .warmstart) (a .body1) (a .body2) (a .joint) (a .t7) six (d .before .row-ids .ensures)
-    (c .before .update-by .ensures ∙ rw (d .context .ensures))
+    rw (c .blank-row .ensures) (start-start (a .warmstart) (a .substep-id) (a .joint) (d .context .result) (a .t7) six (d .before .row-ids .ensures))
 
 mul-named : tie.Need-mul-named Inv-loop μ-loop
 mul-named c = search needs
@@ -48,11 +45,8 @@ mul-warmed c = search needs
 array-read-warmed : tie.Need-array-read-warmed Inv-loop μ-loop
 array-read-warmed c = search needs
 
-mul-warmed-2 : tie.Need-mul-warmed-2 Inv-loop μ-loop
-mul-warmed-2 c = search needs
-
-array-copy-out-warmed : tie.Need-array-copy-out-warmed Inv-loop μ-loop
-array-copy-out-warmed c = search needs
+row-requires : tie.Need-row-requires Inv-loop μ-loop
+row-requires c κs = search needs
 
 warmed-requires : tie.Need-warmed-requires Inv-loop μ-loop
 warmed-requires c κs = search needs
@@ -72,22 +66,27 @@ loop-less c = search needs
 loop-again : tie.Need-loop-again Inv-loop μ-loop
 loop-again c =
     let l = c .before .before .before .before .before in
-    let d = l .before .before .before in
+    let d = l .before .before in
     let a = d .before .before .before .args in
-    warm-turn (a .warmstart) (a .substep-id) (a .joint) (a .t7) (d .before .row-ids .result .ids) (l .before .before .update-by .result .rows) (l .before .before .update-by .result .len)
-    (l .loop .rows) (l .loop .k) (l .loop .inv) _ _ _ (c .before .before .before .before .loop-test .taken)
-    (rw (c .before .before .seed .ensures) at (c .warmed .ensures))
+    let ids = d .before .row-ids .result in
+    start-turn (a .warmstart) (a .substep-id) (a .joint) (d .context .result) (a .t7) (ids .ids) (ids .len) (l .loop .rows) (l .loop .k) (l .loop .inv) _ _
+    (c .before .before .before .before .loop-test .taken) (rw (c .before .before .seed .ensures, c .before .row .ensures) at (c .warmed .ensures))
+
+finalize-groups-requires : tie.Need-finalize-groups-requires Inv-loop μ-loop
+finalize-groups-requires c κs =
+    let d = c .before .before .before in
+    counts (d .before .before .before .args .joint .«data» .masks) (d .before .row-ids .ensures)
 
 returns : tie.Need-returns Inv-loop μ-loop
 returns c =
-    let l = c .before in
-    let d = l .before .before .before in
+    let l = c .before .before in
+    let d = l .before .before in
     let a = d .before .before .before .args in
-    let made = l .before .before .update-by in
-    warmed-rows (a .params) (a .substep-id) (a .warmstart) (a .body1) (a .body2) (a .joint) (a .t7) (l .loop .inv .six-prevs) (d .before .row-ids .ensures)
-    (made .ensures ∙ rw (d .context .ensures))
-    (warm-end (a .warmstart) (a .substep-id) (a .joint) (a .t7) (d .before .row-ids .result .ids) (made .result .rows) (made .result .len) (l .loop .rows) (l .loop .k) (l .loop .inv)
-    (c .loop-test .left))
+    let ids = d .before .row-ids .result in
+    started-rows (a .params) (a .substep-id) (a .warmstart) (a .body1) (a .body2) (a .joint) (a .t7) (l .loop .inv .six-prevs) (d .before .row-ids .ensures) (d .context .ensures)
+    (c .finalize-groups .ensures
+    ∙ ap (λ t. finalizeGroups (ids .first) (ids .len) t)
+    (start-end (a .warmstart) (a .substep-id) (a .joint) (d .context .result) (a .t7) (ids .ids) (ids .len) (l .loop .rows) (l .loop .k) (l .loop .inv) (c .before .loop-test .left)))
 
 pub update-spec : {M : Type 1} → statement M
 update-spec =
@@ -97,19 +96,19 @@ update-spec =
     μ-loop
     row-ids-requires
     context-requires
-    update-by-requires
+    blank-row-requires
     loop-holds
     mul-named
     element-copy-out-named
     seed-requires
     mul-warmed
     array-read-warmed
-    mul-warmed-2
-    array-copy-out-warmed
+    row-requires
     warmed-requires
     mul-rows
     array-set-from-rows
     add-k
     loop-less
     loop-again
+    finalize-groups-requires
     returns)
