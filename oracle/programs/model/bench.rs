@@ -3,7 +3,7 @@
 //! also checks what it is handed, each time.
 
 use crate::library::{direct, same};
-use crate::model::{Call, JOINT, ROW, Study, WORLD};
+use crate::model::{Call, JOINT, KINDS, ROW, Study, WORLD};
 use rapier2d::pipeline::model::Prepared;
 use std::time::Instant;
 
@@ -52,55 +52,128 @@ fn chain(n: usize) -> Study {
     s
 }
 
-/// The shortest of five runs of `times`, in nanoseconds a turn.
-fn shortest(times: u32, mut work: impl FnMut()) -> f64 {
-    let mut best = f64::INFINITY;
-    for _ in 0..5 {
-        let start = Instant::now();
-        for _ in 0..times {
-            work();
+/// A build's impulses start at half of the stored ones.
+const COEFFICIENT: f32 = 0.5;
+
+const BUILD: Call = Call::Build {
+    warm: true,
+    coefficient: COEFFICIENT,
+    substep: 0,
+};
+
+/// A step as a laboratory makes it: rows made, warm started, swept, freed of their bias, swept once
+/// more, and their impulses stored.
+const STEP: [Call; 6] = [
+    BUILD,
+    Call::WarmStart,
+    Call::Sweep(4),
+    Call::RemoveBias,
+    Call::Sweep(1),
+    Call::WriteBack,
+];
+
+/// The model on both sides.
+struct Sides {
+    rust: Prepared,
+    rattle: Study,
+}
+
+impl Sides {
+    fn new(rattle: Study) -> Sides {
+        let s = &rattle;
+        Sides {
+            rust: Prepared::new(s.settings, &s.bodies, &s.words, &s.numbers, &s.rows),
+            rattle,
         }
-        best = best.min(start.elapsed().as_nanos() as f64 / times as f64);
     }
-    best
+
+    fn by_rust(&mut self, call: &Call) {
+        match *call {
+            Call::Build { .. } => self.rust.build(Some(COEFFICIENT), 0),
+            Call::WarmStart => self.rust.warmstart(),
+            Call::Sweep(rounds) => self.rust.solve(rounds),
+            Call::RemoveBias => self.rust.remove_bias(),
+            Call::WriteBack => self.rust.writeback(),
+            _ => unreachable!(),
+        }
+    }
+
+    fn by_rattle(&mut self, call: &Call) {
+        let code = direct(&mut self.rattle, call);
+        match call {
+            Call::Build { .. } => assert!(code >= 1 << 32),
+            _ => assert_eq!(code, 0),
+        }
+        self.rattle.built = true;
+    }
+
+    /// The shortest time of some calls by each side, in nanoseconds: the sides take turns of about a
+    /// tenth of a millisecond, so that most turns run undisturbed on a machine that does other work too.
+    fn times(&mut self, calls: &[Call]) -> [f64; 2] {
+        let rounds = |c: &Call| match c {
+            Call::Sweep(n) => *n as usize,
+            _ => 4,
+        };
+        let each = self.rattle.total() * calls.iter().map(rounds).sum::<usize>();
+        let repeat = 4000 / each + 1;
+        let mut best = [f64::INFINITY; 2];
+        for _ in 0..400 {
+            let start = Instant::now();
+            for _ in 0..repeat {
+                calls.iter().for_each(|call| self.by_rust(call));
+            }
+            let between = Instant::now();
+            for _ in 0..repeat {
+                calls.iter().for_each(|call| self.by_rattle(call));
+            }
+            let took = [between - start, between.elapsed()];
+            for (b, t) in best.iter_mut().zip(took) {
+                *b = b.min(t.as_nanos() as f64 / repeat as f64);
+            }
+        }
+        best
+    }
+
+    /// Both sides hold the same velocities, stored impulses and rows, in bits.
+    fn agree(&self) -> bool {
+        let s = &self.rattle;
+        let (mut bodies, mut numbers, mut rows) =
+            (s.bodies.clone(), s.numbers.clone(), s.rows.clone());
+        self.rust.left(&mut bodies, &mut numbers, &mut rows);
+        same(&bodies, &s.bodies) && same(&numbers, &s.numbers) && same(&rows, &s.rows)
+    }
+}
+
+fn show(joints: usize, rows: usize, work: &str, turns: f64, [rust, rattle]: [f64; 2]) {
+    let ratio = rattle / rust;
+    let each = turns * joints as f64;
+    let (rust, rattle) = (rust / each, rattle / each);
+    println!("{joints:6} {rows:5}  {work:28} {rust:10.1} {rattle:10.1} {ratio:7.2}");
 }
 
 pub fn bench() {
-    println!("links rows   work          Rust ns/row  Rattle ns/row  ratio");
-    for links in [1, 3, 16, 128] {
-        let mut s = chain(links);
-        let rows = s.total();
-        let mut rust = Prepared::new(s.settings, &s.bodies, &s.words, &s.numbers, &s.rows);
-        let turns = 200_000 / rows as u32 + 1;
-        let warm = Call::Build {
-            warm: true,
-            coefficient: 0.5,
-            substep: 0,
+    println!("nanoseconds a joint (for a sweep: a joint and a round)");
+    println!("joints  rows  work                               Rust     Rattle   ratio");
+    for joints in [1, 2, 4, 16, 64, 128] {
+        let mut both = Sides::new(chain(joints));
+        let rows = both.rattle.total();
+        let mut work = |what: &str, turns: f64, calls: &[Call]| {
+            let times = both.times(calls);
+            show(joints, rows, what, turns, times);
         };
-        let show = |work: &str, rounds: f64, rust: f64, rattle: f64| {
-            let each = rounds * rows as f64;
-            println!(
-                "{links:5} {rows:4}   {work:12} {:12.2}  {:13.2}  {:5.2}",
-                rust / each,
-                rattle / each,
-                rattle / rust
-            );
-        };
-        let a = shortest(turns, || rust.build(Some(0.5), 0));
-        let b = shortest(turns, || assert!(direct(&mut s, &warm) >= 1 << 32));
-        show("build", 1.0, a, b);
-        s.built = true;
-        for rounds in [1, 20, 1000] {
-            let turns = turns / rounds + 1;
-            let a = shortest(turns, || rust.solve(rounds));
-            let b = shortest(turns, || {
-                assert_eq!(direct(&mut s, &Call::Sweep(rounds)), 0);
-            });
-            show(&format!("sweep {rounds}"), rounds as f64, a, b);
+        work("build", 1.0, &[BUILD]);
+        work("sweep 1", 1.0, &[Call::Sweep(1)]);
+        work("sweep 4", 4.0, &[Call::Sweep(4)]);
+        work("sweep 64", 64.0, &[Call::Sweep(64)]);
+        let long: [Call; 16] = std::array::from_fn(|_| Call::Sweep(64));
+        work("sweep 64, 16 times", 1024.0, &long);
+        if joints == 4 || joints == 128 {
+            for call in [Call::WarmStart, Call::RemoveBias, Call::WriteBack] {
+                work(KINDS[call.kind()], 1.0, &[call]);
+            }
+            work("a whole step", 1.0, &STEP);
         }
-        let (mut bodies, mut left) = (s.bodies.clone(), s.rows.clone());
-        rust.left(&mut bodies, &mut left);
-        assert!(same(&bodies, &s.bodies) && same(&left, &s.rows));
+        assert!(both.agree());
     }
-    println!("bodies and rows are equal in bits after all of it");
+    println!("velocities, stored impulses and rows are equal in bits after all of it");
 }

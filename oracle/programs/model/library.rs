@@ -44,7 +44,7 @@ pub fn same_study(a: &Study, b: &Study) -> bool {
         && same(&a.rows, &b.rows)
 }
 
-/// A build or a sweep by the Rattle library on the study's own storage; its code.
+/// A call of a step by the Rattle library on the study's own storage, with no guards about it; its code.
 #[cfg(rattle)]
 pub fn direct(s: &mut Study, call: &Call) -> u64 {
     exported::direct(s, call)
@@ -284,7 +284,7 @@ mod exported {
     pub fn direct(s: &mut Study, call: &Call) -> u64 {
         let (b, bs) = (s.bodies.as_mut_ptr(), s.bodies.len());
         let (w, ws) = (s.words.as_ptr(), s.words.len());
-        let (n, ns) = (s.numbers.as_ptr(), s.numbers.len());
+        let (n, ns) = (s.numbers.as_mut_ptr(), s.numbers.len());
         let (r, rs) = (s.rows.as_mut_ptr(), s.rows.len());
         let [dt, unit, most] = s.settings;
         let built = s.built;
@@ -297,9 +297,19 @@ mod exported {
                 } => katydidzinc_build(
                     dt, unit, most, built, b, bs, w, ws, n, ns, r, rs, warm, c, substep,
                 ),
+                Call::WarmStart => {
+                    katydidzinc_warm_start(dt, unit, most, built, b, bs, w, ws, n, ns, r, rs) as u64
+                }
                 Call::Sweep(rounds) => {
                     katydidzinc_sweep(dt, unit, most, built, b, bs, w, ws, n, ns, r, rs, rounds)
                         as u64
+                }
+                Call::RemoveBias => {
+                    katydidzinc_remove_bias(dt, unit, most, built, b, bs, w, ws, n, ns, r, rs)
+                        as u64
+                }
+                Call::WriteBack => {
+                    katydidzinc_write_back(dt, unit, most, built, b, bs, w, ws, n, ns, r, rs) as u64
                 }
                 _ => unreachable!(),
             }

@@ -200,9 +200,24 @@ impl Prepared {
         }
     }
 
+    pub fn remove_bias(&mut self) {
+        for row in &mut self.rows {
+            row.remove_bias_from_rhs();
+        }
+    }
+
+    pub fn writeback(&mut self) {
+        for row in &self.rows {
+            row.writeback_impulses(&mut self.joints);
+        }
+    }
+
     /// As the model's storage has them.
-    pub fn left(&self, bodies: &mut [Real], rows: &mut [Real]) {
+    pub fn left(&self, bodies: &mut [Real], numbers: &mut [Real], rows: &mut [Real]) {
         put_vels(&self.bodies, bodies);
+        for (edge, n) in self.joints.iter().zip(numbers.chunks_exact_mut(JOINT)) {
+            records::put_impulses(edge, n);
+        }
         put_rows(&self.rows, rows);
     }
 }
