@@ -31,6 +31,7 @@ use Rattle.rows.specs.declared.joint_velocity_constraint.WritebackId.the-varian
 use Rattle.rows.specs.declared.joint_velocity_constraint.SolverVel.{SolverVel}
 use Rattle.rows.specs.declared.joint_velocity_constraint.SolverVels.{SolverVels}
 use Rattle.rows.specs.declared.joint_velocity_constraint.Solved.{Solved}
+use Rattle.model.specs.Layout.{rowWidth, numbersWidth}
 use Rattle.model.specs.Store.{rowOf, rowAt, putRow, putSeed, modelOf, jointAt}
 
 -- ---- one row between two velocities
@@ -48,9 +49,9 @@ abbrev pub putVels : List Float → SolverVels → List Float
 putVels out v =
     putThree (putThree out 0 (v .vel1 .linear .x) (v .vel1 .linear .y) (v .vel1 .angular)) 3 (v .vel2 .linear .x) (v .vel2 .linear .y) (v .vel2 .angular)
 
--- a row's 18 numbers and the six of two velocities are there
+-- a row's numbers and the six of two velocities are there
 abbrev pub hasRow : List Float → List Float → Bool
-hasRow row vels = leb 18 (length row) && leb 6 (length vels)
+hasRow row vels = leb rowWidth (length row) && leb 6 (length vels)
 
 -- one step of the row between the two velocities
 abbrev pub stepped : List Float → List Float → Solved
@@ -69,15 +70,15 @@ warmstart row vels = cond (hasRow row vels) (putVels vels (warmstartOf (rowAt ro
 
 -- the row without its bias
 unfoldable pub removeBias : List Float → List Float
-removeBias row = cond (leb 18 (length row)) (putRow row 0 (removeBiasOf (rowAt row 0))) row
+removeBias row = cond (leb rowWidth (length row)) (putRow row 0 (removeBiasOf (rowAt row 0))) row
 
 -- the id of a number, 4 times its kind (Dof, Limit, Motor) plus its axis; a number past these kinds is a lock of axis 3, which has no stored impulse
 abbrev pub idOf : ℕ → WritebackId
 idOf n = cond (ltb n 4) (Dof (n % 4)) (cond (ltb n 8) (Limit (n % 4)) (cond (ltb n 12) (Motor (n % 4)) (Dof 3)))
 
--- an impulse stored by its id in a joint's 42 numbers
+-- an impulse stored by its id in a joint's numbers
 unfoldable pub writeback : ℕ → Float → List Float → List Float
-writeback id p numbers = cond (leb 42 (length numbers)) (putSeed numbers 0 (idOf id) p) numbers
+writeback id p numbers = cond (leb numbersWidth (length numbers)) (putSeed numbers 0 (idOf id) p) numbers
 
 -- ---- a group of six rows
 
@@ -137,7 +138,7 @@ wordAt w i = getD w i 0
 -- the joint: its stored words would start with its two bodies
 unfoldable pub jointFrom : List ℕ → List Float → ImpulseJoint
 jointFrom w x =
-    jointAt (0 ∷ 0 ∷ wordAt w 0 ∷ wordAt w 1 ∷ wordAt w 2 ∷ wordAt w 3 ∷ wordAt w 4 ∷ wordAt w 5 ∷ wordAt w 6 ∷ []) (take 42 (drop 17 x)) 0
+    jointAt (0 ∷ 0 ∷ wordAt w 0 ∷ wordAt w 1 ∷ wordAt w 2 ∷ wordAt w 3 ∷ wordAt w 4 ∷ wordAt w 5 ∷ wordAt w 6 ∷ []) (take numbersWidth (drop 17 x)) 0
 
 unfoldable pub warmFrom : List ℕ → List Float → Warmstart
 warmFrom w x = cond (eqb (wordAt w 7) 0) Cold (Warm (at x 59))

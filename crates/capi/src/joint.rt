@@ -3,10 +3,11 @@
 // then of body 2. Where a slice is shorter than what a function reads or writes of it, nothing is
 // written.
 ghost use mathlib.Core.Path.{_≡_};
-ghost use Prim.Native.Nat.{_+_, _≤_, _<_};
+ghost use Prim.Native.Nat.{_+_, _*_, _≤_, _<_};
 ghost use lib.ListN.{length};
 ghost use Rattle.capi.specs.JointExports.{velAt, putThree, putVels, stepRow, stepVels, warmstart, removeBias, idOf, writeback, rowsAt, putSix, finalize, combineCoefficients, spring, paramsOf, angularLimit, bodyAt, jointFrom, warmFrom, impulsesFrom, madeFrom, putIf, putFirst, idNumber, putId, putIds, masksFrom, buildRows, buildIds, buildCount, roomyRows, roomyIds, roomyCount};
-ghost use Rattle.model.specs.Store.{modelOf};
+ghost use Rattle.model.specs.Layout.{rowWidth};
+ghost use Rattle.model.specs.Store.{rowAt, putRow, modelOf};
 ghost use Rattle.floats.specs.Operators.{bits};
 ghost use Rattle.rows.specs.IntegrationParameters.{invDtOf, maxCorrectiveVelocityOf};
 ghost use Rattle.rows.specs.GenericJoint.{maxImpulseOf};
@@ -15,12 +16,14 @@ ghost use Rattle.rows.specs.Update.{rowsArray};
 use floats::pose::Pose;
 use floats::rotation_ops::Rotation;
 use floats::vector::Vector;
-use model::store::joint_at;
-use model::store::put_row;
-use model::store::put_seed;
-use model::store::row_at;
+use model::layout::NUMBERS_WIDTH;
+use model::layout::ROW_WIDTH;
+use model::single_records::read_joint;
+use model::single_records::read_row;
+use model::single_records::write_impulse;
+use model::single_records::write_row;
+use rows::generic_joint::JointMotor;
 use rows::generic_joint::Masks;
-use rows::generic_joint::max_impulse;
 use rows::integration_parameters::IntegrationParameters;
 use rows::integration_parameters::SpringCoefficients;
 use rows::joint_constraint_builder::ImpulseJoint;
@@ -39,6 +42,21 @@ use rows::motor_model::MotorModel;
 use rows::row_ids::RowId;
 use rows::row_ids::RowIds;
 use rows::row_ids::row_ids;
+
+// Row k of a slice that holds it, and the slice with row k replaced.
+fn row_at(s: &[f32], k: usize) -> JointConstraint
+    requires { ⌜ k * rowWidth + rowWidth ≤ length (now s) ⌝ }
+    ensures { λ r. ⌜ r ≡ rowAt (now (s .entry)) k ⌝ }
+{
+    read_row(s, k)
+}
+
+fn put_row(s: &mut [f32], k: usize, row: JointConstraint)
+    requires { ⌜ k * rowWidth + rowWidth ≤ length (now s) ⌝ }
+    ensures { λ _. ⌜ now (s .exit) ≡ putRow (now (s .entry)) k row ⌝ }
+{
+    write_row(s, k, row);
+}
 
 // The velocity in the three numbers from `at` on.
 fn vel_at(vels: &[f32], at: usize) -> SolverVel
@@ -81,7 +99,7 @@ pub extern "C" fn katydidzinc_rows_step(row: &mut [f32], vels: &mut [f32])
     ensures { λ _. ⌜ now (row .exit) ≡ stepRow (now (row .entry)) (now (vels .entry)) ⌝ }
     ensures { λ _. ⌜ now (vels .exit) ≡ stepVels (now (row .entry)) (now (vels .entry)) ⌝ }
 {
-    if row.len() < 18 {
+    if row.len() < ROW_WIDTH {
         return;
     }
     if vels.len() < 6 {
@@ -99,7 +117,7 @@ pub extern "C" fn katydidzinc_rows_step(row: &mut [f32], vels: &mut [f32])
 pub extern "C" fn katydidzinc_rows_warmstart(row: &[f32], vels: &mut [f32])
     ensures { λ _. ⌜ now (vels .exit) ≡ warmstart (now (row .entry)) (now (vels .entry)) ⌝ }
 {
-    if row.len() < 18 {
+    if row.len() < ROW_WIDTH {
         return;
     }
     if vels.len() < 6 {
@@ -114,7 +132,7 @@ pub extern "C" fn katydidzinc_rows_warmstart(row: &[f32], vels: &mut [f32])
 pub extern "C" fn katydidzinc_rows_remove_bias(row: &mut [f32])
     ensures { λ _. ⌜ now (row .exit) ≡ removeBias (now (row .entry)) ⌝ }
 {
-    if row.len() < 18 {
+    if row.len() < ROW_WIDTH {
         return;
     }
     let c = row_at(row, 0);
@@ -139,16 +157,16 @@ fn id_of(id: u32) -> WritebackId
     WritebackId::Dof(3)
 }
 
-// A row's impulse stored in a joint's 42 numbers.
+// A row's impulse stored in a joint's numbers.
 #[no_mangle]
 pub extern "C" fn katydidzinc_rows_writeback(id: u32, impulse: f32, numbers: &mut [f32])
     ensures { λ _. ⌜ now (numbers .exit) ≡ writeback id impulse (now (numbers .entry)) ⌝ }
 {
-    if numbers.len() < 42 {
+    if numbers.len() < NUMBERS_WIDTH {
         return;
     }
     let which = id_of(id);
-    put_seed(numbers, 0, which, impulse);
+    write_impulse(numbers, 0, which, impulse);
 }
 
 fn rows_at(rows: &[f32]) -> [JointConstraint; 6]
@@ -267,7 +285,7 @@ pub extern "C" fn katydidzinc_max_corrective_velocity(length_unit: f32, normaliz
 pub extern "C" fn katydidzinc_max_impulse(max_force: f32, dt: f32) -> f32
     ensures { λ r. ⌜ r ≡ maxImpulseOf «max_force» dt ⌝ }
 {
-    max_impulse(max_force, dt)
+    JointMotor::max_impulse(max_force, dt)
 }
 
 #[no_mangle]
@@ -327,7 +345,7 @@ fn joint_from(words: &[u32], numbers: &[f32]) -> ImpulseJoint
         words[5],
         words[6],
     ];
-    joint_at(&all, &numbers[17..59], 0)
+    read_joint(&all, &numbers[17..59], 0)
 }
 
 fn warm_from(words: &[u32], numbers: &[f32]) -> Warmstart

@@ -20,7 +20,7 @@ use model::calls::sweep;
 use model::calls::warm_start;
 use model::calls::write_back;
 use model::header::Header;
-use model::store::WORLD;
+use model::layout::WORLD;
 use print::ended;
 use print::number;
 use print::text;

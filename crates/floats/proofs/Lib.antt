@@ -1,5 +1,6 @@
 pub mod NanLaws
 pub mod ScalarLaws
+pub mod UtilsLaws
 pub mod BitsLaws
 pub mod SignBit
 pub mod Values
@@ -9,6 +10,7 @@ pub mod NearestRoot
 pub mod SqrtLaws
 pub mod SqrtNearest
 pub mod SqrtCases
+pub mod LengthLaws
 pub mod Series
 pub mod Arc
 pub mod ScaledRound

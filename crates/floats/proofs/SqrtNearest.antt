@@ -11,6 +11,7 @@ use lib.Dec.{T, leb, leb→le, nleb→lt}
 use lib.Pow.{pow-add, pow-mono, pow-pos, shl-lt}
 use lib.IntN.{ℤ}
 use lib.Ieee.{Float, nan, inf, fin, binary32, down, size, units, fits}
+use lib.Ieee.Bits.{is-true}
 use lib.Ieee.Fits.{down-pos}
 use lib.Ieee.Exact.{HasValue, units-val}
 use Rattle.floats.specs.Bits.{partsOf, unitsOf}
@@ -154,11 +155,14 @@ counted (fin s m e) a h = record {
 
 -- ---- the theorem
 
+holds : {b : Bool} → b ≡ true → T b
+holds h = subst T (sym h) tt
+
 module _ (t k : ℕ) (lo : 2 ^ 46 ≤ t) where
   nearest-at : (b : ℕ) → b + 1 ≡ (isqrt (4 * t) + 1) / 2 → Nearest (t * (2 ^ k * 2 ^ k)) ((b + 1) * 2 ^ k)
   nearest-at b h = record {
-    above = λ m e f l. let y = digits-of m e f in rw (y .size) (above-by b t (2 ^ k) h (pow-pos k) (y .digits * 2 ^ y .power) (above-gap b k (y .digits) (y .power) lead (y .small) (rw (y .size) at l)));
-    below = λ m e f l. let y = digits-of m e f in rw (y .size) (under (y .digits * 2 ^ y .power) (rw (y .size) at l) (below-gap b k (y .digits) (y .power) lead (y .small) (rw (y .size) at l)));
+    above = λ m e f l. let y = digits-of m e (holds f) in rw (y .size) (above-by b t (2 ^ k) h (pow-pos k) (y .digits * 2 ^ y .power) (above-gap b k (y .digits) (y .power) lead (y .small) (rw (y .size) at l)));
+    below = λ m e f l. let y = digits-of m e (holds f) in rw (y .size) (under (y .digits * 2 ^ y .power) (rw (y .size) at l) (below-gap b k (y .digits) (y .power) lead (y .small) (rw (y .size) at l)));
   }
     where
       lead : 2 ^ 23 ≤ b + 1
@@ -175,7 +179,7 @@ module _ (t k : ℕ) (lo : 2 ^ 46 ≤ t) where
       before q h = omega arith
 
 -- where the number under the root is d·2^f, for a d of 24 digits
-module _ (m : ℕ) (e : ℤ) (d f : ℕ) (whole : unitsOf m e * 2 ^ 149 ≡ d * 2 ^ f) (lo : 2 ^ 23 ≤ d) (hi : d < 2 ^ 24) (f-lo : 23 ≤ f) (f-hi : f ≤ 402) where
+module _ (m : ℕ) (e : ℤ) (d f : ℕ) (whole : unitsOf m e * 2 ^ 149 ≡ d * 2 ^ f) (lo : 2 ^ 23 ≤ d) (hi : d < 2 ^ 24) (f-lo : 23 ≤ f) (f-hi : f ≤ 402) (fitting : T (fits binary32 (fin false m e))) where
   q-bounds : (2 ^ 23 ≤ (isqrt (4 * kept d f) + 1) / 2) × ((isqrt (4 * kept d f) + 1) / 2 < 2 ^ 24)
   q-bounds = omega (arith, twice-low (kept d f) (kept-low d f lo hi f-lo), twice-high (kept d f) (kept-high d f lo hi f-lo))
 
@@ -187,10 +191,11 @@ module _ (m : ℕ) (e : ℤ) (d f : ℕ) (whole : unitsOf m e * 2 ^ 149 ≡ d * 
       let is : nearestRoot (unitsOf m e * 2 ^ 149) ≡ units binary32 false q k = ap nearestRoot whole ∙ rounded d f lo hi f-lo in
       let v = counted (units binary32 false q k) (q * 2 ^ k) (units-val binary32 false q k (in-range q k (q-bounds .0) (q-bounds .1) k-le)) in
       record {
+        radicand = is-true _ fitting;
         significand = v .significand;
         exponent = v .exponent;
         finite = is ∙ v .is;
-        held = subst (λ (x : Float). T (fits binary32 x)) (sym is) (units-fits q k (q-bounds .0) (q-bounds .1) k-le);
+        root = is-true _ (subst (λ (x : Float). T (fits binary32 x)) (sym is) (units-fits q k (q-bounds .0) (q-bounds .1) k-le));
         nearest = rw (whole, kept-whole d f lo hi f-lo, v .size) (nearest-of (kept d f) k (kept-low d f lo hi f-lo) q refl);
       }
 
@@ -205,7 +210,8 @@ sqrt-nearest m e h above =
     (shifted-low (y .digits) pos (y .small))
     (shifted-high (y .digits) pos (y .small))
     (omega arith)
-    (omega (arith, y .top)))
+    (omega (arith, y .top))
+    h)
   where
     no : m ≡ 0 → ⊥
     no z = omega arith

@@ -1,11 +1,12 @@
 pub mod Operators
+pub mod Constants
 pub mod Scalar
 pub mod Sign
 pub mod Utils
 pub mod Bits
 pub mod Sqrt
-pub mod CorrectlyRounded
 pub mod Vector
+pub mod CorrectlyRounded
 pub mod Rotation
 pub mod Pose
 pub mod Angle

@@ -14,7 +14,7 @@ use model::calls::remove_bias;
 use model::calls::sweep;
 use model::calls::write_back;
 use model::header::Header;
-use model::store::WORLD;
+use model::layout::WORLD;
 use print::ended;
 use print::millionths;
 use print::number;

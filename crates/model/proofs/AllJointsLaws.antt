@@ -12,6 +12,7 @@ use Rattle.rows.specs.Update.{rowsArray, blankRow}
 use Rattle.rows.specs.declared.joint_velocity_constraint.JointConstraint.{JointConstraint}
 use Rattle.rows.specs.declared.joint_velocity_constraint.Rows.{Rows}
 use Rattle.rows.proofs.RowArrays.{rowsArray-filled}
+use Rattle.model.specs.Layout.{rowWidth}
 use Rattle.model.specs.Store.{rowAt}
 use Rattle.model.specs.JointRows.{rowCount}
 use Rattle.model.specs.Model.{Model, withBodies, Sound, bodyCount, jointCount, rowCapacity, rowsBefore, totalRows}
@@ -52,7 +53,7 @@ module _ {A : Type 0} (work : ℕ → A → A) (words : List ℕ) (n : ℕ) wher
 
 -- joint j's rows lie within a storage that holds the total
 pub rows-within : (words : List ℕ) (numbers rows : List Float) {n j first count : ℕ} → totalRows words numbers ≤ rowCapacity rows → n ≡ jointCount words numbers
-    → j < n → first ≡ rowsBefore words j → count ≡ rowCount words j → (first + count) * 18 ≤ length rows
+    → j < n → first ≡ rowsBefore words j → count ≡ rowCount words j → (first + count) * rowWidth ≤ length rows
 rows-within words numbers rows {j = j} room e h b c =
     omega (arith, b, c, rows-fit rows (totalRows words numbers) room, rowsBefore-mono words j (jointCount words numbers) (omega arith))
 

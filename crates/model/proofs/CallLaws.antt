@@ -3,28 +3,31 @@
 use Prim.Native.Nat.{ℕ, _<_, _≤_}
 use mathlib.Core.Path.{_≡_, refl, sym, ap, _∙_}
 use mathlib.Core.Bool.{Bool, true, false, not, _||_}
-use mathlib.Core.List.{List, [], _∷_, _++_, append-assoc}
+use mathlib.Core.List.{List, [], _∷_, _++_}
 use mathlib.Core.Logic.{_≢_, _⊎_, inl, inr}
+use native.Mathlib.Omega.{arith}
 use borrow.Author.Tests.{ne-eqb, eqb-true, eqb-false, lt-ltb, le-ltb}
 use lib.Dec.{eqb}
 use lib.Ieee.{Float}
 use Rattle.rows.specs.declared.joint_constraint_builder.Warmstart.{Warmstart}
 use Rattle.rows.specs.declared.joint_velocity_constraint.Rows.{Rows}
-use Rattle.rows.specs.declared.generic_joint.Masks.{Masks}
 use Rattle.rows.specs.declared.row_ids.RowIds.{RowIds}
 use Rattle.rows.specs.RowIds.{rowIdsArray}
 use Rattle.rows.specs.Update.{rowsArray}
+use Rattle.rows.proofs.RowArrays.{rowsArray-rows, rowIdsArray-ids}
 use Rattle.model.specs.Store.{masksAt}
-use Rattle.model.specs.JointRows.{rowCount}
+use Rattle.model.specs.JointRows.{jointIds, rowCount, rowsList}
 use Rattle.model.specs.Model.{Model, bodyCount, jointCount, rowsBefore, Sound, Room}
-use Rattle.model.specs.Refusals.{Rule, refusal, finitePose, finiteWarm, modelRules, storageRule, sweepRule, builtRule, readsRows, seedsRule, bodyRule, jointRule}
-use Rattle.model.specs.Calls.{Call, outcome, rulesOf, grantedOf, run, rowsFrom, rowsOf}
-use Rattle.model.specs.Calls.Call.{load, place, build, warmStart, sweep, removeBias, writeBack, readRows, readVelocity}
-use Rattle.model.specs.Calls.Answer.{refused}
-use Rattle.model.specs.Answers.{noRows, rowsAnswerOf}
+use Rattle.model.specs.Refusals.{mostRounds, Rule, refusal, modelRules, storageRule, sweepRule, builtRule, readsRows, seedsRule, bodyRule, jointRule}
+use Rattle.model.specs.Calls.{Call, outcome, firstRules, ownRules, rulesOf, grantedOf, run, rowsFrom, rowsOf}
+use Rattle.model.specs.Calls.Call.{readRows}
+use Rattle.model.specs.Calls.Answer.{rowsRead, refused}
+use Rattle.model.specs.Answers.{idsList, rowsAnswer, noRows, rowsAnswerOf}
 use Rattle.model.specs.declared.calls.Plain.{Plain}
 use Rattle.model.specs.declared.calls.RowsAnswer.{RowsAnswer}
-use Rattle.model.proofs.RefusalLaws.{by-cases, Numbered, rule-holds, rule-fails, granted-append, refused-append, model-numbered, storage-numbered, sound-of, room-of}
+use Rattle.model.proofs.JointRowsLaws.{few-rows}
+use Rattle.model.proofs.StoredRows.{rowsFrom-length}
+use Rattle.model.proofs.RefusalLaws.{by-cases, Numbered, rule-holds, rule-fails, granted-append, refused-append, model-numbered, first-numbered, call-numbered, Hold, all-hold, ruleOf, hold-number, sound-of, room-of}
 
 or-true : (t : Bool) → (t || true) ≡ true
 or-true true = refl
@@ -35,57 +38,6 @@ or-true false = refl
 -- rules 1 to 7, and rule 8
 abbrev pub storageRules : Model → Bool → List Float → List Rule
 storageRules m arguments rows = modelRules m arguments ++ (storageRule m rows ∷ [])
-
--- the rules of the model and of the row storage; place and a velocity read are handed none
-abbrev pub firstRules : Call → Model → List Float → List Rule
-firstRules load m rows = storageRules m true rows
-firstRules (place i pose) m rows = modelRules m (finitePose pose)
-firstRules (build warm substep) m rows = storageRules m (finiteWarm warm) rows
-firstRules warmStart m rows = storageRules m true rows
-firstRules (sweep n) m rows = storageRules m true rows
-firstRules removeBias m rows = storageRules m true rows
-firstRules writeBack m rows = storageRules m true rows
-firstRules (readRows j) m rows = storageRules m true rows
-firstRules (readVelocity i) m rows = modelRules m true
-
--- the call's own, rules 9 to 11
-abbrev pub ownRules : Call → Model → List Rule
-ownRules load m = []
-ownRules (place i pose) m = bodyRule m i ∷ []
-ownRules (build warm substep) m = seedsRule m warm substep ∷ []
-ownRules warmStart m = builtRule m ∷ []
-ownRules (sweep n) m = sweepRule n ∷ builtRule m ∷ []
-ownRules removeBias m = builtRule m ∷ []
-ownRules writeBack m = builtRule m ∷ []
-ownRules (readRows j) m = builtRule m ∷ jointRule m j ∷ []
-ownRules (readVelocity i) m = bodyRule m i ∷ []
-
-module _ (m : Model) (rows : List Float) where
-  after-storage : (arguments : Bool) (own : List Rule) → modelRules m arguments ++ (storageRule m rows ∷ own) ≡ storageRules m arguments rows ++ own
-  after-storage arguments own = sym (append-assoc (modelRules m arguments) (storageRule m rows ∷ []) own)
-
-  rules-split : (c : Call) → rulesOf c m rows ≡ firstRules c m rows ++ ownRules c m
-  unfolding rulesOf
-  rules-split load = after-storage true []
-  rules-split (place i pose) = refl
-  rules-split (build warm substep) = after-storage (finiteWarm warm) (seedsRule m warm substep ∷ [])
-  rules-split warmStart = after-storage true (builtRule m ∷ [])
-  rules-split (sweep n) = after-storage true (sweepRule n ∷ builtRule m ∷ [])
-  rules-split removeBias = after-storage true (builtRule m ∷ [])
-  rules-split writeBack = after-storage true (builtRule m ∷ [])
-  rules-split (readRows j) = after-storage true (builtRule m ∷ jointRule m j ∷ [])
-  rules-split (readVelocity i) = refl
-
-  first-numbered : (c : Call) → Numbered (firstRules c m rows)
-  first-numbered load = storage-numbered m true rows
-  first-numbered (place i pose) = model-numbered m (finitePose pose)
-  first-numbered (build warm substep) = storage-numbered m (finiteWarm warm) rows
-  first-numbered warmStart = storage-numbered m true rows
-  first-numbered (sweep n) = storage-numbered m true rows
-  first-numbered removeBias = storage-numbered m true rows
-  first-numbered writeBack = storage-numbered m true rows
-  first-numbered (readRows j) = storage-numbered m true rows
-  first-numbered (readVelocity i) = model-numbered m true
 
 -- ---- a call refused, and a call granted
 
@@ -101,19 +53,32 @@ module _ (c : Call) (m : Model) (rows : List Float) where
 -- with k what the rules of the model and of the row storage come to
 module _ (c : Call) (m : Model) (rows : List Float) {k : ℕ} (e : k ≡ refusal (firstRules c m rows)) where
   pub refused-early : k ≢ 0 → outcome (refused k) m rows ≡ run c m rows
+  unfolding rulesOf
   refused-early n =
-      let same = ap refusal (rules-split m rows c) ∙ refused-append (firstRules c m rows) (ownRules c m) (λ z. n (e ∙ z)) in
+      let same = refused-append (firstRules c m rows) (ownRules c m) (λ z. n (e ∙ z)) in
       run-refused c m rows (e ∙ sym same) n
 
   -- once these hold, the call's own rules decide
   own-decide : k ≡ 0 → refusal (rulesOf c m rows) ≡ refusal (ownRules c m)
-  own-decide z = ap refusal (rules-split m rows c) ∙ granted-append (firstRules c m rows) (ownRules c m) (first-numbered m rows c) (sym e ∙ z)
+  unfolding rulesOf
+  own-decide z = granted-append (firstRules c m rows) (ownRules c m) (first-numbered m c rows) (sym e ∙ z)
 
   pub refused-late : {r : ℕ} → k ≡ 0 → r ≡ refusal (ownRules c m) → r ≢ 0 → outcome (refused r) m rows ≡ run c m rows
   refused-late z d n = run-refused c m rows (d ∙ sym (own-decide z)) n
 
   pub granted-late : k ≡ 0 → refusal (ownRules c m) ≡ 0 → grantedOf c m rows ≡ run c m rows
   granted-late z d = run-granted c m rows (own-decide z ∙ d)
+
+-- ---- where a call is granted, each of its own rules holds
+
+hold-last : (qs rs : List Rule) → Hold (qs ++ rs) → Hold rs
+hold-last [] rs h = h
+hold-last (q ∷ qs) rs h = hold-last qs rs (h .1)
+
+pub own-rule : (k : ℕ) (c : Call) (m : Model) (rows : List Float) → refusal (rulesOf c m rows) ≡ 0 → ruleOf k (ownRules c m) ≡ true
+unfolding rulesOf
+own-rule k c m rows e =
+    hold-number k (ownRules c m) (hold-last (firstRules c m rows) (ownRules c m) (all-hold (rulesOf c m rows) (call-numbered m c rows) e))
 
 -- ---- what rules 1 to 8 see to
 
@@ -136,13 +101,13 @@ module _ (m : Model) (arguments : Bool) (rows : List Float) {k : ℕ} (e : k ≡
 -- ---- a call's own rules: each fails, or holds and leaves the rest to decide
 
 module _ (rest : List Rule) where
-  pub too-many : (n : ℕ) → 1000 < n → 9 ≡ refusal (sweepRule n ∷ rest)
+  pub too-many : (n : ℕ) → mostRounds < n → 9 ≡ refusal (sweepRule n ∷ rest)
   unfolding sweepRule
-  too-many n h = sym (rule-fails (sweepRule n) rest (ap not (lt-ltb 1000 n h)))
+  too-many n h = sym (rule-fails (sweepRule n) rest (ap not (lt-ltb mostRounds n h)))
 
-  pub few-rounds : (n : ℕ) → n ≤ 1000 → refusal (sweepRule n ∷ rest) ≡ refusal rest
+  pub few-rounds : (n : ℕ) → n ≤ mostRounds → refusal (sweepRule n ∷ rest) ≡ refusal rest
   unfolding sweepRule
-  few-rounds n h = rule-holds (sweepRule n) rest (ap not (le-ltb 1000 n h))
+  few-rounds n h = rule-holds (sweepRule n) rest (ap not (le-ltb mostRounds n h))
 
   module _ (m : Model) where
     pub not-built : m .built ≡ false → 10 ≡ refusal (builtRule m ∷ rest)
@@ -178,17 +143,37 @@ module _ (rest : List Rule) where
     unfolding jointRule
     some-joint j {n} e h = rule-holds (jointRule m j) rest (rw (← e) (lt-ltb j n h))
 
--- ---- a row read's answer, in the form in which the program gives it
+-- ---- a row read's answer: the outcome as every call's, and how its arrays are filled
+
+read-ids : (j : ℕ) (m : Model) → idsList (rowIdsArray (masksAt (m .words) j)) ≡ jointIds (m .words) j
+unfolding jointIds
+read-ids j m = rowIdsArray-ids (masksAt (m .words) j)
+
+read-rows : (j : ℕ) (m : Model) (rows : List Float) → rowsList (rowsArray (rowsFrom rows (rowsBefore (m .words) j) (rowCount (m .words) j))) ≡ rowsOf (m .words) rows j
+unfolding rowsOf
+read-rows j m rows =
+    let k = rowsBefore (m .words) j in
+    let n = rowCount (m .words) j in
+    rowsArray-rows (rowsFrom rows k n) (omega (arith, rowsFrom-length rows k n, few-rows (m .words) j {n = n} refl))
 
 module _ (j : ℕ) (m : Model) (rows : List Float) where
-  pub rows-refused : {k : ℕ} {r : RowsAnswer} → r ≡ noRows (Plain.Refused k) → outcome (refused k) m rows ≡ run (readRows j) m rows
-      → r ≡ rowsAnswerOf (masksAt (m .words) j) (run (readRows j) m rows .answer)
-  unfolding rowsAnswerOf
-  rows-refused e o = e ∙ ap (λ o. rowsAnswerOf (masksAt (m .words) j) (o .answer)) o
+  abbrev Promised : RowsAnswer → Type 0
+  Promised r = (outcome (rowsAnswer r) m rows ≡ run (readRows j) m rows) × (r ≡ rowsAnswerOf (masksAt (m .words) j) (run (readRows j) m rows .answer))
 
-  pub rows-granted : {masks : Masks} {ids : RowIds} {first count : ℕ} {read : Rows} → masks ≡ masksAt (m .words) j → ids ≡ rowIdsArray masks
+  pub rows-refused : {k : ℕ} {r : RowsAnswer} → r ≡ noRows (Plain.Refused k) → outcome (refused k) m rows ≡ run (readRows j) m rows → Promised r
+  unfolding rowsAnswerOf
+  rows-refused e o = (rw e o, e ∙ ap (λ o. rowsAnswerOf (masksAt (m .words) j) (o .answer)) o)
+
+  pub rows-granted : {ids : RowIds} {first count : ℕ} {read : Rows} → ids ≡ rowIdsArray (masksAt (m .words) j)
       → first ≡ rowsBefore (m .words) j → count ≡ rowCount (m .words) j → read ≡ rowsArray (rowsFrom rows first count)
-      → grantedOf (readRows j) m rows ≡ run (readRows j) m rows
-      → _≡_ {A = RowsAnswer} (record { answer = Plain.Granted; ids = ids; rows = read }) (rowsAnswerOf (masksAt (m .words) j) (run (readRows j) m rows .answer))
+      → grantedOf (readRows j) m rows ≡ run (readRows j) m rows → Promised (record { answer = Plain.Granted; ids = ids; rows = read })
   unfolding rowsAnswerOf grantedOf rowsOf
-  rows-granted a i f c r o = rw (r, f, c, i, a) (ap (λ o. rowsAnswerOf (masksAt (m .words) j) (o .answer)) o)
+  rows-granted {read = read} i f c r o =
+      let k = rowsBefore (m .words) j in
+      let n = rowCount (m .words) j in
+      let same : read ≡ rowsArray (rowsFrom rows k n) = rw (← f, ← c) r in
+      let first = ap idsList i ∙ read-ids j m in
+      let last = ap rowsList same ∙ read-rows j m rows in (
+        ap (λ is. outcome (rowsRead is (rowsList read)) m rows) first ∙ ap (λ rs. outcome (rowsRead (jointIds (m .words) j) rs) m rows) last ∙ o,
+        rw (r, f, c, i) (ap (λ o. rowsAnswerOf (masksAt (m .words) j) (o .answer)) o),
+      )

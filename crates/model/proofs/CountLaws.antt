@@ -12,31 +12,32 @@ use borrow.Author.Tests.{ltb-true, ltb-false}
 use lib.Dec.{ltb}
 use lib.ListN.{length}
 use lib.Ieee.{Float}
+use Rattle.model.specs.Layout.{rowWidth, bodyWidth, wordsWidth, numbersWidth}
 use Rattle.model.specs.JointRows.{rowCount}
 use Rattle.model.specs.Model.{bodyCount, jointCount, rowCapacity, rowsBefore}
 use Rattle.model.proofs.JointRowsLaws.{few-rows}
 
 -- ---- bodies
 
-pub body-there : (b : List Float) (i : ℕ) → i < bodyCount b → i * 10 + 10 ≤ length b
+pub body-there : (b : List Float) (i : ℕ) → i < bodyCount b → i * bodyWidth + bodyWidth ≤ length b
 unfolding bodyCount
 body-there b i h = omega arith
 
-pub there-body : (b : List Float) (i : ℕ) → i * 10 + 10 ≤ length b → i < bodyCount b
+pub there-body : (b : List Float) (i : ℕ) → i * bodyWidth + bodyWidth ≤ length b → i < bodyCount b
 unfolding bodyCount
 there-body b i h = omega arith
 
-pub bodies-fit : (b : List Float) → bodyCount b * 10 ≤ length b
+pub bodies-fit : (b : List Float) → bodyCount b * bodyWidth ≤ length b
 unfolding bodyCount
 bodies-fit b = omega arith
 
 -- ---- rows that a storage has room for
 
-pub rows-fit : (rows : List Float) (t : ℕ) → t ≤ rowCapacity rows → t * 18 ≤ length rows
+pub rows-fit : (rows : List Float) (t : ℕ) → t ≤ rowCapacity rows → t * rowWidth ≤ length rows
 unfolding rowCapacity
 rows-fit rows t h = omega arith
 
-pub fit-rows : (rows : List Float) (t : ℕ) → t * 18 ≤ length rows → t ≤ rowCapacity rows
+pub fit-rows : (rows : List Float) (t : ℕ) → t * rowWidth ≤ length rows → t ≤ rowCapacity rows
 unfolding rowCapacity
 fit-rows rows t h = omega arith
 
@@ -66,23 +67,23 @@ module _ (a b : ℕ) where
       go false = g
 
 module _ (words : List ℕ) (numbers : List Float) where
-  pub joints-words : jointCount words numbers * 9 ≤ length words
+  pub joints-words : jointCount words numbers * wordsWidth ≤ length words
   unfolding jointCount
-  joints-words = omega (arith, lesser-left (length words / 9) (length numbers / 42))
+  joints-words = omega (arith, lesser-left (length words / wordsWidth) (length numbers / numbersWidth))
 
-  pub joints-numbers : jointCount words numbers * 42 ≤ length numbers
+  pub joints-numbers : jointCount words numbers * numbersWidth ≤ length numbers
   unfolding jointCount
-  joints-numbers = omega (arith, lesser-right (length words / 9) (length numbers / 42))
+  joints-numbers = omega (arith, lesser-right (length words / wordsWidth) (length numbers / numbersWidth))
 
-  pub joint-words : (j : ℕ) → j < jointCount words numbers → j * 9 + 9 ≤ length words
+  pub joint-words : (j : ℕ) → j < jointCount words numbers → j * wordsWidth + wordsWidth ≤ length words
   joint-words j h = omega (arith, joints-words)
 
-  pub joint-numbers : (j : ℕ) → j < jointCount words numbers → j * 42 + 42 ≤ length numbers
+  pub joint-numbers : (j : ℕ) → j < jointCount words numbers → j * numbersWidth + numbersWidth ≤ length numbers
   joint-numbers j h = omega (arith, joints-numbers)
 
-  pub joint-there : (j : ℕ) → j * 9 + 9 ≤ length words → j * 42 + 42 ≤ length numbers → j < jointCount words numbers
+  pub joint-there : (j : ℕ) → j * wordsWidth + wordsWidth ≤ length words → j * numbersWidth + numbersWidth ≤ length numbers → j < jointCount words numbers
   unfolding jointCount
-  joint-there j h g = below-lesser (length words / 9) (length numbers / 42) j (omega arith) (omega arith)
+  joint-there j h g = below-lesser (length words / wordsWidth) (length numbers / numbersWidth) j (omega arith) (omega arith)
 
 -- ---- where a joint's rows begin
 

@@ -10,7 +10,7 @@ use lib.ListN.{length, getD, set, take, drop, drop-of-length-le}
 use lib.Seq.{drop-cons, getD-take, length-take-le}
 use lib.Ieee.{Float, nan}
 use Rattle.floats.specs.Operators.{bits}
-use Rattle.rows.specs.RowIds.{rowIds, filled, rowIdsArray}
+use Rattle.rows.specs.RowIds.{filled, rowIdsArray}
 use Rattle.rows.specs.Update.{rowsArray}
 use Rattle.rows.specs.Builder.{builderUpdateOf}
 use Rattle.rows.specs.Step.{stepOf, removeBiasOf}
@@ -29,8 +29,9 @@ use Rattle.rows.specs.declared.row_ids.RowIds.{RowIds}
 use Rattle.rows.proofs.Filled.{set-filled, length-filled}
 use Rattle.rows.proofs.RowIdsCount.{at-most-six}
 use Rattle.rows.proofs.RowArrays.{rowsArray-len, rowsArray-rows, rowIdsArray-len, rowIdsArray-id, length-builderUpdateOf}
+use Rattle.model.specs.Layout.{rowWidth}
 use Rattle.model.specs.Store.{rowAt, putRow, velAt, putVel, solverPoseAt, jointAt, masksAt, body1At, body2At, putSeed}
-use Rattle.model.specs.JointRows.{State, state, rowCount, rowsList, putRows, buildJoint, impulsesAt, sweepRow, sweepJoint, warmstartRow, warmstartJoint, removeBiasJoint, writeBackIds}
+use Rattle.model.specs.JointRows.{State, state, jointIds, rowCount, rowsList, putRows, buildJoint, impulsesAt, sweepRow, sweepJoint, warmstartRow, warmstartJoint, removeBiasJoint, writeBackIds}
 
 pub less : (n i : ℕ) → i < n → n - i ≡ suc (n - (i + 1))
 less n i h = omega arith
@@ -47,7 +48,7 @@ fill-turn x l f len snoc m i {y = y} h e r =
 
 -- ---- impulses read
 
-impulse-read : (s : List Float) (k : ℕ) → rowAt s k .impulse ≡ getD s (k * 18) nan
+impulse-read : (s : List Float) (k : ℕ) → rowAt s k .impulse ≡ getD s (k * rowWidth) nan
 unfolding rowAt
 impulse-read s k = rw add-zero
 
@@ -65,7 +66,7 @@ impulses-snoc s k (suc n) =
 
 -- one more impulse
 pub impulse-turn : (s : List Float) (k i : ℕ) {out : List Float} → i < 6 → out ≡ filled 6 (bits 0) (impulsesAt s k i)
-    → set out i (getD s ((k + i) * 18) nan) ≡ filled 6 (bits 0) (impulsesAt s k (i + 1))
+    → set out i (getD s ((k + i) * rowWidth) nan) ≡ filled 6 (bits 0) (impulsesAt s k (i + 1))
 impulse-turn s k i h e =
     fill-turn (bits 0) (impulsesAt s k) (λ n. rowAt s (k + n) .impulse) (length-impulsesAt s k) (impulses-snoc s k) 6 i h e (rw impulse-read)
 
@@ -89,12 +90,12 @@ put-done s k i n l g h = rw (drop-of-length-le (take n l) {i = i} (omega (arith,
 -- ---- rows made
 
 pub few-rows : (words : List ℕ) (j : ℕ) {n : ℕ} → n ≡ rowCount words j → n ≤ 6
-unfolding rowCount
+unfolding jointIds rowCount
 few-rows words j e = omega (arith, e, at-most-six (masksAt words j))
 
 pub length-built : (params : IntegrationParameters) (substep : ℕ) (warm : Warmstart) (body1 body2 : SolverPose) (words : List ℕ) (numbers : List Float) (j : ℕ) (prevs : List Float)
     → length prevs ≡ 6 → length (builderUpdateOf params substep warm body1 body2 (jointAt words numbers j) prevs) ≡ rowCount words j
-unfolding rowCount jointAt masksAt
+unfolding jointIds rowCount jointAt masksAt
 length-built params substep warm body1 body2 words numbers j prevs six = length-builderUpdateOf params substep warm body1 body2 (jointAt words numbers j) prevs six
 
 module _ (params : IntegrationParameters) (substep : ℕ) (warm : Warmstart) (body1 body2 : SolverPose) (words : List ℕ) (numbers : List Float) (j : ℕ)
@@ -162,25 +163,21 @@ bias-done n i k rows h = rw (none n i h)
 
 -- ---- impulses written back
 
--- the joint's ids
-abbrev pub idsOf : List ℕ → ℕ → List WritebackId
-idsOf words j = rowIds 2 1 (masksAt words j)
-
 pub ids-len : (words : List ℕ) (j : ℕ) {ids : RowIds} → ids ≡ rowIdsArray (masksAt words j) → ids .len ≡ rowCount words j
-unfolding rowCount
+unfolding jointIds rowCount
 ids-len words j e = ap (λ m. m .len) e ∙ rowIdsArray-len (masksAt words j)
 
 -- the ids left at turn i, once the turn's impulse is stored
 pub back-turn : (rows : List Float) (words : List ℕ) (k j i : ℕ) (numbers : List Float) (d : RowId) {ids : RowIds} {numbers′ : List Float}
-    → i < rowCount words j → ids ≡ rowIdsArray (masksAt words j) → numbers′ ≡ putSeed numbers j (getD (ids .ids) i d .id) (getD rows ((k + i) * 18) nan)
-    → writeBackIds rows (k + (i + 1)) j (drop (i + 1) (idsOf words j)) numbers′ ≡ writeBackIds rows (k + i) j (drop i (idsOf words j)) numbers
-unfolding writeBackIds rowCount
+    → i < rowCount words j → ids ≡ rowIdsArray (masksAt words j) → numbers′ ≡ putSeed numbers j (getD (ids .ids) i d .id) (getD rows ((k + i) * rowWidth) nan)
+    → writeBackIds rows (k + (i + 1)) j (drop (i + 1) (jointIds words j)) numbers′ ≡ writeBackIds rows (k + i) j (drop i (jointIds words j)) numbers
+unfolding writeBackIds jointIds rowCount
 back-turn rows words k j i numbers d {ids} h e g =
-    let is : List WritebackId = idsOf words j in
+    let is : List WritebackId = jointIds words j in
     let r : getD (ids .ids) i d .id ≡ getD is i (Dof 0) = ap (λ m. getD (m .ids) i d .id) e ∙ rowIdsArray-id (masksAt words j) i d (Dof 0) h in
     rw (drop-cons is i (Dof 0) h, g, r, ← impulse-read rows (k + i), ← add-assoc k i 1, add-one i)
 
 pub back-done : (rows : List Float) (words : List ℕ) (k j i : ℕ) (numbers : List Float) {n : ℕ} → n ≡ rowCount words j → n ≤ i
-    → writeBackIds rows k j (drop i (idsOf words j)) numbers ≡ numbers
+    → writeBackIds rows k j (drop i (jointIds words j)) numbers ≡ numbers
 unfolding writeBackIds rowCount
-back-done rows words k j i numbers e h = rw (drop-of-length-le (idsOf words j) {i = i} (omega (arith, e)))
+back-done rows words k j i numbers e h = rw (drop-of-length-le (jointIds words j) {i = i} (omega (arith, e)))

@@ -8,7 +8,7 @@ use mathlib.Core.List.{List, [], _∷_, _++_}
 use native.Mathlib.Nat.{zero-add, add-zero, add-assoc}
 use native.Mathlib.Omega.{arith}
 use borrow.Author.Tests.{eqb-true, eqb-false, ne-eqb, ltb-true, ltb-false, leb-true}
-use lib.Dec.{eqb, ltb, leb, lit<, lit≤}
+use lib.Dec.{eqb, ltb, leb, lit≤}
 use lib.ListN.{length, getD}
 use lib.Ieee.{Float, nan, isNan}
 use Rattle.floats.specs.Scalar.{isFinite}
@@ -18,8 +18,9 @@ use Rattle.rows.specs.declared.joint_velocity_constraint.JointConstraint.{Joint
 use Rattle.rows.specs.declared.joint_velocity_constraint.WritebackId.{WritebackId}
 use Rattle.rows.specs.declared.joint_velocity_constraint.WritebackId.the-variants.{Dof, Limit, Motor}
 use Rattle.rows.specs.declared.joint_constraint_builder.Warmstart.{Warmstart}
+use Rattle.model.specs.Layout.{bodyWidth, velocityPlace, numbersWidth}
 use Rattle.model.specs.Records.{num, puts}
-use Rattle.model.specs.Store.{world, putVel, putPose, putRow, putSeed, seedIndex, axisOf, jointAt}
+use Rattle.model.specs.Store.{world, putVel, putPose, putRow, putSeed, seedIndex, axisOf}
 use Rattle.model.specs.JointRows.{State, state, putRows, buildJoint, sweepRow, sweepJoint, warmstartRow, warmstartJoint, removeBiasJoint, writeBackIds, writeBackJoint}
 use Rattle.model.specs.Model.{Model, model, withMark, withBodies, withNumbers, bodyCount, jointCount, rowsBefore, totalRows}
 use Rattle.model.specs.Refusals.{Rule, refusal, all, bodyRule, finiteFrom, noNanFrom, finitePose, finiteBody, finiteMotor, finiteJoint, presentOrWorld, bodiesPresent, modelRules}
@@ -50,7 +51,7 @@ rounds-keep P work h (suc n) s p = rounds-keep P work h n (work s) (h s p)
 -- storages of bodies of one length that differ in velocities at most
 pub record SamePoses (b b′ : List Float) : Type 0 where
   pub size : length b′ ≡ length b
-  pub numbers : (i c : ℕ) → c < 7 → num 10 b′ i c ≡ num 10 b i c
+  pub numbers : (i c : ℕ) → c < velocityPlace → num bodyWidth b′ i c ≡ num bodyWidth b i c
 
 same-poses : (b : List Float) → SamePoses b b
 same-poses b = record { size = refl; numbers = λ i c h. refl }
@@ -62,10 +63,10 @@ putVel-poses : (b : List Float) (i : ℕ) (v : SolverVel) → SamePoses b (putVe
 unfolding putVel
 putVel-poses b i v = go (eqb i world) (v .linear .x ∷ v .linear .y ∷ v .angular ∷ []) refl
   where
-    go : (t : Bool) (vs : List Float) → length vs ≡ 3 → SamePoses b (cond t b (puts b (i * 10) 7 vs))
+    go : (t : Bool) (vs : List Float) → length vs ≡ 3 → SamePoses b (cond t b (puts b (i * bodyWidth) velocityPlace vs))
     go true vs e = same-poses b
     go false vs e =
-        record { size = length-puts vs b (i * 10) 7; numbers = λ i′ c h. num-beside 10 b vs i i′ 7 c (omega arith) (omega arith) (inl h) }
+        record { size = length-puts vs b (i * bodyWidth) velocityPlace; numbers = λ i′ c h. num-beside bodyWidth b vs i i′ velocityPlace c (omega arith) (omega arith) (inl h) }
 
 -- ---- the length of row storage
 
@@ -142,7 +143,7 @@ Fixed c = (id : WritebackId) → axisOf id < 3 → c ≢ seedIndex id
 -- storages of joints' numbers of one length that differ in stored impulses at most
 pub record SameButSeeds (s s′ : List Float) : Type 0 where
   pub size : length s′ ≡ length s
-  pub numbers : (j c : ℕ) → c < 42 → Fixed c → num 42 s′ j c ≡ num 42 s j c
+  pub numbers : (j c : ℕ) → c < numbersWidth → Fixed c → num numbersWidth s′ j c ≡ num numbersWidth s j c
 
 pub same-but-seeds : (s : List Float) → SameButSeeds s s
 same-but-seeds s = record { size = refl; numbers = λ j c h f. refl }
@@ -197,24 +198,24 @@ module _ (a n : ℕ) (free : seedless a n ≡ true) where
 
 module _ (s s′ : List Float) (same : SameButSeeds s s′) (j : ℕ) where
   -- a test of n numbers from number a on
-  range : (f : Float → Bool) (a n : ℕ) → a + n ≤ 42 → seedless a n ≡ true → all (j * 42 + a) n (λ p. f (getD s′ p nan)) ≡ all (j * 42 + a) n (λ p. f (getD s p nan))
+  range : (f : Float → Bool) (a n : ℕ) → a + n ≤ numbersWidth → seedless a n ≡ true → all (j * numbersWidth + a) n (λ p. f (getD s′ p nan)) ≡ all (j * numbersWidth + a) n (λ p. f (getD s p nan))
   range f a n l free =
-      all-cong _ _ (j * 42 + a) n
+      all-cong _ _ (j * numbersWidth + a) n
       (λ k g h.
-      let e : j * 42 + (k - j * 42) ≡ k = omega arith in
-      ap f (rw e at (same .numbers j (k - j * 42) (omega arith) (fixed a n free (k - j * 42) (omega arith) (omega arith)))))
+      let e : j * numbersWidth + (k - j * numbersWidth) ≡ k = omega arith in
+      ap f (rw e at (same .numbers j (k - j * numbersWidth) (omega arith) (fixed a n free (k - j * numbersWidth) (omega arith) (omega arith)))))
 
-  finite-range : (a n : ℕ) → a + n ≤ 42 → seedless a n ≡ true → finiteFrom s′ (j * 42 + a) n ≡ finiteFrom s (j * 42 + a) n
+  finite-range : (a n : ℕ) → a + n ≤ numbersWidth → seedless a n ≡ true → finiteFrom s′ (j * numbersWidth + a) n ≡ finiteFrom s (j * numbersWidth + a) n
   unfolding finiteFrom
   finite-range a n l free = range isFinite a n l free
 
-  nan-range : (a n : ℕ) → a + n ≤ 42 → seedless a n ≡ true → noNanFrom s′ (j * 42 + a) n ≡ noNanFrom s (j * 42 + a) n
+  nan-range : (a n : ℕ) → a + n ≤ numbersWidth → seedless a n ≡ true → noNanFrom s′ (j * numbersWidth + a) n ≡ noNanFrom s (j * numbersWidth + a) n
   unfolding noNanFrom
   nan-range a n l free = range (λ x. not (isNan x)) a n l free
 
-  motor-range : (a : ℕ) → a + 5 ≤ 42 → seedless a 4 ≡ true → seedless (a + 4) 1 ≡ true → finiteMotor s′ (j * 42 + a) ≡ finiteMotor s (j * 42 + a)
+  motor-range : (a : ℕ) → a + 5 ≤ numbersWidth → seedless a 4 ≡ true → seedless (a + 4) 1 ≡ true → finiteMotor s′ (j * numbersWidth + a) ≡ finiteMotor s (j * numbersWidth + a)
   unfolding finiteMotor
-  motor-range a l free free′ = rw (add-assoc (j * 42) a 4, finite-range a 4 (omega arith) free, nan-range (a + 4) 1 (omega arith) free′)
+  motor-range a l free free′ = rw (add-assoc (j * numbersWidth) a 4, finite-range a 4 (omega arith) free, nan-range (a + 4) 1 (omega arith) free′)
 
   pub finiteJoint-kept : finiteJoint s′ j ≡ finiteJoint s j
   unfolding finiteJoint all
@@ -231,33 +232,16 @@ module _ (s s′ : List Float) (same : SameButSeeds s s′) (j : ℕ) where
         finite-range 40 2 (lit≤ tt) refl,
       )
 
-  -- frames and softness
-  number : (c : ℕ) → c < 42 → seedless c 1 ≡ true → num 42 s′ j c ≡ num 42 s j c
-  number c h free = same .numbers j c h (fixed c 1 free c (omega arith) (omega arith))
-
-  module _ (words : List ℕ) where
-    pub frame1-kept : jointAt words s′ j .«data» .«local_frame1» ≡ jointAt words s j .«data» .«local_frame1»
-    unfolding jointAt all
-    frame1-kept = cc (number 0 (lit< tt) refl, number 1 (lit< tt) refl, number 2 (lit< tt) refl, number 3 (lit< tt) refl)
-
-    pub frame2-kept : jointAt words s′ j .«data» .«local_frame2» ≡ jointAt words s j .«data» .«local_frame2»
-    unfolding jointAt all
-    frame2-kept = cc (number 4 (lit< tt) refl, number 5 (lit< tt) refl, number 6 (lit< tt) refl, number 7 (lit< tt) refl)
-
-    pub softness-kept : jointAt words s′ j .«data» .softness ≡ jointAt words s j .«data» .softness
-    unfolding jointAt all
-    softness-kept = cc (number 35 (lit< tt) refl, number 36 (lit< tt) refl)
-
 -- ---- bodies: a pose that is placed
 
-module _ (b b′ : List Float) (i : ℕ) (same : (c : ℕ) → c < 7 → num 10 b′ i c ≡ num 10 b i c) where
+module _ (b b′ : List Float) (i : ℕ) (same : (c : ℕ) → c < velocityPlace → num bodyWidth b′ i c ≡ num bodyWidth b i c) where
   finiteBody-kept : finiteBody b′ i ≡ finiteBody b i
   unfolding finiteBody finiteFrom
   finiteBody-kept =
-      all-cong _ _ (i * 10) 7
+      all-cong _ _ (i * bodyWidth) velocityPlace
       (λ k g h.
-      let e : i * 10 + (k - i * 10) ≡ k = omega arith in
-      ap isFinite (rw e at (same (k - i * 10) (omega arith))))
+      let e : i * bodyWidth + (k - i * bodyWidth) ≡ k = omega arith in
+      ap isFinite (rw e at (same (k - i * bodyWidth) (omega arith))))
 
 abbrev poseNumbers : Pose → List Float
 poseNumbers p = p .rotation .re ∷ p .rotation .im ∷ p .translation .x ∷ p .translation .y ∷ []
@@ -278,29 +262,29 @@ module _ (p : Pose) (f : finitePose p ≡ true) where
   pose-finite (suc (suc (suc zero))) h = parts .3
   pose-finite (suc (suc (suc (suc c)))) h = absurd (omega arith)
 
-  module _ (b : List Float) (i : ℕ) (room : i * 10 + 10 ≤ length b) (was : finiteBody b i ≡ true) where
-    placed-number : (c : ℕ) → c < 7 → isFinite (num 10 (putPose b i p) i c) ≡ true
+  module _ (b : List Float) (i : ℕ) (room : i * bodyWidth + bodyWidth ≤ length b) (was : finiteBody b i ≡ true) where
+    placed-number : (c : ℕ) → c < velocityPlace → isFinite (num bodyWidth (putPose b i p) i c) ≡ true
     unfolding putPose finiteBody finiteFrom
     placed-number c h = by-cases (ltb c 4)
-        (λ t. ap isFinite (rw (zero-add c) at (num-stored 10 b (poseNumbers p) i 0 c (ltb-true c 4 t) (omega arith))) ∙ pose-finite c (ltb-true c 4 t))
+        (λ t. ap isFinite (rw (zero-add c) at (num-stored bodyWidth b (poseNumbers p) i 0 c (ltb-true c 4 t) (omega arith))) ∙ pose-finite c (ltb-true c 4 t))
         (λ t.
-        ap isFinite (num-beside 10 b (poseNumbers p) i i 0 c (lit≤ tt) (omega arith) (inr (ltb-false c 4 t)))
-        ∙ all-at _ (i * 10) 7 was (i * 10 + c) (omega arith) (omega arith))
+        ap isFinite (num-beside bodyWidth b (poseNumbers p) i i 0 c (lit≤ tt) (omega arith) (inr (ltb-false c 4 t)))
+        ∙ all-at _ (i * bodyWidth) velocityPlace was (i * bodyWidth + c) (omega arith) (omega arith))
 
     placed-finite : finiteBody (putPose b i p) i ≡ true
     unfolding finiteBody finiteFrom
     placed-finite =
-        all-intro _ (i * 10) 7
+        all-intro _ (i * bodyWidth) velocityPlace
         (λ k g h.
-        let e : i * 10 + (k - i * 10) ≡ k = omega arith in
-        rw e at (placed-number (k - i * 10) (omega arith)))
+        let e : i * bodyWidth + (k - i * bodyWidth) ≡ k = omega arith in
+        rw e at (placed-number (k - i * bodyWidth) (omega arith)))
 
   -- finite bodies stay finite
-  pub place-finite : (b : List Float) (i : ℕ) → i * 10 + 10 ≤ length b → (i′ : ℕ) → finiteBody b i ≡ true → finiteBody b i′ ≡ true → finiteBody (putPose b i p) i′ ≡ true
+  pub place-finite : (b : List Float) (i : ℕ) → i * bodyWidth + bodyWidth ≤ length b → (i′ : ℕ) → finiteBody b i ≡ true → finiteBody b i′ ≡ true → finiteBody (putPose b i p) i′ ≡ true
   unfolding putPose
   place-finite b i room i′ was was′ = by-cases (eqb i′ i)
       (λ t. rw (eqb-true i′ i t) (placed-finite b i room was))
-      (λ t. finiteBody-kept b (putPose b i p) i′ (λ c h. num-other 10 b (poseNumbers p) i i′ 0 c (eqb-false i′ i t) (lit≤ tt) (omega arith)) ∙ was′)
+      (λ t. finiteBody-kept b (putPose b i p) i′ (λ c h. num-other bodyWidth b (poseNumbers p) i i′ 0 c (eqb-false i′ i t) (lit≤ tt) (omega arith)) ∙ was′)
 
 -- ---- rules 1 to 7
 

@@ -4,7 +4,7 @@
 use Prim.Native.Nat.{ℕ, zero, suc, _+_, _-_, _≤_, _<_}
 use mathlib.Core.Path.{_≡_, refl, sym, ap, _∙_}
 use mathlib.Core.Bool.{Bool, true, false, not, cond, _&&_, false≢true}
-use mathlib.Core.List.{List, [], _∷_, _++_}
+use mathlib.Core.List.{List, [], _∷_, _++_, map}
 use mathlib.Core.Logic.{_≢_, ⊎-elim}
 use native.Mathlib.Nat.{add-assoc, eq-or-lt-of-le}
 use native.Mathlib.Omega.{arith}
@@ -13,10 +13,11 @@ use lib.Dec.{eqb, ltb}
 use lib.Ieee.{Float, lt}
 use Rattle.floats.specs.Operators.{bits}
 use Rattle.model.specs.Store.{world, Present, body1At, body2At}
-use Rattle.model.specs.Model.{Model, bodyCount, jointCount, rowCapacity, totalRows, Sound, Room}
-use Rattle.model.specs.Refusals.{Rule, rule, refusal, all, atMost, masksFit, presentOrWorld, bodiesPresent, bodiesApart, finitePose, finiteWarm, finiteParams, finiteBody, finiteJoint, modelRules, storageRule, sweepRule, builtRule, seedsRule, bodyRule, jointRule}
-use Rattle.model.specs.Calls.{Call, rulesOf}
-use Rattle.model.specs.Calls.Call.{load, place, build, warmStart, sweep, removeBias, writeBack, readRows, readVelocity}
+use Rattle.model.specs.Model.{mostBodies, mostJoints, Model, bodyCount, jointCount, rowCapacity, totalRows, Sound, Room}
+use Rattle.model.specs.Refusals.{Rule, rule, refusal, all, atMost, masksFit, presentOrWorld, bodiesPresent, bodiesApart, finiteParams, finiteBody, finiteJoint, modelRules, storageRule, sweepRule, builtRule, seedsRule, bodyRule, jointRule}
+use Rattle.model.specs.Calls.{Call, Asked, Own, ownRule, table, handedRules, askedRules, firstRules, ownRules, rulesOf}
+use Rattle.model.specs.Calls.Own.{fewRounds, afterBuild, afterRead}
+use Rattle.model.specs.Calls.Asked.{nothing, body, joint}
 use Rattle.model.proofs.CountLaws.{body-there}
 
 -- ---- tests
@@ -49,6 +50,11 @@ abbrev pub Hold : List Rule → Type 0
 Hold [] = Unit
 Hold (r ∷ rs) = (r .holds ≡ true) × Hold rs
 
+-- what the rule of number k comes to; true where there is none
+abbrev pub ruleOf : ℕ → List Rule → Bool
+ruleOf k [] = true
+ruleOf k (r ∷ rs) = cond (eqb (r .number) k) (r .holds) (ruleOf k rs)
+
 -- the rule of number k fails, and every rule before it holds
 pub record First (k : ℕ) (rs : List Rule) : Type 0 where
   pub before : List Rule
@@ -77,6 +83,11 @@ all-hold (r ∷ rs) n e =
 pub hold-granted : (rs : List Rule) → Hold rs → refusal rs ≡ 0
 hold-granted [] h = no-rules
 hold-granted (r ∷ rs) h = rule-holds r rs (h .0) ∙ hold-granted rs (h .1)
+
+-- where every rule holds, so does the one of number k
+pub hold-number : (k : ℕ) (rs : List Rule) → Hold rs → ruleOf k rs ≡ true
+hold-number k [] h = refl
+hold-number k (r ∷ rs) h = by-cases (eqb (r .number) k) (λ t. rw t (h .0)) (λ t. rw t (hold-number k rs (h .1)))
 
 -- rules that hold may be dropped from the front
 pub held-append : (qs rs : List Rule) → Hold qs → refusal (qs ++ rs) ≡ refusal rs
@@ -194,27 +205,42 @@ unfolding storageRule
 storage-numbered m arguments rows = numbered-append (modelRules m arguments) (storageRule m rows ∷ []) (model-numbered m arguments) (omega arith)
 
 module _ (m : Model) where
-  after-model : (arguments : Bool) (rs : List Rule) → Numbered rs → Numbered (modelRules m arguments ++ rs)
-  after-model arguments rs n = numbered-append (modelRules m arguments) rs (model-numbered m arguments) n
+  handed-numbered : (stored finite : Bool) (rows : List Float) → Numbered (handedRules stored m finite rows)
+  handed-numbered true finite rows = storage-numbered m finite rows
+  handed-numbered false finite rows = model-numbered m finite
+
+  own-numbered : (o : Own) → ownRule m o .number ≢ 0
+  unfolding sweepRule builtRule seedsRule
+  own-numbered (fewRounds n) = omega arith
+  own-numbered afterBuild = omega arith
+  own-numbered (afterRead warm substep) = omega arith
+
+  all-numbered : (os : List Own) → Numbered (map (ownRule m) os)
+  all-numbered [] = tt
+  all-numbered (o ∷ os) = (own-numbered o, all-numbered os)
+
+  asked-numbered : (a : Asked) → Numbered (askedRules m a)
+  unfolding bodyRule jointRule
+  asked-numbered nothing = tt
+  asked-numbered (body i) = omega arith
+  asked-numbered (joint j) = omega arith
+
+  -- a call's rules 1 to 8, and all that it tries
+  pub first-numbered : (c : Call) (rows : List Float) → Numbered (firstRules c m rows)
+  first-numbered c rows = handed-numbered (table c .rowStorage) (table c .finite) rows
 
   pub call-numbered : (c : Call) (rows : List Float) → Numbered (rulesOf c m rows)
-  unfolding rulesOf storageRule sweepRule builtRule seedsRule bodyRule jointRule
-  call-numbered load rows = after-model true (storageRule m rows ∷ []) (omega arith)
-  call-numbered (place i pose) rows = after-model (finitePose pose) (bodyRule m i ∷ []) (omega arith)
-  call-numbered (build warm substep) rows = after-model (finiteWarm warm) (storageRule m rows ∷ seedsRule m warm substep ∷ []) (omega arith)
-  call-numbered warmStart rows = after-model true (storageRule m rows ∷ builtRule m ∷ []) (omega arith)
-  call-numbered (sweep n) rows = after-model true (storageRule m rows ∷ sweepRule n ∷ builtRule m ∷ []) (omega arith)
-  call-numbered removeBias rows = after-model true (storageRule m rows ∷ builtRule m ∷ []) (omega arith)
-  call-numbered writeBack rows = after-model true (storageRule m rows ∷ builtRule m ∷ []) (omega arith)
-  call-numbered (readRows j) rows = after-model true (storageRule m rows ∷ builtRule m ∷ jointRule m j ∷ []) (omega arith)
-  call-numbered (readVelocity i) rows = after-model true (bodyRule m i ∷ []) (omega arith)
+  unfolding rulesOf
+  call-numbered c rows =
+      numbered-append (firstRules c m rows) (ownRules c m) (first-numbered c rows)
+      (numbered-append (map (ownRule m) (table c .own)) (askedRules m (table c .asked)) (all-numbered (table c .own)) (asked-numbered (table c .asked)))
 
 -- ---- rules 1 to 7
 
 -- what they ask of the model; beside it rule 6 asks that the call's own numbers are finite
 pub record RulesHold (m : Model) : Type 0 where
-  pub bodies : atMost 128 (bodyCount (m .bodies)) ≡ true
-  pub joints : atMost 128 (jointCount (m .words) (m .numbers)) ≡ true
+  pub bodies : atMost mostBodies (bodyCount (m .bodies)) ≡ true
+  pub joints : atMost mostJoints (jointCount (m .words) (m .numbers)) ≡ true
   pub masks : all 0 (jointCount (m .words) (m .numbers)) (masksFit (m .words)) ≡ true
   pub present : all 0 (jointCount (m .words) (m .numbers)) (bodiesPresent (m .bodies) (m .words)) ≡ true
   pub apart : all 0 (jointCount (m .words) (m .numbers)) (bodiesApart (m .words)) ≡ true
@@ -226,15 +252,15 @@ pub record RulesHold (m : Model) : Type 0 where
 module _ (m : Model) (arguments : Bool) where
   -- granted by rules 1 to 7 exactly where these facts hold and the call's own numbers are finite
   module _ (e : refusal (modelRules m arguments) ≡ 0) where
-    held : Hold (modelRules m arguments)
-    held = all-hold (modelRules m arguments) (model-numbered m arguments) e
+    held : (k : ℕ) → ruleOf k (modelRules m arguments) ≡ true
+    held k = hold-number k (modelRules m arguments) (all-hold (modelRules m arguments) (model-numbered m arguments) e)
 
     -- rule 6, taken apart
     finite : (finiteParams (m .params) ≡ true) × (all 0 (bodyCount (m .bodies)) (finiteBody (m .bodies)) ≡ true)
         × (all 0 (jointCount (m .words) (m .numbers)) (finiteJoint (m .numbers)) ≡ true) × (arguments ≡ true)
     unfolding modelRules
     finite =
-        let s = both (finiteParams (m .params)) _ (held .1 .1 .1 .1 .1 .0) in
+        let s = both (finiteParams (m .params)) _ (held 6) in
         let b = both (all 0 (bodyCount (m .bodies)) (finiteBody (m .bodies))) _ (s .1) in
         let j = both (all 0 (jointCount (m .words) (m .numbers)) (finiteJoint (m .numbers))) arguments (b .1) in
         (s .0, b .0, j .0, j .1)
@@ -242,31 +268,27 @@ module _ (m : Model) (arguments : Bool) where
     pub rules-hold : RulesHold m
     unfolding modelRules
     rules-hold = record {
-      bodies = held .0;
-      joints = held .1 .0;
-      masks = held .1 .1 .0;
-      present = held .1 .1 .1 .0;
-      apart = held .1 .1 .1 .1 .0;
+      bodies = held 1;
+      joints = held 2;
+      masks = held 3;
+      present = held 4;
+      apart = held 5;
       finite-params = finite .0;
       finite-bodies = finite .1;
       finite-joints = finite .2;
-      dt = held .1 .1 .1 .1 .1 .1 .0;
+      dt = held 7;
     }
 
     pub arguments-finite : arguments ≡ true
     arguments-finite = finite .3
 
-  hold-rules : RulesHold m → arguments ≡ true → Hold (modelRules m arguments)
-  unfolding modelRules
-  hold-rules h e =
-      (h .bodies, (h .joints, (h .masks, (h .present, (h .apart, (rw (h .finite-params, h .finite-bodies, h .finite-joints) e, (h .dt, tt)))))))
-
   pub rules-granted : RulesHold m → arguments ≡ true → refusal (modelRules m arguments) ≡ 0
-  rules-granted h e = hold-granted (modelRules m arguments) (hold-rules h e)
+  unfolding modelRules refusal
+  rules-granted h e = rw (h .bodies, h .joints, h .masks, h .present, h .apart, h .finite-params, h .finite-bodies, h .finite-joints, e, h .dt)
 
   -- the rules after them then decide
   pub rules-rest : RulesHold m → arguments ≡ true → (rest : List Rule) → refusal (modelRules m arguments ++ rest) ≡ refusal rest
-  rules-rest h e rest = held-append (modelRules m arguments) rest (hold-rules h e)
+  rules-rest h e rest = granted-append (modelRules m arguments) rest (model-numbered m arguments) (rules-granted h e)
 
   -- the call's own numbers are not finite, and the model is as rules 1 to 6 ask
   pub rules-arguments : RulesHold m → arguments ≡ false → (rest : List Rule) → refusal (modelRules m arguments ++ rest) ≡ 6
@@ -296,7 +318,7 @@ module _ (m : Model) (h : RulesHold m) where
 
   pub sound-held : Sound m
   sound-held = record {
-    few = at-most 128 (bodyCount (m .bodies)) (h .bodies);
+    few = at-most mostBodies (bodyCount (m .bodies)) (h .bodies);
     present1 = λ j l. present-of (m .bodies) (body1At (m .words) j) (here j l .0);
     present2 = λ j l. present-of (m .bodies) (body2At (m .words) j) (here j l .1);
     apart = λ j l. eqb-false (body1At (m .words) j) (body2At (m .words) j) (differ j l);

@@ -18,6 +18,7 @@ use Rattle.rows.specs.declared.joint_constraint_builder.Warmstart.{Warmstart}
 use Rattle.rows.specs.declared.joint_velocity_constraint.JointConstraint.{JointConstraint}
 use Rattle.rows.specs.declared.joint_velocity_constraint.SolverVel.{SolverVel}
 use Rattle.rows.proofs.Filled.{length-filled}
+use Rattle.model.specs.Layout.{rowWidth, bodyWidth}
 use Rattle.model.specs.Store.{world, rowAt, putRow, velAt, putVel, solverPoseAt, jointAt, body1At, body2At}
 use Rattle.model.specs.JointRows.{State, rowCount, impulsesAt, buildJoint, sweepRow, sweepJoint, warmstartRow, warmstartJoint, removeBiasJoint}
 use Rattle.model.specs.Model.{Model, bodyCount, jointCount, rowCapacity, rowsBefore, Sound, Room}
@@ -25,8 +26,8 @@ use Rattle.model.specs.Calls.{eachJoint, buildOne, warmstartOne, sweepOn
 use Rattle.model.proofs.StoreLaws.{length-putRow, rowAt-putRow, rowAt-putRow-other, length-putVel, velAt-putVel, velAt-putVel-other}
 use Rattle.model.proofs.JointRowsLaws.{length-built}
 use Rattle.model.proofs.StoredRows.{length-putRows, putRows-other, putRows-at}
-use Rattle.model.proofs.Apart.{before-later, not-among, Side, Acted, RowWork, jointWork}
-use Rattle.model.proofs.ApartJoints.{layoutOf, InSet, no-world}
+use Rattle.model.proofs.JointLocality.{before-later, not-among, Side, Acted, RowWork, jointWork}
+use Rattle.model.proofs.ClosedSet.{layoutOf, InSet, no-world}
 
 -- ---- a joint's work, row by row
 
@@ -64,10 +65,10 @@ module _ (b : List Float) (b1 b2 : ℕ) (v1 v2 : SolverVel) where
   pub velAt-putBoth-other : (i : ℕ) → i ≢ b1 → i ≢ b2 → velAt (putBoth b b1 b2 v1 v2) i ≡ velAt b i
   velAt-putBoth-other i n1 n2 = velAt-putVel-other (putVel b b1 v1) b2 i v2 n2 ∙ velAt-putVel-other b b1 i v1 n1
 
-  pub velAt-putBoth-first : b1 ≢ world → b1 * 10 + 10 ≤ length b → b1 ≢ b2 → velAt (putBoth b b1 b2 v1 v2) b1 ≡ v1
+  pub velAt-putBoth-first : b1 ≢ world → b1 * bodyWidth + bodyWidth ≤ length b → b1 ≢ b2 → velAt (putBoth b b1 b2 v1 v2) b1 ≡ v1
   velAt-putBoth-first nw room ne = velAt-putVel-other (putVel b b1 v1) b2 b1 v2 ne ∙ velAt-putVel b b1 v1 nw room
 
-  pub velAt-putBoth-second : b2 ≢ world → b2 * 10 + 10 ≤ length b → velAt (putBoth b b1 b2 v1 v2) b2 ≡ v2
+  pub velAt-putBoth-second : b2 ≢ world → b2 * bodyWidth + bodyWidth ≤ length b → velAt (putBoth b b1 b2 v1 v2) b2 ≡ v2
   velAt-putBoth-second nw room = velAt-putVel (putVel b b1 v1) b2 v2 nw (rw length-putVel room)
 
 abbrev pub stepAct : JointConstraint → SolverVel → SolverVel → Acted JointConstraint SolverVel
@@ -81,11 +82,11 @@ biasAct r v1 v2 = record { row = removeBiasOf r; vel1 = tt; vel2 = tt }
 
 module _ (set : ℕ → Bool) (m : Model) (ok : Sound m) (present : (b : ℕ) → InSet set b → b < bodyCount (m .bodies)) (rows : List Float) (room : Room m rows) where
   -- storage as long as the model's has room for the set's bodies and the model's rows
-  pub body-room : (b : ℕ) (bodies : List Float) → length bodies ≡ length (m .bodies) → InSet set b → (b ≢ world) × (b * 10 + 10 ≤ length bodies)
+  pub body-room : (b : ℕ) (bodies : List Float) → length bodies ≡ length (m .bodies) → InSet set b → (b ≢ world) × (b * bodyWidth + bodyWidth ≤ length bodies)
   unfolding bodyCount
   body-room b bodies e s = (no-world set m ok present b s, omega (arith, present b s))
 
-  pub row-room : (k : ℕ) (s : List Float) → length s ≡ length rows → k < layoutOf m .first (layoutOf m .joints) → k * 18 + 18 ≤ length s
+  pub row-room : (k : ℕ) (s : List Float) → length s ≡ length rows → k < layoutOf m .first (layoutOf m .joints) → k * rowWidth + rowWidth ≤ length s
   unfolding rowCapacity
   row-room k s e h = omega arith
 
@@ -186,7 +187,7 @@ module _ (m : Model) (warm : Warmstart) (substep : ℕ) where
       row-kept = λ j q i s c ne.
           putRows-other (madeOf j s) s (rowsBefore (m .words) j) (rowsBefore (m .words) q + i)
           (λ p a b. not-among (layoutOf m) j q i p c a (omega (arith, length-made j s)) ne);
-      vel-kept = λ j b s n1 n2. refl;
+      vel-kept = λ j b s f. refl;
     }
 
     pub row-made : (j i : ℕ) (s : List Float) → j < jointCount (m .words) (m .numbers) → i < rowCount (m .words) j → length s ≡ length rows

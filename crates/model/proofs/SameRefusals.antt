@@ -2,16 +2,18 @@
 -- call that asks by index for nothing that only one of them has is refused with the same number in both, or in neither. Where they agree on a set, a call that
 -- asks for a body or a joint of the set is such a call (`about-asked`).
 use Prim.Native.Nat.{ℕ}
-use mathlib.Core.Path.{_≡_, refl, sym, _∙_}
-use mathlib.Core.Bool.{Bool, true}
-use mathlib.Core.List.{List, [], _∷_, _++_}
+use mathlib.Core.Path.{_≡_, refl, sym, ap, _∙_}
+use mathlib.Core.Bool.{Bool, true, false}
+use mathlib.Core.List.{List, [], _∷_, _++_, map, append-assoc}
 use borrow.Author.Tests.{le-ltb, lt-ltb}
 use lib.Ieee.{Float}
+use Rattle.rows.specs.declared.joint_velocity_constraint.WritebackId.{WritebackId}
 use Rattle.model.specs.Model.{Model, bodyCount, jointCount, rowCapacity, totalRows, Room}
-use Rattle.model.specs.Refusals.{Rule, refusal, finitePose, finiteWarm, modelRules, storageRule, sweepRule, builtRule, seedsRule, bodyRule, jointRule}
-use Rattle.model.specs.Calls.{Call, rulesOf}
-use Rattle.model.specs.Calls.Call.{load, place, build, warmStart, sweep, removeBias, writeBack, readRows, readVelocity}
-use Rattle.model.specs.Studies.{Mine, Agree, handsOver, AlikeBody, AlikeJoint, AskedAlike}
+use Rattle.model.specs.Refusals.{Rule, refusal, modelRules, storageRule, builtRule, seedsRule, bodyRule, jointRule}
+use Rattle.model.specs.Calls.{Call, Asked, Own, ownRule, table, handedRules, askedRules, ownRules, rulesOf}
+use Rattle.model.specs.Calls.Own.{fewRounds, afterBuild, afterRead}
+use Rattle.model.specs.Calls.Asked.{nothing, body, joint}
+use Rattle.model.specs.Studies.{Agree, AboutSet, SameAsked}
 use Rattle.model.proofs.RefusalLaws.{by-cases, rule-holds, RulesHold, rules-rest, rules-arguments}
 
 storage-holds : (m : Model) (rows : List Float) (rest : List Rule) → Room m rows → refusal (storageRule m rows ∷ rest) ≡ refusal rest
@@ -34,71 +36,45 @@ module _ (m m′ : Model) (held : RulesHold m) (held′ : RulesHold m′) where
     same-stored arguments rest rest′ e =
         same-rest arguments (storageRule m rows ∷ rest) (storageRule m′ rows′ ∷ rest′) (storage-holds m rows rest room ∙ e ∙ sym (storage-holds m′ rows′ rest′ room′))
 
-  same-body : (i : ℕ) → AlikeBody m m′ i → bodyRule m i ≡ bodyRule m′ i
-  unfolding bodyRule
-  same-body i e = rw e
+  -- the rules over what a call is handed hold alike, and leave the rest to decide
+  same-handed : (rows rows′ : List Float) (stored finite : Bool) (rest rest′ : List Rule) → (stored ≡ true → Room m rows × Room m′ rows′) → refusal rest ≡ refusal rest′
+      → refusal (handedRules stored m finite rows ++ rest) ≡ refusal (handedRules stored m′ finite rows′ ++ rest′)
+  same-handed rows rows′ true finite rest rest′ r e =
+      rw (append-assoc (modelRules m finite) (storageRule m rows ∷ []) rest, append-assoc (modelRules m′ finite) (storageRule m′ rows′ ∷ []) rest′)
+      (same-stored rows rows′ (r refl .0) (r refl .1) finite rest rest′ e)
+  same-handed rows rows′ false finite rest rest′ r e = same-rest finite rest rest′ e
 
-  same-joint : (j : ℕ) → AlikeJoint m m′ j → jointRule m j ≡ jointRule m′ j
-  unfolding jointRule
-  same-joint j e = rw e
+  same-asked : (a : Asked) → SameAsked m m′ a → askedRules m a ≡ askedRules m′ a
+  unfolding bodyRule jointRule
+  same-asked nothing e = refl
+  same-asked (body i) e = rw e
+  same-asked (joint j) e = rw e
 
   module _ (mark : m .built ≡ m′ .built) where
-    same-built : builtRule m ≡ builtRule m′
-    unfolding builtRule
-    same-built = rw mark
+    same-own : (o : Own) → ownRule m o ≡ ownRule m′ o
+    unfolding builtRule seedsRule
+    same-own (fewRounds n) = refl
+    same-own afterBuild = rw mark
+    same-own (afterRead warm substep) = rw mark
 
-    same-seeds : (warm : _) (substep : ℕ) → seedsRule m warm substep ≡ seedsRule m′ warm substep
-    unfolding seedsRule
-    same-seeds warm substep = rw mark
+    same-owns : (os : List Own) → map (ownRule m) os ≡ map (ownRule m′) os
+    same-owns [] = refl
+    same-owns (o ∷ os) = rw (same-own o, same-owns os)
 
-    module _ (rows rows′ : List Float) where
-      pub same-refusal : (c : Call) → AskedAlike m m′ c → (handsOver c ≡ true → Room m rows × Room m′ rows′) → refusal (rulesOf c m rows) ≡ refusal (rulesOf c m′ rows′)
-      unfolding rulesOf
-      same-refusal load t r = same-stored rows rows′ (r refl .0) (r refl .1) true [] [] refl
-      same-refusal (place i pose) e r =
-          same-rest (finitePose pose) (bodyRule m i ∷ []) (bodyRule m′ i ∷ []) (rw (same-body i e))
-      same-refusal (build warm substep) t r =
-          same-stored rows rows′ (r refl .0) (r refl .1) (finiteWarm warm) (seedsRule m warm substep ∷ []) (seedsRule m′ warm substep ∷ []) (rw (same-seeds warm substep))
-      same-refusal warmStart t r = same-stored rows rows′ (r refl .0) (r refl .1) true (builtRule m ∷ []) (builtRule m′ ∷ []) (rw same-built)
-      same-refusal (sweep n) t r =
-          same-stored rows rows′ (r refl .0) (r refl .1) true (sweepRule n ∷ builtRule m ∷ []) (sweepRule n ∷ builtRule m′ ∷ []) (rw same-built)
-      same-refusal removeBias t r = same-stored rows rows′ (r refl .0) (r refl .1) true (builtRule m ∷ []) (builtRule m′ ∷ []) (rw same-built)
-      same-refusal writeBack t r = same-stored rows rows′ (r refl .0) (r refl .1) true (builtRule m ∷ []) (builtRule m′ ∷ []) (rw same-built)
-      same-refusal (readRows j) e r =
-          same-stored rows rows′ (r refl .0) (r refl .1) true (builtRule m ∷ jointRule m j ∷ []) (builtRule m′ ∷ jointRule m′ j ∷ [])
-          (rw (same-built, same-joint j e))
-      same-refusal (readVelocity i) e r =
-          same-rest true (bodyRule m i ∷ []) (bodyRule m′ i ∷ []) (rw (same-body i e))
+    pub same-refusal : (rows rows′ : List Float) (c : Call) → SameAsked m m′ (table c .asked) → (table c .rowStorage ≡ true → Room m rows × Room m′ rows′)
+        → refusal (rulesOf c m rows) ≡ refusal (rulesOf c m′ rows′)
+    unfolding rulesOf
+    same-refusal rows rows′ c a r =
+        same-handed rows rows′ (table c .rowStorage) (table c .finite) (ownRules c m) (ownRules c m′) r
+        (ap (λ rs. refusal (rs ++ askedRules m (table c .asked))) (same-owns (table c .own)) ∙ ap (λ rs. refusal (map (ownRule m′) (table c .own) ++ rs)) (same-asked (table c .asked) a))
 
 -- ---- of the set
 
--- a call that asks for a body or a joint by index asks for one of the set's
-abbrev pub About : (ℕ → Bool) → Model → Call → Type 0
-About set m load = Unit
-About set m (place i pose) = set i ≡ true
-About set m (build warm substep) = Unit
-About set m warmStart = Unit
-About set m (sweep n) = Unit
-About set m removeBias = Unit
-About set m writeBack = Unit
-About set m (readRows j) = Mine set m j
-About set m (readVelocity i) = set i ≡ true
-
--- both models have it
-module _ (set : ℕ → Bool) (made : Type 0) (m m′ : Model) (agree : Agree set made m m′) where
-  alike-body : (i : ℕ) → set i ≡ true → AlikeBody m m′ i
-  alike-body i s =
-      let l = agree .present i s in
-      lt-ltb i (bodyCount (m .bodies)) (l .0) ∙ sym (lt-ltb i (bodyCount (m′ .bodies)) (l .1))
-
-  pub about-asked : (c : Call) → About set m c → AskedAlike m m′ c
-  about-asked load t = tt
-  about-asked (place i pose) s = alike-body i s
-  about-asked (build warm substep) t = tt
-  about-asked warmStart t = tt
-  about-asked (sweep n) t = tt
-  about-asked removeBias t = tt
-  about-asked writeBack t = tt
-  about-asked (readRows j) i =
-      lt-ltb j (jointCount (m .words) (m .numbers)) (i .there) ∙ sym (lt-ltb j (jointCount (m′ .words) (m′ .numbers)) (agree .joints j i .there))
-  about-asked (readVelocity i) s = alike-body i s
+-- both models have what is asked for of the set
+pub about-asked : (set : ℕ → Bool) {named : ℕ → WritebackId → Type 0} (m m′ : Model) → Agree set named m m′ → (a : Asked) → AboutSet set m a → SameAsked m m′ a
+about-asked set m m′ agree nothing t = tt
+about-asked set m m′ agree (body i) s =
+    let l = agree .present i s in
+    lt-ltb i (bodyCount (m .bodies)) (l .0) ∙ sym (lt-ltb i (bodyCount (m′ .bodies)) (l .1))
+about-asked set m m′ agree (joint j) i =
+    lt-ltb j (jointCount (m .words) (m .numbers)) (i .there) ∙ sym (lt-ltb j (jointCount (m′ .words) (m′ .numbers)) (agree .joints j i .there))

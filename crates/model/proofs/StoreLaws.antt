@@ -17,19 +17,20 @@ use Rattle.rows.specs.declared.joint_velocity_constraint.JointConstraint.{Joint
 use Rattle.rows.specs.declared.joint_velocity_constraint.SolverVel.{SolverVel}
 use Rattle.rows.specs.declared.joint_velocity_constraint.WritebackId.{WritebackId}
 use Rattle.rows.specs.declared.joint_velocity_constraint.WritebackId.the-variants.{Dof, Limit, Motor}
+use Rattle.model.specs.Layout.{rowWidth, bodyWidth, posePlace, inertiaPlace, massPlace, velocityPlace, wordsWidth, numbersWidth}
 use Rattle.model.specs.Records.{num, word, puts}
 use Rattle.model.specs.Store.{rowOf, rowAt, rowNumbers, putRow, world, Present, poseOf, worldPose, solverPoseAt, rest, velAt, putVel, putPose, seedIndex, axisOf, putSeed, jointAt, jointOf}
 use Rattle.model.proofs.Strided.{length-puts, num-stored, num-kept, num-other, num-beside}
 
--- an id of one of the three axes has its stored impulse among the joint's 42 numbers
-pub seed-index-below : (id : WritebackId) → axisOf id < 3 → seedIndex id < 42
+-- an id of one of the three axes has its stored impulse among the joint's numbers
+pub seed-index-below : (id : WritebackId) → axisOf id < 3 → seedIndex id < numbersWidth
 seed-index-below (Dof i) h = omega arith
 seed-index-below (Limit i) h = omega arith
 seed-index-below (Motor i) h = omega arith
 
 -- ---- rows
 
-rowOf-cong : (f g : ℕ → Float) → ((c : ℕ) → c < 18 → f c ≡ g c) → rowOf f ≡ rowOf g
+rowOf-cong : (f g : ℕ → Float) → ((c : ℕ) → c < rowWidth → f c ≡ g c) → rowOf f ≡ rowOf g
 rowOf-cong f g h =
     cc (
       h 0 (lit< tt),
@@ -54,32 +55,33 @@ rowOf-cong f g h =
 
 pub length-putRow : (s : List Float) (k : ℕ) (r : JointConstraint) → length (putRow s k r) ≡ length s
 unfolding putRow
-length-putRow s k r = length-puts (rowNumbers r) s (k * 18) 0
+length-putRow s k r = length-puts (rowNumbers r) s (k * rowWidth) 0
 
-pub rowAt-putRow : (s : List Float) (k : ℕ) (r : JointConstraint) → k * 18 + 18 ≤ length s → rowAt (putRow s k r) k ≡ r
+pub rowAt-putRow : (s : List Float) (k : ℕ) (r : JointConstraint) → k * rowWidth + rowWidth ≤ length s → rowAt (putRow s k r) k ≡ r
 unfolding rowAt putRow
 rowAt-putRow s k r room =
-    rowOf-cong (num 18 (puts s (k * 18) 0 (rowNumbers r)) k) (λ c. getD (rowNumbers r) c nan)
-    (λ c h. rw (zero-add c) at (num-stored 18 s (rowNumbers r) k 0 c h (omega arith)))
+    rowOf-cong (num rowWidth (puts s (k * rowWidth) 0 (rowNumbers r)) k) (λ c. getD (rowNumbers r) c nan)
+    (λ c h. rw (zero-add c) at (num-stored rowWidth s (rowNumbers r) k 0 c h (omega arith)))
 
 pub rowAt-putRow-other : (s : List Float) (k k′ : ℕ) (r : JointConstraint) → k′ ≢ k → rowAt (putRow s k r) k′ ≡ rowAt s k′
 unfolding rowAt putRow
 rowAt-putRow-other s k k′ r ne =
-    rowOf-cong (num 18 (puts s (k * 18) 0 (rowNumbers r)) k′) (num 18 s k′) (λ c h. num-other 18 s (rowNumbers r) k k′ 0 c ne (omega arith) h)
+    rowOf-cong (num rowWidth (puts s (k * rowWidth) 0 (rowNumbers r)) k′) (num rowWidth s k′) (λ c h. num-other rowWidth s (rowNumbers r) k k′ 0 c ne (omega arith) h)
 
 -- ---- bodies
 
 -- what is read of a body whose number c is f c, and which is not the world
 abbrev bodyOf : (ℕ → Float) → SolverPose
-bodyOf f = record { pose = poseOf f 0; ii = f 4; im = record { x = f 5; y = f 6 } }
+bodyOf f = record { pose = poseOf f posePlace; ii = f inertiaPlace; im = record { x = f massPlace; y = f (massPlace + 1) } }
 
 abbrev velOf : (ℕ → Float) → SolverVel
-velOf f = record { linear = record { x = f 7; y = f 8 }; angular = f 9 }
+velOf f = record { linear = record { x = f velocityPlace; y = f (velocityPlace + 1) }; angular = f (velocityPlace + 2) }
 
-bodyOf-cong : (f g : ℕ → Float) → ((c : ℕ) → c < 7 → f c ≡ g c) → bodyOf f ≡ bodyOf g
+bodyOf-cong : (f g : ℕ → Float) → ((c : ℕ) → c < velocityPlace → f c ≡ g c) → bodyOf f ≡ bodyOf g
 bodyOf-cong f g h = cc (h 0 (lit< tt), h 1 (lit< tt), h 2 (lit< tt), h 3 (lit< tt), h 4 (lit< tt), h 5 (lit< tt), h 6 (lit< tt))
 
-velOf-cong : (f g : ℕ → Float) → f 7 ≡ g 7 → f 8 ≡ g 8 → f 9 ≡ g 9 → velOf f ≡ velOf g
+velOf-cong : (f g : ℕ → Float) → f velocityPlace ≡ g velocityPlace → f (velocityPlace + 1) ≡ g (velocityPlace + 1)
+    → f (velocityPlace + 2) ≡ g (velocityPlace + 2) → velOf f ≡ velOf g
 velOf-cong f g x y a = cc
 
 -- the world
@@ -96,14 +98,14 @@ unfolding putVel
 putVel-world b v = refl
 
 -- two lists of bodies that agree in the numbers that are read of body i
-velAt-cong : (b b′ : List Float) (i : ℕ) → ((c : ℕ) → 7 ≤ c → c < 10 → num 10 b′ i c ≡ num 10 b i c) → velAt b′ i ≡ velAt b i
+velAt-cong : (b b′ : List Float) (i : ℕ) → ((c : ℕ) → velocityPlace ≤ c → c < bodyWidth → num bodyWidth b′ i c ≡ num bodyWidth b i c) → velAt b′ i ≡ velAt b i
 unfolding velAt
 velAt-cong b b′ i h =
-    ap (cond (eqb i world) rest) (velOf-cong (num 10 b′ i) (num 10 b i) (h 7 (lit< tt) (lit< tt)) (h 8 (lit< tt) (lit< tt)) (h 9 (lit< tt) (lit< tt)))
+    ap (cond (eqb i world) rest) (velOf-cong (num bodyWidth b′ i) (num bodyWidth b i) (h 7 (lit< tt) (lit< tt)) (h 8 (lit< tt) (lit< tt)) (h 9 (lit< tt) (lit< tt)))
 
-pub solverPoseAt-cong : (b b′ : List Float) (i : ℕ) → ((c : ℕ) → c < 7 → num 10 b′ i c ≡ num 10 b i c) → solverPoseAt b′ i ≡ solverPoseAt b i
+pub solverPoseAt-cong : (b b′ : List Float) (i : ℕ) → ((c : ℕ) → c < velocityPlace → num bodyWidth b′ i c ≡ num bodyWidth b i c) → solverPoseAt b′ i ≡ solverPoseAt b i
 unfolding solverPoseAt
-solverPoseAt-cong b b′ i h = ap (cond (eqb i world) worldPose) (bodyOf-cong (num 10 b′ i) (num 10 b i) h)
+solverPoseAt-cong b b′ i h = ap (cond (eqb i world) worldPose) (bodyOf-cong (num bodyWidth b′ i) (num bodyWidth b i) h)
 
 -- ---- a velocity stored
 
@@ -114,38 +116,38 @@ pub length-putVel : (b : List Float) (i : ℕ) (v : SolverVel) → length (putVe
 unfolding putVel
 length-putVel b i v = go (eqb i world)
   where
-    go : (t : Bool) → length (cond t b (puts b (i * 10) 7 (velNumbers v))) ≡ length b
+    go : (t : Bool) → length (cond t b (puts b (i * bodyWidth) velocityPlace (velNumbers v))) ≡ length b
     go true = refl
-    go false = length-puts (velNumbers v) b (i * 10) 7
+    go false = length-puts (velNumbers v) b (i * bodyWidth) velocityPlace
 
 pub present-putVel : (b : List Float) (i i′ : ℕ) (v : SolverVel) → Present b i′ → Present (putVel b i v) i′
 present-putVel b i i′ v h ne = rw length-putVel (h ne)
 
-pub velAt-putVel : (b : List Float) (i : ℕ) (v : SolverVel) → i ≢ world → i * 10 + 10 ≤ length b → velAt (putVel b i v) i ≡ v
+pub velAt-putVel : (b : List Float) (i : ℕ) (v : SolverVel) → i ≢ world → i * bodyWidth + bodyWidth ≤ length b → velAt (putVel b i v) i ≡ v
 unfolding velAt putVel
 velAt-putVel b i v ne room =
     rw (ne-eqb i world ne)
-    (velOf-cong (num 10 (puts b (i * 10) 7 (velNumbers v)) i) (λ c. getD (velNumbers v) (c - 7) nan) (stored 0 (lit< tt)) (stored 1 (lit< tt)) (stored 2 (lit< tt)))
+    (velOf-cong (num bodyWidth (puts b (i * bodyWidth) velocityPlace (velNumbers v)) i) (λ c. getD (velNumbers v) (c - velocityPlace) nan) (stored 0 (lit< tt)) (stored 1 (lit< tt)) (stored 2 (lit< tt)))
   where
-    stored : (c : ℕ) → c < 3 → num 10 (puts b (i * 10) 7 (velNumbers v)) i (7 + c) ≡ getD (velNumbers v) c nan
-    stored c h = num-stored 10 b (velNumbers v) i 7 c h (omega arith)
+    stored : (c : ℕ) → c < 3 → num bodyWidth (puts b (i * bodyWidth) velocityPlace (velNumbers v)) i (velocityPlace + c) ≡ getD (velNumbers v) c nan
+    stored c h = num-stored bodyWidth b (velNumbers v) i velocityPlace c h (omega arith)
 
 pub velAt-putVel-other : (b : List Float) (i i′ : ℕ) (v : SolverVel) → i′ ≢ i → velAt (putVel b i v) i′ ≡ velAt b i′
 unfolding putVel
 velAt-putVel-other b i i′ v ne = go (eqb i world)
   where
-    go : (t : Bool) → velAt (cond t b (puts b (i * 10) 7 (velNumbers v))) i′ ≡ velAt b i′
+    go : (t : Bool) → velAt (cond t b (puts b (i * bodyWidth) velocityPlace (velNumbers v))) i′ ≡ velAt b i′
     go true = refl
-    go false = velAt-cong b (puts b (i * 10) 7 (velNumbers v)) i′ (λ c _ h. num-other 10 b (velNumbers v) i i′ 7 c ne (lit< tt) h)
+    go false = velAt-cong b (puts b (i * bodyWidth) velocityPlace (velNumbers v)) i′ (λ c _ h. num-other bodyWidth b (velNumbers v) i i′ velocityPlace c ne (lit< tt) h)
 
 -- poses and masses stay
 pub solverPoseAt-putVel : (b : List Float) (i i′ : ℕ) (v : SolverVel) → solverPoseAt (putVel b i v) i′ ≡ solverPoseAt b i′
 unfolding putVel
 solverPoseAt-putVel b i i′ v = go (eqb i world)
   where
-    go : (t : Bool) → solverPoseAt (cond t b (puts b (i * 10) 7 (velNumbers v))) i′ ≡ solverPoseAt b i′
+    go : (t : Bool) → solverPoseAt (cond t b (puts b (i * bodyWidth) velocityPlace (velNumbers v))) i′ ≡ solverPoseAt b i′
     go true = refl
-    go false = solverPoseAt-cong b (puts b (i * 10) 7 (velNumbers v)) i′ (λ c h. num-beside 10 b (velNumbers v) i i′ 7 c (lit< tt) (omega arith) (inl h))
+    go false = solverPoseAt-cong b (puts b (i * bodyWidth) velocityPlace (velNumbers v)) i′ (λ c h. num-beside bodyWidth b (velNumbers v) i i′ velocityPlace c (lit< tt) (omega arith) (inl h))
 
 -- ---- a pose stored
 
@@ -162,33 +164,33 @@ bodyOf-pose f g p e0 e1 e2 e3 e4 e5 e6 = cc
 
 pub length-putPose : (b : List Float) (i : ℕ) (p : Pose) → length (putPose b i p) ≡ length b
 unfolding putPose
-length-putPose b i p = length-puts (poseNumbers p) b (i * 10) 0
+length-putPose b i p = length-puts (poseNumbers p) b (i * bodyWidth) posePlace
 
 pub present-putPose : (b : List Float) (i i′ : ℕ) (p : Pose) → Present b i′ → Present (putPose b i p) i′
 present-putPose b i i′ p h ne = rw length-putPose (h ne)
 
-pub solverPoseAt-putPose : (b : List Float) (i : ℕ) (p : Pose) → i ≢ world → i * 10 + 10 ≤ length b → solverPoseAt (putPose b i p) i ≡ withPose (solverPoseAt b i) p
+pub solverPoseAt-putPose : (b : List Float) (i : ℕ) (p : Pose) → i ≢ world → i * bodyWidth + bodyWidth ≤ length b → solverPoseAt (putPose b i p) i ≡ withPose (solverPoseAt b i) p
 unfolding solverPoseAt putPose
 solverPoseAt-putPose b i p ne room =
     rw (ne-eqb i world ne)
-    (bodyOf-pose (num 10 (puts b (i * 10) 0 (poseNumbers p)) i) (num 10 b i) p (stored 0 (lit< tt)) (stored 1 (lit< tt)) (stored 2 (lit< tt)) (stored 3 (lit< tt))
+    (bodyOf-pose (num bodyWidth (puts b (i * bodyWidth) posePlace (poseNumbers p)) i) (num bodyWidth b i) p (stored 0 (lit< tt)) (stored 1 (lit< tt)) (stored 2 (lit< tt)) (stored 3 (lit< tt))
     (kept 4 (lit< tt) (lit< tt)) (kept 5 (lit< tt) (lit< tt)) (kept 6 (lit< tt) (lit< tt)))
   where
-    stored : (c : ℕ) → c < 4 → num 10 (puts b (i * 10) 0 (poseNumbers p)) i c ≡ getD (poseNumbers p) c nan
-    stored c h = rw (zero-add c) at (num-stored 10 b (poseNumbers p) i 0 c h (omega arith))
+    stored : (c : ℕ) → c < 4 → num bodyWidth (puts b (i * bodyWidth) posePlace (poseNumbers p)) i c ≡ getD (poseNumbers p) c nan
+    stored c h = rw (zero-add c) at (num-stored bodyWidth b (poseNumbers p) i posePlace c h (omega arith))
 
-    kept : (c : ℕ) → 4 ≤ c → c < 10 → num 10 (puts b (i * 10) 0 (poseNumbers p)) i c ≡ num 10 b i c
-    kept c l h = num-beside 10 b (poseNumbers p) i i 0 c (lit< tt) h (inr l)
+    kept : (c : ℕ) → inertiaPlace ≤ c → c < bodyWidth → num bodyWidth (puts b (i * bodyWidth) posePlace (poseNumbers p)) i c ≡ num bodyWidth b i c
+    kept c l h = num-beside bodyWidth b (poseNumbers p) i i posePlace c (lit< tt) h (inr l)
 
 pub solverPoseAt-putPose-other : (b : List Float) (i i′ : ℕ) (p : Pose) → i′ ≢ i → solverPoseAt (putPose b i p) i′ ≡ solverPoseAt b i′
 unfolding putPose
 solverPoseAt-putPose-other b i i′ p ne =
-    solverPoseAt-cong b (puts b (i * 10) 0 (poseNumbers p)) i′ (λ c h. num-other 10 b (poseNumbers p) i i′ 0 c ne (lit< tt) (omega arith))
+    solverPoseAt-cong b (puts b (i * bodyWidth) posePlace (poseNumbers p)) i′ (λ c h. num-other bodyWidth b (poseNumbers p) i i′ posePlace c ne (lit< tt) (omega arith))
 
 -- velocities stay
 pub velAt-putPose : (b : List Float) (i i′ : ℕ) (p : Pose) → velAt (putPose b i p) i′ ≡ velAt b i′
 unfolding putPose
-velAt-putPose b i i′ p = velAt-cong b (puts b (i * 10) 0 (poseNumbers p)) i′ (λ c l h. num-beside 10 b (poseNumbers p) i i′ 0 c (lit< tt) h (inr (omega arith)))
+velAt-putPose b i i′ p = velAt-cong b (puts b (i * bodyWidth) posePlace (poseNumbers p)) i′ (λ c l h. num-beside bodyWidth b (poseNumbers p) i i′ posePlace c (lit< tt) h (inr (omega arith)))
 
 -- ---- a stored impulse stored
 
@@ -196,8 +198,8 @@ pub length-putSeed : (numbers : List Float) (j : ℕ) (id : WritebackId) (p : Fl
 unfolding putSeed
 length-putSeed numbers j id p = go (ltb (axisOf id) 3)
   where
-    go : (t : Bool) → length (cond t (set numbers (j * 42 + seedIndex id) p) numbers) ≡ length numbers
-    go true = length-puts (p ∷ []) numbers (j * 42) (seedIndex id)
+    go : (t : Bool) → length (cond t (set numbers (j * numbersWidth + seedIndex id) p) numbers) ≡ length numbers
+    go true = length-puts (p ∷ []) numbers (j * numbersWidth) (seedIndex id)
     go false = refl
 
 -- an id past the last axis
@@ -206,35 +208,35 @@ unfolding putSeed
 putSeed-past numbers j id p h = rw (le-ltb (axisOf id) 3 h)
 
 -- the seed's number
-pub num-putSeed : (numbers : List Float) (j : ℕ) (id : WritebackId) (p : Float) → axisOf id < 3 → j * 42 + 42 ≤ length numbers → num 42 (putSeed numbers j id p) j (seedIndex id) ≡ p
+pub num-putSeed : (numbers : List Float) (j : ℕ) (id : WritebackId) (p : Float) → axisOf id < 3 → j * numbersWidth + numbersWidth ≤ length numbers → num numbersWidth (putSeed numbers j id p) j (seedIndex id) ≡ p
 unfolding putSeed
 num-putSeed numbers j id p h room =
     let l = seed-index-below id h in
-    rw (lt-ltb (axisOf id) 3 h) (getD-set-same numbers (j * 42 + seedIndex id) p nan (omega arith))
+    rw (lt-ltb (axisOf id) 3 h) (getD-set-same numbers (j * numbersWidth + seedIndex id) p nan (omega arith))
 
 -- every other number of the joint
-pub num-putSeed-kept : (numbers : List Float) (j : ℕ) (id : WritebackId) (p : Float) (c : ℕ) → c ≢ seedIndex id → num 42 (putSeed numbers j id p) j c ≡ num 42 numbers j c
+pub num-putSeed-kept : (numbers : List Float) (j : ℕ) (id : WritebackId) (p : Float) (c : ℕ) → c ≢ seedIndex id → num numbersWidth (putSeed numbers j id p) j c ≡ num numbersWidth numbers j c
 unfolding putSeed
 num-putSeed-kept numbers j id p c ne = go (ltb (axisOf id) 3)
   where
-    go : (t : Bool) → num 42 (cond t (set numbers (j * 42 + seedIndex id) p) numbers) j c ≡ num 42 numbers j c
-    go true = num-kept 42 numbers p j (seedIndex id) c ne
+    go : (t : Bool) → num numbersWidth (cond t (set numbers (j * numbersWidth + seedIndex id) p) numbers) j c ≡ num numbersWidth numbers j c
+    go true = num-kept numbersWidth numbers p j (seedIndex id) c ne
     go false = refl
 
 -- every number of another joint
-pub num-putSeed-other : (numbers : List Float) (j j′ : ℕ) (id : WritebackId) (p : Float) (c : ℕ) → j′ ≢ j → c < 42 → num 42 (putSeed numbers j id p) j′ c ≡ num 42 numbers j′ c
+pub num-putSeed-other : (numbers : List Float) (j j′ : ℕ) (id : WritebackId) (p : Float) (c : ℕ) → j′ ≢ j → c < numbersWidth → num numbersWidth (putSeed numbers j id p) j′ c ≡ num numbersWidth numbers j′ c
 unfolding putSeed
 num-putSeed-other numbers j j′ id p c ne l = go (ltb (axisOf id) 3) refl
   where
-    go : (t : Bool) → ltb (axisOf id) 3 ≡ t → num 42 (cond t (set numbers (j * 42 + seedIndex id) p) numbers) j′ c ≡ num 42 numbers j′ c
+    go : (t : Bool) → ltb (axisOf id) 3 ≡ t → num numbersWidth (cond t (set numbers (j * numbersWidth + seedIndex id) p) numbers) j′ c ≡ num numbersWidth numbers j′ c
     go true e =
         let h = seed-index-below id (ltb-true (axisOf id) 3 e) in
-        num-other 42 numbers (p ∷ []) j j′ (seedIndex id) c ne (omega arith) l
+        num-other numbersWidth numbers (p ∷ []) j j′ (seedIndex id) c ne (omega arith) l
     go false e = refl
 
 -- ---- joints
 
-jointOf-cong : (f f′ : ℕ → Float) (g : ℕ → ℕ) → ((c : ℕ) → c < 42 → f c ≡ f′ c) → jointOf f g ≡ jointOf f′ g
+jointOf-cong : (f f′ : ℕ → Float) (g : ℕ → ℕ) → ((c : ℕ) → c < numbersWidth → f c ≡ f′ c) → jointOf f g ≡ jointOf f′ g
 jointOf-cong f f′ g h =
     cc (
       h 0 (lit< tt),
@@ -285,15 +287,15 @@ jointOf-cong f f′ g h =
 pub jointAt-putSeed-other : (words : List ℕ) (numbers : List Float) (j j′ : ℕ) (id : WritebackId) (p : Float) → j′ ≢ j → jointAt words (putSeed numbers j id p) j′ ≡ jointAt words numbers j′
 unfolding jointAt
 jointAt-putSeed-other words numbers j j′ id p ne =
-    jointOf-cong (num 42 (putSeed numbers j id p) j′) (num 42 numbers j′) (word 9 words j′) (λ c h. num-putSeed-other numbers j j′ id p c ne h)
+    jointOf-cong (num numbersWidth (putSeed numbers j id p) j′) (num numbersWidth numbers j′) (word wordsWidth words j′) (λ c h. num-putSeed-other numbers j j′ id p c ne h)
 
 -- The same joint: its numbers with p at the id's place.
-pub jointAt-putSeed : (words : List ℕ) (numbers : List Float) (j : ℕ) (id : WritebackId) (p : Float) → axisOf id < 3 → j * 42 + 42 ≤ length numbers
-    → jointAt words (putSeed numbers j id p) j ≡ jointOf (λ c. cond (eqb c (seedIndex id)) p (num 42 numbers j c)) (word 9 words j)
+pub jointAt-putSeed : (words : List ℕ) (numbers : List Float) (j : ℕ) (id : WritebackId) (p : Float) → axisOf id < 3 → j * numbersWidth + numbersWidth ≤ length numbers
+    → jointAt words (putSeed numbers j id p) j ≡ jointOf (λ c. cond (eqb c (seedIndex id)) p (num numbersWidth numbers j c)) (word wordsWidth words j)
 unfolding jointAt
 jointAt-putSeed words numbers j id p h room =
-    jointOf-cong (num 42 (putSeed numbers j id p) j) (λ c. cond (eqb c (seedIndex id)) p (num 42 numbers j c)) (word 9 words j) (λ c _. at c (eqb c (seedIndex id)) refl)
+    jointOf-cong (num numbersWidth (putSeed numbers j id p) j) (λ c. cond (eqb c (seedIndex id)) p (num numbersWidth numbers j c)) (word wordsWidth words j) (λ c _. at c (eqb c (seedIndex id)) refl)
   where
-    at : (c : ℕ) (t : Bool) → eqb c (seedIndex id) ≡ t → num 42 (putSeed numbers j id p) j c ≡ cond t p (num 42 numbers j c)
+    at : (c : ℕ) (t : Bool) → eqb c (seedIndex id) ≡ t → num numbersWidth (putSeed numbers j id p) j c ≡ cond t p (num numbersWidth numbers j c)
     at c true e = rw (eqb-true c (seedIndex id) e) (num-putSeed numbers j id p h room)
     at c false e = num-putSeed-kept numbers j id p c (eqb-false c (seedIndex id) e)

@@ -1,5 +1,5 @@
--- A joint's rows in storage as a list: rows read from a row on are given one by one (`rowsFrom-at`, `rowsFrom-same`), and their impulses with them
--- (`impulses-of`). A list of rows stored from a row on is what is read there (`putRows-at`); every other row reads as before, and the length is kept.
+-- A joint's rows in storage as a list: rows read from a row on are given one by one (`rowsFrom-at`, `rowsFrom-same`), their number (`rowsFrom-length`) and their
+-- impulses with them (`impulses-of`). A list of rows stored from a row on is what is read there (`putRows-at`); every other row reads as before, and the length is kept.
 use Prim.Native.Nat.{ℕ, zero, suc, _+_, _*_, _≤_, _<_}
 use mathlib.Core.Path.{_≡_, refl, ap, _∙_}
 use mathlib.Core.Logic.{_≢_}
@@ -10,6 +10,7 @@ use lib.ListN.{length, getD}
 use lib.Ieee.{Float}
 use Rattle.rows.specs.Update.{blankRow}
 use Rattle.rows.specs.declared.joint_velocity_constraint.JointConstraint.{JointConstraint}
+use Rattle.model.specs.Layout.{rowWidth}
 use Rattle.model.specs.Store.{rowAt, putRow}
 use Rattle.model.specs.JointRows.{putRows, impulsesAt}
 use Rattle.model.specs.Calls.{rowsFrom}
@@ -38,6 +39,11 @@ rowsFrom-same rows rows′ (suc n) k k′ h =
           rw (e, e′) (h (suc i) (omega arith))),
     )
 
+pub rowsFrom-length : (rows : List Float) (k n : ℕ) → length (rowsFrom rows k n) ≡ n
+unfolding rowsFrom
+rowsFrom-length rows k zero = refl
+rowsFrom-length rows k (suc n) = ap suc (rowsFrom-length rows (k + 1) n)
+
 pub impulses-of : (s : List Float) (k n : ℕ) → impulsesAt s k n ≡ map (λ r. r .impulse) (rowsFrom s k n)
 unfolding impulsesAt rowsFrom
 impulses-of s k zero = refl
@@ -57,7 +63,7 @@ putRows-other [] s k q h = refl
 putRows-other (r ∷ rs) s k q h =
     putRows-other rs (putRow s k r) (k + 1) q (λ p a b. h p (omega arith) (omega arith)) ∙ rowAt-putRow-other s k q r (h k (omega arith) (omega arith))
 
-pub putRows-at : (rs : List JointConstraint) (s : List Float) (k i : ℕ) → i < length rs → (k + length rs) * 18 ≤ length s
+pub putRows-at : (rs : List JointConstraint) (s : List Float) (k i : ℕ) → i < length rs → (k + length rs) * rowWidth ≤ length s
     → rowAt (putRows s k rs) (k + i) ≡ getD rs i blankRow
 unfolding putRows
 putRows-at [] s k i h room = absurd (omega arith)

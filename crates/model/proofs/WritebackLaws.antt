@@ -12,6 +12,7 @@ use Rattle.rows.specs.Writeback.{writebackOf}
 use Rattle.rows.specs.declared.joint_velocity_constraint.WritebackId.{WritebackId}
 use Rattle.rows.specs.declared.joint_velocity_constraint.WritebackId.the-variants.{Dof, Limit, Motor}
 use Rattle.rows.proofs.WritebackKinds.{dof-written, limit-written, motor-written}
+use Rattle.model.specs.Layout.{wordsWidth, numbersWidth}
 use Rattle.model.specs.Records.{num, word}
 use Rattle.model.specs.Store.{seedIndex, axisOf, putSeed, jointAt, jointOf}
 use Rattle.model.proofs.StoreLaws.{putSeed-past, jointAt-putSeed}
@@ -46,7 +47,7 @@ module _ (f : ℕ → Float) (g : ℕ → ℕ) (p : Float) where
   past (Motor (suc (suc zero))) h = absurd (omega arith)
   past (Motor (suc (suc (suc i)))) h = rw motor-written
 
-pub jointAt-putSeed-writeback : (words : List ℕ) (numbers : List Float) (j : ℕ) (id : WritebackId) (p : Float) → j * 42 + 42 ≤ length numbers
+pub jointAt-putSeed-writeback : (words : List ℕ) (numbers : List Float) (j : ℕ) (id : WritebackId) (p : Float) → j * numbersWidth + numbersWidth ≤ length numbers
     → jointAt words (putSeed numbers j id p) j ≡ writebackOf (jointAt words numbers j) id p
 unfolding jointAt
 jointAt-putSeed-writeback words numbers j id p room = go (ltb (axisOf id) 3) refl
@@ -54,7 +55,7 @@ jointAt-putSeed-writeback words numbers j id p room = go (ltb (axisOf id) 3) ref
     go : (t : Bool) → ltb (axisOf id) 3 ≡ t → jointAt words (putSeed numbers j id p) j ≡ writebackOf (jointAt words numbers j) id p
     go true e =
         let h = ltb-true (axisOf id) 3 e in
-        jointAt-putSeed words numbers j id p h room ∙ seeded (num 42 numbers j) (word 9 words j) p id h
+        jointAt-putSeed words numbers j id p h room ∙ seeded (num numbersWidth numbers j) (word wordsWidth words j) p id h
     go false e =
         let h = ltb-false (axisOf id) 3 e in
-        rw (putSeed-past numbers j id p h) (past (num 42 numbers j) (word 9 words j) p id h)
+        rw (putSeed-past numbers j id p h) (past (num numbersWidth numbers j) (word wordsWidth words j) p id h)

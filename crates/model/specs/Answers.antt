@@ -1,10 +1,16 @@
 -- The answers of the program's calls as document 01 has them: for each case of an enum its number and values.
 use mathlib.Core.Path.{_≡_}
-use mathlib.Core.List.{List, []}
+use mathlib.Core.List.{List, [], map}
+use lib.ListN.{take}
 use lib.Ieee.{Float}
 use Rattle.rows.specs.RowIds.{rowIdsArray}
 use Rattle.rows.specs.Update.{rowsArray}
 use Rattle.rows.specs.declared.generic_joint.Masks.{Masks}
+use Rattle.rows.specs.declared.row_ids.RowId.{RowId}
+use Rattle.rows.specs.declared.row_ids.RowIds.{RowIds}
+use Rattle.rows.specs.declared.joint_velocity_constraint.Rows.{Rows}
+use Rattle.rows.specs.declared.joint_velocity_constraint.WritebackId.{WritebackId}
+use Rattle.model.specs.JointRows.{rowsList}
 use Rattle.model.specs.Calls.{Answer, Outcome}
 use Rattle.model.specs.Calls.Answer.{granted, total, rowsRead, velocityRead, refused}
 use Rattle.model.specs.declared.header.Header.{Header}
@@ -43,7 +49,18 @@ abbrev pub velocityAnswer : VelocityAnswer → Answer
 velocityAnswer (VelocityAnswer.Velocity v) = velocityRead v
 velocityAnswer (VelocityAnswer.Refused k) = refused k
 
--- A row read's answer as the program gives it: ids and rows in arrays, which hold none beside a refusal. The first argument is the joint's masks.
+-- a row read's ids and rows, held in arrays of six with a count
+abbrev pub idsList : RowIds → List WritebackId
+idsList r = map (λ (i : RowId). i .id) (take (r .len) (r .ids))
+
+abbrev pub readAnswer : Plain → RowIds → Rows → Answer
+readAnswer Plain.Granted ids rows = rowsRead (idsList ids) (rowsList rows)
+readAnswer (Plain.Refused k) ids rows = refused k
+
+abbrev pub rowsAnswer : RowsAnswer → Answer
+rowsAnswer r = readAnswer (r .answer) (r .ids) (r .rows)
+
+-- Past their counts the arrays are filled up, and beside a refusal they hold nothing. The first argument is the joint's masks.
 abbrev pub noMasks : Masks
 noMasks = record { «locked_axes» = 0; «limit_axes» = 0; «motor_axes» = 0; «coupled_axes» = 0 }
 

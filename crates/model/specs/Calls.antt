@@ -1,18 +1,18 @@
--- Document 01's eight calls on a model: which rules each one tries, what it does where none fails, and what it answers. A refused call leaves all as it was.
+-- Document 01's eight calls on a model: the table of what each one is handed, asks for and tries, what it does where no rule fails, and what it answers. A refused
+-- call leaves all as it was.
 use Prim.Native.Nat.{ℕ, zero, suc, _+_}
 use mathlib.Core.Bool.{Bool, true, false, cond}
-use mathlib.Core.List.{List, [], _∷_, _++_}
+use mathlib.Core.List.{List, [], _∷_, _++_, map}
 use lib.Dec.{eqb}
 use lib.Ieee.{Float}
 use Rattle.floats.specs.declared.pose.Pose.{Pose}
-use Rattle.rows.specs.RowIds.{rowIds}
 use Rattle.rows.specs.declared.joint_constraint_builder.Warmstart.{Warmstart}
 use Rattle.rows.specs.declared.joint_velocity_constraint.JointConstraint.{JointConstraint}
 use Rattle.rows.specs.declared.joint_velocity_constraint.SolverVel.{SolverVel}
 use Rattle.rows.specs.declared.joint_velocity_constraint.WritebackId.{WritebackId}
-use Rattle.model.specs.Store.{rowAt, velAt, putPose, masksAt, body1At, body2At}
-use Rattle.model.specs.JointRows.{State, state, rowCount, buildJoint, sweepJoint, warmstartJoint, removeBiasJoint, writeBackJoint}
-use Rattle.model.specs.Model.{Model, withMark, withBodies, withNumbers, bodyCount, jointCount, rowsBefore, totalRows}
+use Rattle.model.specs.Store.{rowAt, velAt, putPose, body1At, body2At}
+use Rattle.model.specs.JointRows.{State, state, jointIds, rowCount, buildJoint, sweepJoint, warmstartJoint, removeBiasJoint, writeBackJoint}
+use Rattle.model.specs.Model.{Model, withMark, withBodies, withNumbers, jointCount, rowsBefore, totalRows}
 use Rattle.model.specs.Refusals.{Rule, refusal, finitePose, finiteWarm, modelRules, storageRule, sweepRule, builtRule, seedsRule, bodyRule, jointRule}
 
 -- ---- all joints
@@ -84,6 +84,14 @@ pub data Answer : Type 0 where
   velocityRead : SolverVel → Answer
   refused : ℕ → Answer
 
+-- the number of a refusal; 0 of what is granted
+abbrev pub refusalOf : Answer → ℕ
+refusalOf granted = 0
+refusalOf (total n) = 0
+refusalOf (rowsRead ids rows) = 0
+refusalOf (velocityRead v) = 0
+refusalOf (refused k) = k
+
 -- what a call answers, and how it leaves the model and the row storage
 pub record Outcome : Type 0 where
   pub answer : Answer
@@ -93,17 +101,71 @@ pub record Outcome : Type 0 where
 abbrev pub outcome : Answer → Model → List Float → Outcome
 outcome a m r = record { answer = a; after = m; rows = r }
 
--- the rules that a call tries, in order; place and a velocity read are handed no row storage
+-- what a call asks for by index
+pub data Asked : Type 0 where
+  nothing : Asked
+  body : ℕ → Asked
+  joint : ℕ → Asked
+
+-- a rule of a call's own: 9, so many rounds are not too many; 10, a build comes before it; 10, one comes before it where it reads the rows of the last one
+pub data Own : Type 0 where
+  fewRounds : ℕ → Own
+  afterBuild : Own
+  afterRead : Warmstart → ℕ → Own
+
+abbrev pub ownRule : Model → Own → Rule
+ownRule m (fewRounds n) = sweepRule n
+ownRule m afterBuild = builtRule m
+ownRule m (afterRead warm substep) = seedsRule m warm substep
+
+-- What there is to know of a call beside what it does.
+pub record Entry : Type 0 where
+  -- its own numbers, a new pose or a warm coefficient, are finite (rule 6)
+  pub finite : Bool
+  -- it is handed row storage (rule 8)
+  pub rowStorage : Bool
+  -- its own rules, 9 and 10
+  pub own : List Own
+  -- what it asks for by index (rule 11)
+  pub asked : Asked
+  -- where it is granted, it makes rows
+  pub makesRows : Bool
+
+abbrev entry : Bool → Bool → List Own → Asked → Bool → Entry
+entry f s o a r = record { finite = f; rowStorage = s; own = o; asked = a; makesRows = r }
+
+-- The table of the calls, by column: finite, rowStorage, own, asked, makesRows. Place and a velocity read are handed no row storage.
+abbrev pub table : Call → Entry
+table load = entry true true [] nothing false
+table (place i pose) = entry (finitePose pose) false [] (body i) false
+table (build warm substep) = entry (finiteWarm warm) true (afterRead warm substep ∷ []) nothing true
+table warmStart = entry true true (afterBuild ∷ []) nothing false
+table (sweep n) = entry true true (fewRounds n ∷ afterBuild ∷ []) nothing false
+table removeBias = entry true true (afterBuild ∷ []) nothing false
+table writeBack = entry true true (afterBuild ∷ []) nothing false
+table (readRows j) = entry true true (afterBuild ∷ []) (joint j) false
+table (readVelocity i) = entry true false [] (body i) false
+
+-- rules 1 to 8, over what a call is handed; a call handed no row storage passes over 8
+abbrev pub handedRules : Bool → Model → Bool → List Float → List Rule
+handedRules true m finite rows = modelRules m finite ++ (storageRule m rows ∷ [])
+handedRules false m finite rows = modelRules m finite
+
+-- rule 11
+abbrev pub askedRules : Model → Asked → List Rule
+askedRules m nothing = []
+askedRules m (body i) = bodyRule m i ∷ []
+askedRules m (joint j) = jointRule m j ∷ []
+
+-- the rules that a call tries, in order: 1 to 8, and then 9 to 11
+abbrev pub firstRules : Call → Model → List Float → List Rule
+firstRules c m rows = handedRules (table c .rowStorage) m (table c .finite) rows
+
+abbrev pub ownRules : Call → Model → List Rule
+ownRules c m = map (ownRule m) (table c .own) ++ askedRules m (table c .asked)
+
 unfoldable pub rulesOf : Call → Model → List Float → List Rule
-rulesOf load m rows = modelRules m true ++ (storageRule m rows ∷ [])
-rulesOf (place i pose) m rows = modelRules m (finitePose pose) ++ (bodyRule m i ∷ [])
-rulesOf (build warm substep) m rows = modelRules m (finiteWarm warm) ++ (storageRule m rows ∷ seedsRule m warm substep ∷ [])
-rulesOf warmStart m rows = modelRules m true ++ (storageRule m rows ∷ builtRule m ∷ [])
-rulesOf (sweep n) m rows = modelRules m true ++ (storageRule m rows ∷ sweepRule n ∷ builtRule m ∷ [])
-rulesOf removeBias m rows = modelRules m true ++ (storageRule m rows ∷ builtRule m ∷ [])
-rulesOf writeBack m rows = modelRules m true ++ (storageRule m rows ∷ builtRule m ∷ [])
-rulesOf (readRows j) m rows = modelRules m true ++ (storageRule m rows ∷ builtRule m ∷ jointRule m j ∷ [])
-rulesOf (readVelocity i) m rows = modelRules m true ++ (bodyRule m i ∷ [])
+rulesOf c m rows = firstRules c m rows ++ ownRules c m
 
 -- what a call does where no rule fails
 unfoldable pub grantedOf : Call → Model → List Float → Outcome
@@ -120,7 +182,7 @@ grantedOf (sweep n) m rows =
 grantedOf removeBias m rows = outcome granted m (eachJoint (removeBiasOne (m .words)) 0 (jointCount (m .words) (m .numbers)) rows)
 grantedOf writeBack m rows =
     outcome granted (withNumbers m (eachJoint (writeBackOne rows (m .words)) 0 (jointCount (m .words) (m .numbers)) (m .numbers))) rows
-grantedOf (readRows j) m rows = outcome (rowsRead (rowIds 2 1 (masksAt (m .words) j)) (rowsOf (m .words) rows j)) m rows
+grantedOf (readRows j) m rows = outcome (rowsRead (jointIds (m .words) j) (rowsOf (m .words) rows j)) m rows
 grantedOf (readVelocity i) m rows = outcome (velocityRead (velAt (m .bodies) i)) m rows
 
 -- a call: refused with the number of the first rule that fails, and then nothing changes

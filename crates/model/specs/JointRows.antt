@@ -22,9 +22,13 @@ pub record State : Type 0 where
 abbrev pub state : List Float → List Float → State
 state r b = record { rows = r; bodies = b }
 
--- joint j's number of rows
+-- the ids of joint j's rows, in order: these rows it has, reads and writes back
+unfoldable pub jointIds : List ℕ → ℕ → List WritebackId
+jointIds words j = rowIds 2 1 (masksAt words j)
+
+-- and their number
 unfoldable pub rowCount : List ℕ → ℕ → ℕ
-rowCount words j = length (rowIds 2 1 (masksAt words j))
+rowCount words j = length (jointIds words j)
 
 -- ---- making rows
 
@@ -79,7 +83,7 @@ writeBackIds rows k j [] numbers = numbers
 writeBackIds rows k j (i ∷ is) numbers = writeBackIds rows (k + 1) j is (putSeed numbers j i (rowAt rows k .impulse))
 
 unfoldable pub writeBackJoint : List Float → List ℕ → ℕ → ℕ → List Float → List Float
-writeBackJoint rows words k j numbers = writeBackIds rows k j (rowIds 2 1 (masksAt words j)) numbers
+writeBackJoint rows words k j numbers = writeBackIds rows k j (jointIds words j) numbers
 
 -- the rows that an array holds
 abbrev pub rowsList : Rows → List JointConstraint

@@ -1,8 +1,11 @@
+pub mod Layout
 pub mod Records
 pub mod Store
 pub mod JointRows
 pub mod Model
+pub mod SingleRecords
 pub mod Refusals
 pub mod Calls
 pub mod Answers
+pub mod Traces
 pub mod Studies

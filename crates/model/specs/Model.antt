@@ -8,9 +8,17 @@ use lib.Dec.{ltb}
 use lib.ListN.{length}
 use lib.Ieee.{Float}
 use Rattle.rows.specs.declared.integration_parameters.IntegrationParameters.{IntegrationParameters}
+use Rattle.model.specs.Layout.{rowWidth, bodyWidth, wordsWidth, numbersWidth}
 use Rattle.model.specs.Store.{Present, body1At, body2At}
 use Rattle.model.specs.JointRows.{rowCount}
 use Rattle.model.specs.declared.header.Header.{Header}
+
+-- at most so many bodies and joints
+abbrev pub mostBodies : ℕ
+mostBodies = 128
+
+abbrev pub mostJoints : ℕ
+mostJoints = 128
 
 -- Settings, the mark, and the storage of bodies and joints. Row storage is handed over beside it.
 pub record Model : Type 0 where
@@ -39,13 +47,14 @@ withNumbers m n = model (m .params) (m .built) (m .bodies) (m .words) n
 
 -- How many bodies, joints and rows a storage holds: its whole records. A joint is there where both its words and its numbers are.
 unfoldable pub bodyCount : List Float → ℕ
-bodyCount bodies = length bodies / 10
+bodyCount bodies = length bodies / bodyWidth
 
 unfoldable pub jointCount : List ℕ → List Float → ℕ
-jointCount words numbers = cond (ltb (length words / 9) (length numbers / 42)) (length words / 9) (length numbers / 42)
+jointCount words numbers =
+    cond (ltb (length words / wordsWidth) (length numbers / numbersWidth)) (length words / wordsWidth) (length numbers / numbersWidth)
 
 unfoldable pub rowCapacity : List Float → ℕ
-rowCapacity rows = length rows / 18
+rowCapacity rows = length rows / rowWidth
 
 -- a joint's rows follow the earlier joints' rows: the rows of the first j joints together, so joint j's first row
 unfoldable pub rowsBefore : List ℕ → ℕ → ℕ
@@ -58,7 +67,7 @@ totalRows words numbers = rowsBefore words (jointCount words numbers)
 
 -- What the work on all joints asks: each joint's bodies are there, and they differ. Rules 1, 4 and 5 see to it.
 pub record Sound (m : Model) : Type 0 where
-  pub few : bodyCount (m .bodies) ≤ 128
+  pub few : bodyCount (m .bodies) ≤ mostBodies
   pub present1 : (j : ℕ) → j < jointCount (m .words) (m .numbers) → Present (m .bodies) (body1At (m .words) j)
   pub present2 : (j : ℕ) → j < jointCount (m .words) (m .numbers) → Present (m .bodies) (body2At (m .words) j)
   pub apart : (j : ℕ) → j < jointCount (m .words) (m .numbers) → body1At (m .words) j ≢ body2At (m .words) j

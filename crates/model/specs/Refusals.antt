@@ -12,9 +12,10 @@ use Rattle.floats.specs.declared.pose.Pose.{Pose}
 use Rattle.rows.specs.declared.integration_parameters.IntegrationParameters.{IntegrationParameters}
 use Rattle.rows.specs.declared.joint_constraint_builder.Warmstart.{Warmstart}
 use Rattle.rows.specs.declared.joint_constraint_builder.Warmstart.the-variants.{Cold, Warm}
+use Rattle.model.specs.Layout.{bodyWidth, velocityPlace, wordsWidth, masksPlace, numbersWidth, limitsPlace, limitsWidth, motorsPlace, motorWidth, softnessPlace, centerPlace}
 use Rattle.model.specs.Records.{word}
 use Rattle.model.specs.Store.{world, body1At, body2At}
-use Rattle.model.specs.Model.{Model, bodyCount, jointCount, rowCapacity, totalRows}
+use Rattle.model.specs.Model.{mostBodies, mostJoints, Model, bodyCount, jointCount, rowCapacity, totalRows}
 
 pub record Rule : Type 0 where
   pub number : ℕ
@@ -33,18 +34,15 @@ unfoldable pub all : ℕ → ℕ → (ℕ → Bool) → Bool
 all i zero p = true
 all i (suc n) p = p i && all (i + 1) n p
 
--- document 01's largest numbers of bodies, joints and rounds, and the mask of all three axes
-abbrev pub mostBodies : ℕ
-mostBodies = 128
-
-abbrev pub mostJoints : ℕ
-mostJoints = 128
-
+-- the largest number of rounds, the mask of all three axes, and the number of masks
 abbrev pub mostRounds : ℕ
 mostRounds = 1000
 
 abbrev pub allAxes : ℕ
 allAxes = 7
+
+abbrev pub fourMasks : ℕ
+fourMasks = 4
 
 abbrev pub atMost : ℕ → ℕ → Bool
 atMost most n = not (ltb most n)
@@ -52,7 +50,7 @@ atMost most n = not (ltb most n)
 -- ---- what rules 3, 4 and 5 ask of joint j
 
 unfoldable pub masksFit : List ℕ → ℕ → Bool
-masksFit words j = all 2 4 (λ c. atMost allAxes (word 9 words j c))
+masksFit words j = all masksPlace fourMasks (λ c. atMost allAxes (word wordsWidth words j c))
 
 -- a body is present, or the world
 unfoldable pub presentOrWorld : List Float → ℕ → Bool
@@ -85,7 +83,7 @@ finiteWarm (Warm coeff) = isFinite coeff
 
 -- body i's pose, inverse inertia and inverse masses
 unfoldable pub finiteBody : List Float → ℕ → Bool
-finiteBody bodies i = finiteFrom bodies (i * 10) 7
+finiteBody bodies i = finiteFrom bodies (i * bodyWidth) velocityPlace
 
 -- the motor from place o on: target velocity and position, stiffness and damping; then the maximum force
 unfoldable pub finiteMotor : List Float → ℕ → Bool
@@ -93,16 +91,18 @@ finiteMotor s o = finiteFrom s o 4 && noNanFrom s (o + 4) 1
 
 -- of a joint whose numbers start at place o, the ends of its limits, and its motors
 abbrev pub limitEnds : List Float → ℕ → Bool
-limitEnds s o = noNanFrom s (o + 8) 2 && (noNanFrom s (o + 11) 2 && noNanFrom s (o + 14) 2)
+limitEnds s o =
+    noNanFrom s (o + limitsPlace) 2 && (noNanFrom s (o + (limitsPlace + limitsWidth)) 2 && noNanFrom s (o + (limitsPlace + 2 * limitsWidth)) 2)
 
 abbrev pub finiteMotors : List Float → ℕ → Bool
-finiteMotors s o = finiteMotor s (o + 17) && (finiteMotor s (o + 23) && finiteMotor s (o + 29))
+finiteMotors s o =
+    finiteMotor s (o + motorsPlace) && (finiteMotor s (o + (motorsPlace + motorWidth)) && finiteMotor s (o + (motorsPlace + 2 * motorWidth)))
 
 -- joint j's frames; the ends of its limits; its motors; softness and centre
 unfoldable pub finiteJoint : List Float → ℕ → Bool
 finiteJoint s j =
-    let o = j * 42 in
-    finiteFrom s o 8 && (limitEnds s o && (finiteMotors s o && (finiteFrom s (o + 35) 2 && finiteFrom s (o + 40) 2)))
+    let o = j * numbersWidth in
+    finiteFrom s o limitsPlace && (limitEnds s o && (finiteMotors s o && (finiteFrom s (o + softnessPlace) 2 && finiteFrom s (o + centerPlace) 2)))
 
 -- all that rule 6 asks of n bodies and of the joints; `arguments` says that the call's own numbers (a new pose, a warm coefficient) are finite
 abbrev pub allFinite : IntegrationParameters → List Float → ℕ → List Float → ℕ → Bool → Bool

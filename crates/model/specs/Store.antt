@@ -1,6 +1,4 @@
--- Bodies, joints and rows in flat storage. A body is 10 numbers: pose (re, im, x, y), inverse inertia, inverse masses (x, y), velocity (x, y, angular).
--- A joint is 9 words: two bodies, four masks, three motor models; and 42 numbers: two frames, three limits, three motors, softness, Dof impulses, centre.
--- A row is 18 numbers, in the Rust's field order.
+-- Bodies, joints and rows as they stand in flat storage, by the layout of their records.
 use Prim.Native.Nat.{ℕ, _+_, _*_, _≤_}
 use mathlib.Core.Path.{_≡_}
 use mathlib.Core.Bool.{cond}
@@ -25,6 +23,7 @@ use Rattle.rows.specs.declared.joint_velocity_constraint.SolverVel.{SolverVel}
 use Rattle.rows.specs.declared.joint_velocity_constraint.JointConstraint.{JointConstraint}
 use Rattle.rows.specs.declared.joint_velocity_constraint.WritebackId.{WritebackId}
 use Rattle.rows.specs.declared.joint_velocity_constraint.WritebackId.the-variants.{Dof, Limit, Motor}
+use Rattle.model.specs.Layout.{rowWidth, bodyWidth, posePlace, inertiaPlace, massPlace, velocityPlace, wordsWidth, body1Place, body2Place, masksPlace, modelsPlace, numbersWidth, frame1Place, frame2Place, limitsPlace, limitsWidth, motorsPlace, motorWidth, softnessPlace, dofsPlace, centerPlace, limitSeed, motorSeed}
 use Rattle.model.specs.Records.{num, word, puts}
 
 -- ---- rows
@@ -51,9 +50,9 @@ rowOf f = record {
 
 -- row k of the storage
 unfoldable pub rowAt : List Float → ℕ → JointConstraint
-rowAt s k = rowOf (num 18 s k)
+rowAt s k = rowOf (num rowWidth s k)
 
--- a row's 18 numbers
+-- a row's numbers
 abbrev pub rowNumbers : JointConstraint → List Float
 rowNumbers r =
     r .impulse ∷ r .«impulse_min» ∷ r .«impulse_max» ∷ r .«lin_jac» .x ∷ r .«lin_jac» .y ∷ r .«ang_jac1» ∷ r .«ang_jac2» ∷ r .«ii_ang_jac1» ∷ r .«ii_ang_jac2»
@@ -61,7 +60,7 @@ rowNumbers r =
 
 -- row k replaced
 unfoldable pub putRow : List Float → ℕ → JointConstraint → List Float
-putRow s k r = puts s (k * 18) 0 (rowNumbers r)
+putRow s k r = puts s (k * rowWidth) 0 (rowNumbers r)
 
 -- ---- bodies
 
@@ -71,7 +70,7 @@ world = 4294967295
 
 -- body i is the world, or its record is there
 abbrev pub Present : List Float → ℕ → Type 0
-Present b i = (i ≡ world → ⊥) → i * 10 + 10 ≤ length b
+Present b i = (i ≡ world → ⊥) → i * bodyWidth + bodyWidth ≤ length b
 
 -- the pose in the four numbers from number o on
 abbrev pub poseOf : (ℕ → Float) → ℕ → Pose
@@ -89,22 +88,31 @@ worldPose = record {
 unfoldable pub solverPoseAt : List Float → ℕ → SolverPose
 solverPoseAt b i =
     cond (eqb i world) worldPose
-    (record { pose = poseOf (num 10 b i) 0; ii = num 10 b i 4; im = record { x = num 10 b i 5; y = num 10 b i 6 } })
+    (record {
+      pose = poseOf (num bodyWidth b i) posePlace;
+      ii = num bodyWidth b i inertiaPlace;
+      im = record { x = num bodyWidth b i massPlace; y = num bodyWidth b i (massPlace + 1) };
+    })
 
 abbrev pub rest : SolverVel
 rest = record { linear = record { x = bits 0; y = bits 0 }; angular = bits 0 }
 
 -- the velocity of body i; the world's reads zero
 unfoldable pub velAt : List Float → ℕ → SolverVel
-velAt b i = cond (eqb i world) rest (record { linear = record { x = num 10 b i 7; y = num 10 b i 8 }; angular = num 10 b i 9 })
+velAt b i =
+    cond (eqb i world) rest
+    (record {
+      linear = record { x = num bodyWidth b i velocityPlace; y = num bodyWidth b i (velocityPlace + 1) };
+      angular = num bodyWidth b i (velocityPlace + 2);
+    })
 
 -- body i's velocity replaced; what is written to the world's is dropped
 unfoldable pub putVel : List Float → ℕ → SolverVel → List Float
-putVel b i v = cond (eqb i world) b (puts b (i * 10) 7 (v .linear .x ∷ v .linear .y ∷ v .angular ∷ []))
+putVel b i v = cond (eqb i world) b (puts b (i * bodyWidth) velocityPlace (v .linear .x ∷ v .linear .y ∷ v .angular ∷ []))
 
 -- body i's pose replaced
 unfoldable pub putPose : List Float → ℕ → Pose → List Float
-putPose b i p = puts b (i * 10) 0 (p .rotation .re ∷ p .rotation .im ∷ p .translation .x ∷ p .translation .y ∷ [])
+putPose b i p = puts b (i * bodyWidth) posePlace (p .rotation .re ∷ p .rotation .im ∷ p .translation .x ∷ p .translation .y ∷ [])
 
 -- ---- joints
 
@@ -128,49 +136,62 @@ motorOf f o m = record {
 
 -- the masks of a joint whose word c is g c
 abbrev pub masksOf : (ℕ → ℕ) → Masks
-masksOf g = record { «locked_axes» = g 2; «limit_axes» = g 3; «motor_axes» = g 4; «coupled_axes» = g 5 }
+masksOf g = record {
+  «locked_axes» = g masksPlace;
+  «limit_axes» = g (masksPlace + 1);
+  «motor_axes» = g (masksPlace + 2);
+  «coupled_axes» = g (masksPlace + 3);
+}
 
 -- the limits of the three axes, and their motors
 abbrev pub allLimitsOf : (ℕ → Float) → List JointLimits
-allLimitsOf f = limitsOf f 8 ∷ limitsOf f 11 ∷ limitsOf f 14 ∷ []
+allLimitsOf f = limitsOf f limitsPlace ∷ limitsOf f (limitsPlace + limitsWidth) ∷ limitsOf f (limitsPlace + 2 * limitsWidth) ∷ []
 
 abbrev pub allMotorsOf : (ℕ → Float) → (ℕ → ℕ) → List JointMotor
-allMotorsOf f g = motorOf f 17 (g 6) ∷ motorOf f 23 (g 7) ∷ motorOf f 29 (g 8) ∷ []
+allMotorsOf f g =
+    motorOf f motorsPlace (g modelsPlace)
+    ∷ motorOf f (motorsPlace + motorWidth) (g (modelsPlace + 1))
+    ∷ motorOf f (motorsPlace + 2 * motorWidth) (g (modelsPlace + 2))
+    ∷ []
 
 -- the joint whose number c is f c and whose word c is g c
 abbrev pub dataOf : (ℕ → Float) → (ℕ → ℕ) → GenericJoint
 dataOf f g = record {
-  «local_frame1» = poseOf f 0;
-  «local_frame2» = poseOf f 4;
+  «local_frame1» = poseOf f frame1Place;
+  «local_frame2» = poseOf f frame2Place;
   masks = masksOf g;
   limits = allLimitsOf f;
   motors = allMotorsOf f g;
-  softness = record { «natural_frequency» = f 35; «damping_ratio» = f 36 };
+  softness = record { «natural_frequency» = f softnessPlace; «damping_ratio» = f (softnessPlace + 1) };
 }
 
 abbrev pub jointOf : (ℕ → Float) → (ℕ → ℕ) → ImpulseJoint
-jointOf f g = record { «data» = dataOf f g; impulses = f 37 ∷ f 38 ∷ f 39 ∷ []; center = record { re = f 40; im = f 41 } }
+jointOf f g = record {
+  «data» = dataOf f g;
+  impulses = f dofsPlace ∷ f (dofsPlace + 1) ∷ f (dofsPlace + 2) ∷ [];
+  center = record { re = f centerPlace; im = f (centerPlace + 1) };
+}
 
 -- joint j of the storage
 unfoldable pub jointAt : List ℕ → List Float → ℕ → ImpulseJoint
-jointAt words numbers j = jointOf (num 42 numbers j) (word 9 words j)
+jointAt words numbers j = jointOf (num numbersWidth numbers j) (word wordsWidth words j)
 
 -- its masks
 unfoldable pub masksAt : List ℕ → ℕ → Masks
-masksAt words j = masksOf (word 9 words j)
+masksAt words j = masksOf (word wordsWidth words j)
 
 -- its two bodies
 unfoldable pub body1At : List ℕ → ℕ → ℕ
-body1At words j = word 9 words j 0
+body1At words j = word wordsWidth words j body1Place
 
 unfoldable pub body2At : List ℕ → ℕ → ℕ
-body2At words j = word 9 words j 1
+body2At words j = word wordsWidth words j body2Place
 
--- which of a joint's 42 numbers is an id's stored impulse; an axis past the last one has none
+-- which of a joint's numbers is an id's stored impulse; an axis past the last one has none
 abbrev pub seedIndex : WritebackId → ℕ
-seedIndex (Dof i) = 37 + i
-seedIndex (Limit i) = 10 + i * 3
-seedIndex (Motor i) = 22 + i * 6
+seedIndex (Dof i) = dofsPlace + i
+seedIndex (Limit i) = limitsPlace + limitSeed + i * limitsWidth
+seedIndex (Motor i) = motorsPlace + motorSeed + i * motorWidth
 
 -- the axis that an id is of
 abbrev pub axisOf : WritebackId → ℕ
@@ -180,4 +201,4 @@ axisOf (Motor i) = i
 
 -- joint j's stored impulse of an id replaced; an id past the last axis has none, and changes nothing
 unfoldable pub putSeed : List Float → ℕ → WritebackId → Float → List Float
-putSeed numbers j id p = cond (ltb (axisOf id) 3) (set numbers (j * 42 + seedIndex id) p) numbers
+putSeed numbers j id p = cond (ltb (axisOf id) 3) (set numbers (j * numbersWidth + seedIndex id) p) numbers

@@ -3,6 +3,7 @@ ghost use mathlib.Core.Path.{_≡_};
 ghost use Prim.Native.Nat.{_+_, _*_, _≤_};
 ghost use lib.ListN.{length};
 ghost use Rattle.rows.specs.Update.{rowsArray, blankRow};
+ghost use Rattle.model.specs.Layout.{rowWidth};
 ghost use Rattle.model.specs.JointRows.{state};
 ghost use Rattle.model.specs.Model.{modelOf, Sound, Room, jointCount, totalRows};
 ghost use Rattle.model.specs.Calls.{eachJoint, rounds, buildOne, warmstartOne, sweepOne, sweepRound, removeBiasOne, writeBackOne, rowsFrom};
@@ -196,7 +197,7 @@ pub fn blank_row() -> JointConstraint
 // n rows from row k on, at most six, as an array.
 pub fn rows_from(rows: &[f32], k: usize, n: usize) -> Rows
     requires { ⌜ n ≤ 6 ⌝ }
-    requires { ⌜ (k + n) * 18 ≤ length (now rows) ⌝ }
+    requires { ⌜ (k + n) * rowWidth ≤ length (now rows) ⌝ }
     ensures { λ r. ⌜ r ≡ rowsArray (rowsFrom (now (rows .entry)) k n) ⌝ }
 {
     let blank = blank_row();

@@ -6,7 +6,7 @@ ghost use Rattle.model.specs.Calls.{outcome, run};
 ghost use Rattle.model.specs.Calls.Call.{load, place, build, warmStart, sweep, removeBias, writeBack, readRows, readVelocity};
 ghost use Rattle.model.specs.Store.{masksAt};
 ghost use Rattle.model.specs.Refusals.{readsRows};
-ghost use Rattle.model.specs.Answers.{WithoutRows, loadAnswer, loadHeader, plainAnswer, buildAnswer, buildHeader, noRows, rowsAnswerOf, velocityAnswer};
+ghost use Rattle.model.specs.Answers.{WithoutRows, loadAnswer, loadHeader, plainAnswer, buildAnswer, buildHeader, rowsAnswer, noRows, rowsAnswerOf, velocityAnswer};
 use crate::all_joints::blank_row;
 use crate::all_joints::build_all;
 use crate::all_joints::remove_bias_all;
@@ -19,11 +19,11 @@ use crate::counts::joint_count;
 use crate::counts::rows_before;
 use crate::header::Header;
 use crate::joint_rows::count_at;
+use crate::joint_rows::ids_at;
 use crate::refusals::finite_pose;
 use crate::refusals::finite_warm;
 use crate::refusals::model_refusal;
 use crate::refusals::storage_refusal;
-use crate::store::masks_at;
 use crate::store::put_pose;
 use crate::store::vel_at;
 use floats::pose::Pose;
@@ -260,7 +260,7 @@ fn no_rows(k: u32) -> RowsAnswer
     }
 }
 
-// One joint's rows, with their ids.
+// One joint's rows, with their ids: the call's answer, and how the arrays are filled up.
 pub fn read_rows(
     header: Header,
     bodies: &[f32],
@@ -269,6 +269,7 @@ pub fn read_rows(
     rows: &[f32],
     joint: u32,
 ) -> RowsAnswer
+    ensures { λ r. ⌜ outcome (rowsAnswer r) (modelOf header (now (bodies .entry)) (now (words .entry)) (now (numbers .entry))) (now (rows .entry)) ≡ run (readRows joint) (modelOf header (now (bodies .entry)) (now (words .entry)) (now (numbers .entry))) (now (rows .entry)) ⌝ }
     ensures { λ r. ⌜ r ≡ rowsAnswerOf (masksAt (now (words .entry)) joint) (run (readRows joint) (modelOf header (now (bodies .entry)) (now (words .entry)) (now (numbers .entry))) (now (rows .entry)) .answer) ⌝ }
 {
     let k = storage_refusal(header, bodies, words, numbers, rows, true);
@@ -284,7 +285,7 @@ pub fn read_rows(
     }
     RowsAnswer {
         answer: Plain::Granted,
-        ids: row_ids(masks_at(words, j)),
+        ids: ids_at(words, j),
         rows: rows_from(rows, rows_before(words, j), count_at(words, j)),
     }
 }

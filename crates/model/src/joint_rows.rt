@@ -3,9 +3,11 @@ ghost use mathlib.Core.Path.{_≡_};
 ghost use Prim.Native.Nat.{_+_, _*_, _≤_};
 ghost use lib.ListN.{length};
 ghost use Rattle.floats.specs.Operators.{bits};
-ghost use Rattle.rows.specs.RowIds.{filled};
-ghost use Rattle.model.specs.Store.{Present, body1At, body2At};
+ghost use Rattle.rows.specs.RowIds.{filled, rowIdsArray};
+ghost use Rattle.model.specs.Layout.{rowWidth, wordsWidth, numbersWidth};
+ghost use Rattle.model.specs.Store.{Present, masksAt, body1At, body2At};
 ghost use Rattle.model.specs.JointRows.{state, rowCount, rowsList, putRows, impulsesAt, buildJoint, sweepRow, sweepJoint, warmstartRow, warmstartJoint, removeBiasJoint, writeBackJoint};
+use crate::layout::ROW_WIDTH;
 use crate::store::body1_at;
 use crate::store::body2_at;
 use crate::store::joint_at;
@@ -21,12 +23,21 @@ use rows::joint_constraint_builder::Warmstart;
 use rows::joint_constraint_builder::update;
 use rows::joint_velocity_constraint::Rows;
 use rows::joint_velocity_constraint::solve_row;
+use rows::row_ids::RowIds;
 use rows::row_ids::row_count;
 use rows::row_ids::row_ids;
 
-// Joint j's number of rows.
+// The ids of joint j's rows, in order.
+pub fn ids_at(words: &[u32], j: usize) -> RowIds
+    requires { ⌜ j * wordsWidth + wordsWidth ≤ length (now words) ⌝ }
+    ensures { λ r. ⌜ r ≡ rowIdsArray (masksAt (now (words .entry)) j) ⌝ }
+{
+    row_ids(masks_at(words, j))
+}
+
+// Their number.
 pub fn count_at(words: &[u32], j: usize) -> usize
-    requires { ⌜ j * 9 + 9 ≤ length (now words) ⌝ }
+    requires { ⌜ j * wordsWidth + wordsWidth ≤ length (now words) ⌝ }
     ensures { λ r. ⌜ r ≡ rowCount (now (words .entry)) j ⌝ }
 {
     row_count(masks_at(words, j))
@@ -35,13 +46,13 @@ pub fn count_at(words: &[u32], j: usize) -> usize
 // The impulses of n rows from row k on, at most six.
 pub fn impulses_at(rows: &[f32], k: usize, n: usize) -> [f32; 6]
     requires { ⌜ n ≤ 6 ⌝ }
-    requires { ⌜ (k + n) * 18 ≤ length (now rows) ⌝ }
+    requires { ⌜ (k + n) * rowWidth ≤ length (now rows) ⌝ }
     ensures { λ r. ⌜ r ≡ filled 6 (bits 0) (impulsesAt (now (rows .entry)) k n) ⌝ }
 {
     let mut out = [0.0f32; 6];
     let mut i = 0usize;
     while i < n {
-        out[i] = rows[(k + i) * 18];
+        out[i] = rows[(k + i) * ROW_WIDTH];
         i += 1;
     }
     out
@@ -50,7 +61,7 @@ pub fn impulses_at(rows: &[f32], k: usize, n: usize) -> [f32; 6]
 // The rows of an array, stored from row k on.
 pub fn put_rows(rows: &mut [f32], k: usize, made: Rows)
     requires { ⌜ made .len ≤ 6 ⌝ }
-    requires { ⌜ (k + made .len) * 18 ≤ length (now rows) ⌝ }
+    requires { ⌜ (k + made .len) * rowWidth ≤ length (now rows) ⌝ }
     ensures { λ _. ⌜ now (rows .exit) ≡ putRows (now (rows .entry)) k (rowsList made) ⌝ }
 {
     let n = made.len;
@@ -74,11 +85,11 @@ pub fn build_joint(
     warmstart: Warmstart,
     substep_id: u32,
 ) -> usize
-    requires { ⌜ j * 9 + 9 ≤ length (now words) ⌝ }
-    requires { ⌜ j * 42 + 42 ≤ length (now numbers) ⌝ }
+    requires { ⌜ j * wordsWidth + wordsWidth ≤ length (now words) ⌝ }
+    requires { ⌜ j * numbersWidth + numbersWidth ≤ length (now numbers) ⌝ }
     requires { ⌜ Present (now bodies) (body1At (now words) j) ⌝ }
     requires { ⌜ Present (now bodies) (body2At (now words) j) ⌝ }
-    requires { ⌜ (first + rowCount (now words) j) * 18 ≤ length (now rows) ⌝ }
+    requires { ⌜ (first + rowCount (now words) j) * rowWidth ≤ length (now rows) ⌝ }
     ensures { λ r. ⌜ (r ≡ rowCount (now (words .entry)) j) × (now (rows .exit) ≡ buildJoint params (now (bodies .entry)) (now (words .entry)) (now (numbers .entry)) j first warmstart «substep_id» (now (rows .entry))) ⌝ }
 {
     let n = count_at(words, j);
@@ -93,7 +104,7 @@ pub fn build_joint(
 
 // Row k's step, between bodies b1 and b2.
 pub fn sweep_row(rows: &mut [f32], k: usize, bodies: &mut [f32], b1: u32, b2: u32)
-    requires { ⌜ k * 18 + 18 ≤ length (now rows) ⌝ }
+    requires { ⌜ k * rowWidth + rowWidth ≤ length (now rows) ⌝ }
     requires { ⌜ Present (now bodies) b1 ⌝ }
     requires { ⌜ Present (now bodies) b2 ⌝ }
     ensures { λ _. ⌜ state (now (rows .exit)) (now (bodies .exit)) ≡ sweepRow k b1 b2 (state (now (rows .entry)) (now (bodies .entry))) ⌝ }
@@ -109,7 +120,7 @@ pub fn sweep_row(rows: &mut [f32], k: usize, bodies: &mut [f32], b1: u32, b2: u3
 
 // n rows from row k on, each in turn.
 pub fn sweep_joint(rows: &mut [f32], k: usize, n: usize, bodies: &mut [f32], b1: u32, b2: u32)
-    requires { ⌜ (k + n) * 18 ≤ length (now rows) ⌝ }
+    requires { ⌜ (k + n) * rowWidth ≤ length (now rows) ⌝ }
     requires { ⌜ Present (now bodies) b1 ⌝ }
     requires { ⌜ Present (now bodies) b2 ⌝ }
     ensures { λ _. ⌜ state (now (rows .exit)) (now (bodies .exit)) ≡ sweepJoint k n b1 b2 (state (now (rows .entry)) (now (bodies .entry))) ⌝ }
@@ -123,7 +134,7 @@ pub fn sweep_joint(rows: &mut [f32], k: usize, n: usize, bodies: &mut [f32], b1:
 
 // Row k's warm start, between bodies b1 and b2.
 pub fn warmstart_row(rows: &[f32], k: usize, bodies: &mut [f32], b1: u32, b2: u32)
-    requires { ⌜ k * 18 + 18 ≤ length (now rows) ⌝ }
+    requires { ⌜ k * rowWidth + rowWidth ≤ length (now rows) ⌝ }
     requires { ⌜ Present (now bodies) b1 ⌝ }
     requires { ⌜ Present (now bodies) b2 ⌝ }
     ensures { λ _. ⌜ now (bodies .exit) ≡ warmstartRow (now (rows .entry)) k b1 b2 (now (bodies .entry)) ⌝ }
@@ -135,7 +146,7 @@ pub fn warmstart_row(rows: &[f32], k: usize, bodies: &mut [f32], b1: u32, b2: u3
 }
 
 pub fn warmstart_joint(rows: &[f32], k: usize, n: usize, bodies: &mut [f32], b1: u32, b2: u32)
-    requires { ⌜ (k + n) * 18 ≤ length (now rows) ⌝ }
+    requires { ⌜ (k + n) * rowWidth ≤ length (now rows) ⌝ }
     requires { ⌜ Present (now bodies) b1 ⌝ }
     requires { ⌜ Present (now bodies) b2 ⌝ }
     ensures { λ _. ⌜ now (bodies .exit) ≡ warmstartJoint (now (rows .entry)) k n b1 b2 (now (bodies .entry)) ⌝ }
@@ -149,7 +160,7 @@ pub fn warmstart_joint(rows: &[f32], k: usize, n: usize, bodies: &mut [f32], b1:
 
 // n rows from row k on without their bias.
 pub fn remove_bias_joint(rows: &mut [f32], k: usize, n: usize)
-    requires { ⌜ (k + n) * 18 ≤ length (now rows) ⌝ }
+    requires { ⌜ (k + n) * rowWidth ≤ length (now rows) ⌝ }
     ensures { λ _. ⌜ now (rows .exit) ≡ removeBiasJoint k n (now (rows .entry)) ⌝ }
 {
     let mut i = 0usize;
@@ -162,18 +173,18 @@ pub fn remove_bias_joint(rows: &mut [f32], k: usize, n: usize)
 
 // The impulses of joint j's rows, from row k on, stored by their ids.
 pub fn write_back_joint(rows: &[f32], words: &[u32], k: usize, j: usize, numbers: &mut [f32])
-    requires { ⌜ j * 9 + 9 ≤ length (now words) ⌝ }
-    requires { ⌜ j * 42 + 42 ≤ length (now numbers) ⌝ }
-    requires { ⌜ (k + rowCount (now words) j) * 18 ≤ length (now rows) ⌝ }
+    requires { ⌜ j * wordsWidth + wordsWidth ≤ length (now words) ⌝ }
+    requires { ⌜ j * numbersWidth + numbersWidth ≤ length (now numbers) ⌝ }
+    requires { ⌜ (k + rowCount (now words) j) * rowWidth ≤ length (now rows) ⌝ }
     ensures { λ _. ⌜ now (numbers .exit) ≡ writeBackJoint (now (rows .entry)) (now (words .entry)) k j (now (numbers .entry)) ⌝ }
 {
-    let ids = row_ids(masks_at(words, j));
+    let ids = ids_at(words, j);
     let n = ids.len;
     let mut i = 0usize;
     while i < n {
         let named = ids.ids[i];
         let id = named.id;
-        put_seed(numbers, j, id, rows[(k + i) * 18]);
+        put_seed(numbers, j, id, rows[(k + i) * ROW_WIDTH]);
         i += 1;
     }
 }

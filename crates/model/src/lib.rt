@@ -1,8 +1,10 @@
-// The model of several joints. The calls, the header and the storage's records are for callers; the modules below the calls are not.
+// The model of several joints. The calls, the header, the storage's layout and single records of it are for callers; the modules below the calls are not.
 mod all_joints;
 pub mod calls;
 mod counts;
 pub mod header;
 mod joint_rows;
+pub mod layout;
 mod refusals;
-pub mod store;
+pub mod single_records;
+mod store;

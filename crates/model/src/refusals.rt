@@ -4,6 +4,7 @@ ghost use mathlib.Core.List.{[], _∷_, _++_};
 ghost use Prim.Native.Nat.{_+_, _*_, _≤_};
 ghost use lib.ListN.{length};
 ghost use lib.Ieee.{isNan};
+ghost use Rattle.model.specs.Layout.{bodyWidth, wordsWidth, numbersWidth};
 ghost use Rattle.model.specs.Model.{modelOf};
 ghost use Rattle.model.specs.Refusals.{refusal, all, masksFit, presentOrWorld, bodiesPresent, bodiesApart, finiteFrom, noNanFrom, finiteParams, finitePose, finiteWarm, finiteBody, finiteMotor, limitEnds, finiteMotors, finiteJoint, allFinite, jointRules, modelRules, storageRule};
 use crate::counts::body_count;
@@ -11,7 +12,20 @@ use crate::counts::joint_count;
 use crate::counts::row_capacity;
 use crate::counts::rows_before;
 use crate::header::Header;
-use crate::store::WORLD;
+use crate::layout::BODY_WIDTH;
+use crate::layout::CENTER_RE;
+use crate::layout::LIMITS_ANGULAR;
+use crate::layout::LIMITS_X;
+use crate::layout::LIMITS_Y;
+use crate::layout::LOCKED_AXES;
+use crate::layout::MOTOR_ANGULAR;
+use crate::layout::MOTOR_X;
+use crate::layout::MOTOR_Y;
+use crate::layout::NATURAL_FREQUENCY;
+use crate::layout::NUMBERS_WIDTH;
+use crate::layout::VELOCITY_X;
+use crate::layout::WORDS_WIDTH;
+use crate::layout::WORLD;
 use crate::store::body1_at;
 use crate::store::body2_at;
 use floats::pose::Pose;
@@ -26,15 +40,17 @@ pub const MOST_JOINTS: usize = 128;
 
 pub const ALL_AXES: u32 = 7;
 
+const FOUR_MASKS: usize = 4;
+
 // ---- rules 3, 4 and 5
 
 fn masks_fit(words: &[u32], j: usize) -> bool
-    requires { ⌜ j * 9 + 9 ≤ length (now words) ⌝ }
+    requires { ⌜ j * wordsWidth + wordsWidth ≤ length (now words) ⌝ }
     ensures { λ r. ⌜ r ≡ masksFit (now (words .entry)) j ⌝ }
 {
-    let o = j * 9 + 2;
+    let o = j * WORDS_WIDTH + LOCKED_AXES;
     let mut c = 0usize;
-    while c < 4 {
+    while c < FOUR_MASKS {
         if words[o + c] > ALL_AXES {
             return false;
         }
@@ -44,7 +60,7 @@ fn masks_fit(words: &[u32], j: usize) -> bool
 }
 
 fn all_masks_fit(words: &[u32], n: usize) -> bool
-    requires { ⌜ n * 9 ≤ length (now words) ⌝ }
+    requires { ⌜ n * wordsWidth ≤ length (now words) ⌝ }
     ensures { λ r. ⌜ r ≡ all 0 n (masksFit (now (words .entry))) ⌝ }
 {
     let mut j = 0usize;
@@ -67,7 +83,7 @@ fn present_or_world(bodies: &[f32], i: u32) -> bool
 }
 
 fn bodies_present(bodies: &[f32], words: &[u32], j: usize) -> bool
-    requires { ⌜ j * 9 + 9 ≤ length (now words) ⌝ }
+    requires { ⌜ j * wordsWidth + wordsWidth ≤ length (now words) ⌝ }
     ensures { λ r. ⌜ r ≡ bodiesPresent (now (bodies .entry)) (now (words .entry)) j ⌝ }
 {
     if !present_or_world(bodies, body1_at(words, j)) {
@@ -77,7 +93,7 @@ fn bodies_present(bodies: &[f32], words: &[u32], j: usize) -> bool
 }
 
 fn all_bodies_present(bodies: &[f32], words: &[u32], n: usize) -> bool
-    requires { ⌜ n * 9 ≤ length (now words) ⌝ }
+    requires { ⌜ n * wordsWidth ≤ length (now words) ⌝ }
     ensures { λ r. ⌜ r ≡ all 0 n (bodiesPresent (now (bodies .entry)) (now (words .entry))) ⌝ }
 {
     let mut j = 0usize;
@@ -91,7 +107,7 @@ fn all_bodies_present(bodies: &[f32], words: &[u32], n: usize) -> bool
 }
 
 fn all_bodies_apart(words: &[u32], n: usize) -> bool
-    requires { ⌜ n * 9 ≤ length (now words) ⌝ }
+    requires { ⌜ n * wordsWidth ≤ length (now words) ⌝ }
     ensures { λ r. ⌜ r ≡ all 0 n (bodiesApart (now (words .entry))) ⌝ }
 {
     let mut j = 0usize;
@@ -179,12 +195,12 @@ pub fn finite_warm(warmstart: Warmstart) -> bool
 }
 
 fn all_finite_bodies(bodies: &[f32], n: usize) -> bool
-    requires { ⌜ n * 10 ≤ length (now bodies) ⌝ }
+    requires { ⌜ n * bodyWidth ≤ length (now bodies) ⌝ }
     ensures { λ r. ⌜ r ≡ all 0 n (finiteBody (now (bodies .entry))) ⌝ }
 {
     let mut i = 0usize;
     while i < n {
-        if !finite_from(bodies, i * 10, 7) {
+        if !finite_from(bodies, i * BODY_WIDTH, VELOCITY_X) {
             return false;
         }
         i += 1;
@@ -204,37 +220,37 @@ fn finite_motor(s: &[f32], o: usize) -> bool
 
 // Of a joint whose numbers start at place o, the ends of its limits, and its motors.
 fn limit_ends(s: &[f32], o: usize) -> bool
-    requires { ⌜ o + 42 ≤ length (now s) ⌝ }
+    requires { ⌜ o + numbersWidth ≤ length (now s) ⌝ }
     ensures { λ r. ⌜ r ≡ limitEnds (now (s .entry)) o ⌝ }
 {
-    if !no_nan_from(s, o + 8, 2) {
+    if !no_nan_from(s, o + LIMITS_X, 2) {
         return false;
     }
-    if !no_nan_from(s, o + 11, 2) {
+    if !no_nan_from(s, o + LIMITS_Y, 2) {
         return false;
     }
-    no_nan_from(s, o + 14, 2)
+    no_nan_from(s, o + LIMITS_ANGULAR, 2)
 }
 
 fn finite_motors(s: &[f32], o: usize) -> bool
-    requires { ⌜ o + 42 ≤ length (now s) ⌝ }
+    requires { ⌜ o + numbersWidth ≤ length (now s) ⌝ }
     ensures { λ r. ⌜ r ≡ finiteMotors (now (s .entry)) o ⌝ }
 {
-    if !finite_motor(s, o + 17) {
+    if !finite_motor(s, o + MOTOR_X) {
         return false;
     }
-    if !finite_motor(s, o + 23) {
+    if !finite_motor(s, o + MOTOR_Y) {
         return false;
     }
-    finite_motor(s, o + 29)
+    finite_motor(s, o + MOTOR_ANGULAR)
 }
 
 fn finite_joint(s: &[f32], j: usize) -> bool
-    requires { ⌜ j * 42 + 42 ≤ length (now s) ⌝ }
+    requires { ⌜ j * numbersWidth + numbersWidth ≤ length (now s) ⌝ }
     ensures { λ r. ⌜ r ≡ finiteJoint (now (s .entry)) j ⌝ }
 {
-    let o = j * 42;
-    if !finite_from(s, o, 8) {
+    let o = j * NUMBERS_WIDTH;
+    if !finite_from(s, o, LIMITS_X) {
         return false;
     }
     if !limit_ends(s, o) {
@@ -243,14 +259,14 @@ fn finite_joint(s: &[f32], j: usize) -> bool
     if !finite_motors(s, o) {
         return false;
     }
-    if !finite_from(s, o + 35, 2) {
+    if !finite_from(s, o + NATURAL_FREQUENCY, 2) {
         return false;
     }
-    finite_from(s, o + 40, 2)
+    finite_from(s, o + CENTER_RE, 2)
 }
 
 fn all_finite_joints(numbers: &[f32], n: usize) -> bool
-    requires { ⌜ n * 42 ≤ length (now numbers) ⌝ }
+    requires { ⌜ n * numbersWidth ≤ length (now numbers) ⌝ }
     ensures { λ r. ⌜ r ≡ all 0 n (finiteJoint (now (numbers .entry))) ⌝ }
 {
     let mut j = 0usize;
@@ -272,8 +288,8 @@ fn all_finite(
     joints: usize,
     arguments: bool,
 ) -> bool
-    requires { ⌜ n * 10 ≤ length (now bodies) ⌝ }
-    requires { ⌜ joints * 42 ≤ length (now numbers) ⌝ }
+    requires { ⌜ n * bodyWidth ≤ length (now bodies) ⌝ }
+    requires { ⌜ joints * numbersWidth ≤ length (now numbers) ⌝ }
     ensures { λ r. ⌜ r ≡ allFinite params (now (bodies .entry)) n (now (numbers .entry)) joints arguments ⌝ }
 {
     if !finite_params(params) {
@@ -292,7 +308,7 @@ fn all_finite(
 
 // Rules 3 to 5.
 fn joints_refusal(bodies: &[f32], words: &[u32], n: usize) -> u32
-    requires { ⌜ n * 9 ≤ length (now words) ⌝ }
+    requires { ⌜ n * wordsWidth ≤ length (now words) ⌝ }
     ensures { λ r. ⌜ r ≡ refusal (jointRules (now (bodies .entry)) (now (words .entry)) n) ⌝ }
 {
     if !all_masks_fit(words, n) {

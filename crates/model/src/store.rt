@@ -3,8 +3,49 @@ ghost use mathlib.Core.Path.{_≡_};
 ghost use mathlib.Core.List.{[], _∷_};
 ghost use Prim.Native.Nat.{_+_, _*_, _≤_, _<_};
 ghost use lib.ListN.{length};
+ghost use Rattle.model.specs.Layout.{rowWidth, bodyWidth, wordsWidth, numbersWidth};
 ghost use Rattle.model.specs.Records.{numFrom, num, sixOf, word, puts};
 ghost use Rattle.model.specs.Store.{rowAt, putRow, Present, poseOf, solverPoseAt, velAt, putVel, putPose, body1At, body2At, masksAt, limitsOf, allLimitsOf, modelOf, motorOf, allMotorsOf, dataOf, jointAt, axisOf, seedIndex, putSeed};
+use crate::layout::BODY_WIDTH;
+use crate::layout::BODY1;
+use crate::layout::BODY2;
+use crate::layout::CENTER_IM;
+use crate::layout::CENTER_RE;
+use crate::layout::COUPLED_AXES;
+use crate::layout::DAMPING_RATIO;
+use crate::layout::DOF_ANGULAR;
+use crate::layout::DOF_X;
+use crate::layout::DOF_Y;
+use crate::layout::FRAME1;
+use crate::layout::FRAME2;
+use crate::layout::INERTIA;
+use crate::layout::LIMIT_AXES;
+use crate::layout::LIMIT_SEED;
+use crate::layout::LIMITS_ANGULAR;
+use crate::layout::LIMITS_WIDTH;
+use crate::layout::LIMITS_X;
+use crate::layout::LIMITS_Y;
+use crate::layout::LOCKED_AXES;
+use crate::layout::MASS_X;
+use crate::layout::MASS_Y;
+use crate::layout::MODEL_ANGULAR;
+use crate::layout::MODEL_X;
+use crate::layout::MODEL_Y;
+use crate::layout::MOTOR_ANGULAR;
+use crate::layout::MOTOR_AXES;
+use crate::layout::MOTOR_SEED;
+use crate::layout::MOTOR_WIDTH;
+use crate::layout::MOTOR_X;
+use crate::layout::MOTOR_Y;
+use crate::layout::NATURAL_FREQUENCY;
+use crate::layout::NUMBERS_WIDTH;
+use crate::layout::POSE;
+use crate::layout::ROW_WIDTH;
+use crate::layout::VELOCITY_ANGULAR;
+use crate::layout::VELOCITY_X;
+use crate::layout::VELOCITY_Y;
+use crate::layout::WORDS_WIDTH;
+use crate::layout::WORLD;
 use floats::pose::Pose;
 use floats::rotation_ops::Rotation;
 use floats::vector::Vector;
@@ -19,9 +60,6 @@ use rows::joint_velocity_constraint::JointConstraint;
 use rows::joint_velocity_constraint::SolverVel;
 use rows::joint_velocity_constraint::WritebackId;
 use rows::motor_model::MotorModel;
-
-// The number of no body: document 01's world.
-pub const WORLD: u32 = 4294967295;
 
 // ---- rows
 
@@ -53,10 +91,10 @@ fn six_at(s: &[f32], o: usize, c: usize) -> Six
 
 // Row k of the storage.
 pub fn row_at(s: &[f32], k: usize) -> JointConstraint
-    requires { ⌜ k * 18 + 18 ≤ length (now s) ⌝ }
+    requires { ⌜ k * rowWidth + rowWidth ≤ length (now s) ⌝ }
     ensures { λ r. ⌜ r ≡ rowAt (now (s .entry)) k ⌝ }
 {
-    let o = k * 18;
+    let o = k * ROW_WIDTH;
     let a = six_at(s, o, 0);
     let b = six_at(s, o, 6);
     let c = six_at(s, o, 12);
@@ -94,10 +132,10 @@ fn put6(s: &mut [f32], o: usize, a: f32, b: f32, c: f32, d: f32, e: f32, f: f32)
 
 // Row k replaced.
 pub fn put_row(s: &mut [f32], k: usize, r: JointConstraint)
-    requires { ⌜ k * 18 + 18 ≤ length (now s) ⌝ }
+    requires { ⌜ k * rowWidth + rowWidth ≤ length (now s) ⌝ }
     ensures { λ _. ⌜ now (s .exit) ≡ putRow (now (s .entry)) k r ⌝ }
 {
-    let o = k * 18;
+    let o = k * ROW_WIDTH;
     put6(
         s,
         o,
@@ -165,13 +203,13 @@ pub fn solver_pose_at(b: &[f32], i: u32) -> SolverPose
             im: Vector { x: 0.0, y: 0.0 },
         };
     }
-    let o = (i as usize) * 10;
+    let o = (i as usize) * BODY_WIDTH;
     SolverPose {
-        pose: pose_at(b, o, 0),
-        ii: b[o + 4],
+        pose: pose_at(b, o, POSE),
+        ii: b[o + INERTIA],
         im: Vector {
-            x: b[o + 5],
-            y: b[o + 6],
+            x: b[o + MASS_X],
+            y: b[o + MASS_Y],
         },
     }
 }
@@ -187,13 +225,13 @@ pub fn vel_at(b: &[f32], i: u32) -> SolverVel
             angular: 0.0,
         };
     }
-    let o = (i as usize) * 10;
+    let o = (i as usize) * BODY_WIDTH;
     SolverVel {
         linear: Vector {
-            x: b[o + 7],
-            y: b[o + 8],
+            x: b[o + VELOCITY_X],
+            y: b[o + VELOCITY_Y],
         },
-        angular: b[o + 9],
+        angular: b[o + VELOCITY_ANGULAR],
     }
 }
 
@@ -205,18 +243,18 @@ pub fn put_vel(b: &mut [f32], i: u32, v: SolverVel)
     if i == WORLD {
         return;
     }
-    let o = (i as usize) * 10;
-    b[o + 7] = v.linear.x;
-    b[o + 8] = v.linear.y;
-    b[o + 9] = v.angular;
+    let o = (i as usize) * BODY_WIDTH;
+    b[o + VELOCITY_X] = v.linear.x;
+    b[o + VELOCITY_Y] = v.linear.y;
+    b[o + VELOCITY_ANGULAR] = v.angular;
 }
 
 // Body i's pose replaced.
 pub fn put_pose(b: &mut [f32], i: u32, p: Pose)
-    requires { ⌜ i * 10 + 10 ≤ length (now b) ⌝ }
+    requires { ⌜ i * bodyWidth + bodyWidth ≤ length (now b) ⌝ }
     ensures { λ _. ⌜ now (b .exit) ≡ putPose (now (b .entry)) i p ⌝ }
 {
-    let o = (i as usize) * 10;
+    let o = (i as usize) * BODY_WIDTH;
     b[o] = p.rotation.re;
     b[o + 1] = p.rotation.im;
     b[o + 2] = p.translation.x;
@@ -227,30 +265,30 @@ pub fn put_pose(b: &mut [f32], i: u32, p: Pose)
 
 // The first and the second body of joint j.
 pub fn body1_at(words: &[u32], j: usize) -> u32
-    requires { ⌜ j * 9 + 9 ≤ length (now words) ⌝ }
+    requires { ⌜ j * wordsWidth + wordsWidth ≤ length (now words) ⌝ }
     ensures { λ r. ⌜ r ≡ body1At (now (words .entry)) j ⌝ }
 {
-    words[j * 9]
+    words[j * WORDS_WIDTH + BODY1]
 }
 
 pub fn body2_at(words: &[u32], j: usize) -> u32
-    requires { ⌜ j * 9 + 9 ≤ length (now words) ⌝ }
+    requires { ⌜ j * wordsWidth + wordsWidth ≤ length (now words) ⌝ }
     ensures { λ r. ⌜ r ≡ body2At (now (words .entry)) j ⌝ }
 {
-    words[j * 9 + 1]
+    words[j * WORDS_WIDTH + BODY2]
 }
 
 // The masks of joint j.
 pub fn masks_at(words: &[u32], j: usize) -> Masks
-    requires { ⌜ j * 9 + 9 ≤ length (now words) ⌝ }
+    requires { ⌜ j * wordsWidth + wordsWidth ≤ length (now words) ⌝ }
     ensures { λ r. ⌜ r ≡ masksAt (now (words .entry)) j ⌝ }
 {
-    let o = j * 9;
+    let o = j * WORDS_WIDTH;
     Masks {
-        locked_axes: words[o + 2],
-        limit_axes: words[o + 3],
-        motor_axes: words[o + 4],
-        coupled_axes: words[o + 5],
+        locked_axes: words[o + LOCKED_AXES],
+        limit_axes: words[o + LIMIT_AXES],
+        motor_axes: words[o + MOTOR_AXES],
+        coupled_axes: words[o + COUPLED_AXES],
     }
 }
 
@@ -296,64 +334,68 @@ fn motor_at(s: &[f32], o: usize, c: usize, m: u32) -> JointMotor
 
 // The limits of the three axes of joint j, and their motors.
 fn all_limits_at(numbers: &[f32], j: usize) -> [JointLimits; 3]
-    requires { ⌜ j * 42 + 42 ≤ length (now numbers) ⌝ }
-    ensures { λ r. ⌜ r ≡ allLimitsOf (num 42 (now (numbers .entry)) j) ⌝ }
+    requires { ⌜ j * numbersWidth + numbersWidth ≤ length (now numbers) ⌝ }
+    ensures { λ r. ⌜ r ≡ allLimitsOf (num numbersWidth (now (numbers .entry)) j) ⌝ }
 {
-    let o = j * 42;
-    let x = limits_at(numbers, o, 8);
-    let y = limits_at(numbers, o, 11);
-    let angular = limits_at(numbers, o, 14);
+    let o = j * NUMBERS_WIDTH;
+    let x = limits_at(numbers, o, LIMITS_X);
+    let y = limits_at(numbers, o, LIMITS_Y);
+    let angular = limits_at(numbers, o, LIMITS_ANGULAR);
     [x, y, angular]
 }
 
 fn all_motors_at(words: &[u32], numbers: &[f32], j: usize) -> [JointMotor; 3]
-    requires { ⌜ j * 9 + 9 ≤ length (now words) ⌝ }
-    requires { ⌜ j * 42 + 42 ≤ length (now numbers) ⌝ }
-    ensures { λ r. ⌜ r ≡ allMotorsOf (num 42 (now (numbers .entry)) j) (word 9 (now (words .entry)) j) ⌝ }
+    requires { ⌜ j * wordsWidth + wordsWidth ≤ length (now words) ⌝ }
+    requires { ⌜ j * numbersWidth + numbersWidth ≤ length (now numbers) ⌝ }
+    ensures { λ r. ⌜ r ≡ allMotorsOf (num numbersWidth (now (numbers .entry)) j) (word wordsWidth (now (words .entry)) j) ⌝ }
 {
-    let w = j * 9;
-    let o = j * 42;
-    let x = motor_at(numbers, o, 17, words[w + 6]);
-    let y = motor_at(numbers, o, 23, words[w + 7]);
-    let angular = motor_at(numbers, o, 29, words[w + 8]);
+    let w = j * WORDS_WIDTH;
+    let o = j * NUMBERS_WIDTH;
+    let x = motor_at(numbers, o, MOTOR_X, words[w + MODEL_X]);
+    let y = motor_at(numbers, o, MOTOR_Y, words[w + MODEL_Y]);
+    let angular = motor_at(numbers, o, MOTOR_ANGULAR, words[w + MODEL_ANGULAR]);
     [x, y, angular]
 }
 
 // Joint j without its stored Dof impulses and its centre.
 fn data_at(words: &[u32], numbers: &[f32], j: usize) -> GenericJoint
-    requires { ⌜ j * 9 + 9 ≤ length (now words) ⌝ }
-    requires { ⌜ j * 42 + 42 ≤ length (now numbers) ⌝ }
-    ensures { λ r. ⌜ r ≡ dataOf (num 42 (now (numbers .entry)) j) (word 9 (now (words .entry)) j) ⌝ }
+    requires { ⌜ j * wordsWidth + wordsWidth ≤ length (now words) ⌝ }
+    requires { ⌜ j * numbersWidth + numbersWidth ≤ length (now numbers) ⌝ }
+    ensures { λ r. ⌜ r ≡ dataOf (num numbersWidth (now (numbers .entry)) j) (word wordsWidth (now (words .entry)) j) ⌝ }
 {
-    let o = j * 42;
+    let o = j * NUMBERS_WIDTH;
     GenericJoint {
-        local_frame1: pose_at(numbers, o, 0),
-        local_frame2: pose_at(numbers, o, 4),
+        local_frame1: pose_at(numbers, o, FRAME1),
+        local_frame2: pose_at(numbers, o, FRAME2),
         masks: masks_at(words, j),
         limits: all_limits_at(numbers, j),
         motors: all_motors_at(words, numbers, j),
         softness: SpringCoefficients {
-            natural_frequency: numbers[o + 35],
-            damping_ratio: numbers[o + 36],
+            natural_frequency: numbers[o + NATURAL_FREQUENCY],
+            damping_ratio: numbers[o + DAMPING_RATIO],
         },
     }
 }
 
 // Joint j of the storage.
 pub fn joint_at(words: &[u32], numbers: &[f32], j: usize) -> ImpulseJoint
-    requires { ⌜ j * 9 + 9 ≤ length (now words) ⌝ }
-    requires { ⌜ j * 42 + 42 ≤ length (now numbers) ⌝ }
+    requires { ⌜ j * wordsWidth + wordsWidth ≤ length (now words) ⌝ }
+    requires { ⌜ j * numbersWidth + numbersWidth ≤ length (now numbers) ⌝ }
     ensures { λ r. ⌜ r ≡ jointAt (now (words .entry)) (now (numbers .entry)) j ⌝ }
 {
-    let o = j * 42;
+    let o = j * NUMBERS_WIDTH;
     let data = data_at(words, numbers, j);
-    let impulses = [numbers[o + 37], numbers[o + 38], numbers[o + 39]];
+    let impulses = [
+        numbers[o + DOF_X],
+        numbers[o + DOF_Y],
+        numbers[o + DOF_ANGULAR],
+    ];
     ImpulseJoint {
         data: data,
         impulses: impulses,
         center: Rotation {
-            re: numbers[o + 40],
-            im: numbers[o + 41],
+            re: numbers[o + CENTER_RE],
+            im: numbers[o + CENTER_IM],
         },
     }
 }
@@ -369,25 +411,25 @@ fn axis(id: WritebackId) -> usize
     }
 }
 
-// Which of a joint's 42 numbers is an id's stored impulse.
+// Which of a joint's numbers is an id's stored impulse.
 fn seed_index(id: WritebackId) -> usize
     requires { ⌜ axisOf id < 3 ⌝ }
     ensures { λ r. ⌜ r ≡ seedIndex id ⌝ }
 {
     match id {
-        WritebackId::Dof(i) => 37 + i,
-        WritebackId::Limit(i) => 10 + i * 3,
-        WritebackId::Motor(i) => 22 + i * 6,
+        WritebackId::Dof(i) => DOF_X + i,
+        WritebackId::Limit(i) => LIMIT_SEED + i * LIMITS_WIDTH,
+        WritebackId::Motor(i) => MOTOR_SEED + i * MOTOR_WIDTH,
     }
 }
 
 // Joint j's stored impulse of an id replaced; an id past the last axis has none, and changes nothing.
 pub fn put_seed(numbers: &mut [f32], j: usize, id: WritebackId, p: f32)
-    requires { ⌜ j * 42 + 42 ≤ length (now numbers) ⌝ }
+    requires { ⌜ j * numbersWidth + numbersWidth ≤ length (now numbers) ⌝ }
     ensures { λ _. ⌜ now (numbers .exit) ≡ putSeed (now (numbers .entry)) j id p ⌝ }
 {
     if axis(id) < 3 {
-        let a = j * 42 + seed_index(id);
+        let a = j * NUMBERS_WIDTH + seed_index(id);
         numbers[a] = p;
     }
 }

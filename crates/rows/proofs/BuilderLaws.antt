@@ -1,14 +1,13 @@
 -- Where a joint's rows start. In substep 0 they read stored impulses at the joint's ids only, and no row of the last build (`warmedAll-seeds`,
 -- `first-reads-no-row`); in a later substep they read no stored impulse (`warmedAll-later`); with no warm coefficient they are the rows that
 -- `update` makes, whose impulses are 0 (`cold`, `made-impulses`). Assumes nothing.
-use Prim.Native.Nat.{ℕ, zero, suc, _≤_}
-use native.Mathlib.Nat.{suc-inj, suc-ne-zero, le-of-suc-le-suc, not-suc-le-zero}
-use native.Mathlib.Omega.{arith}
+use Prim.Native.Nat.{ℕ, zero, suc}
+use native.Mathlib.Nat.{suc-inj, suc-ne-zero}
 use mathlib.Core.Path.{_≡_, refl, ap, sym, _∙_}
 use mathlib.Core.Bool.{Bool, true, false, cond}
 use mathlib.Core.List.{List, [], _∷_, map, map-append, List·Memᴰ, List·Memᴰ·head, List·Memᴰ·tail}
 use lib.Dec.{eqb}
-use lib.ListN.{length}
+use lib.ListN.{length, getD, drop}
 use lib.Ieee.{Float}
 use Rattle.floats.specs.Operators.{bits}
 use Rattle.rows.specs.declared.integration_parameters.IntegrationParameters.{IntegrationParameters}
@@ -25,7 +24,6 @@ use Rattle.rows.specs.Makers.{assembleOf, motorRowOf, lockLinearOf, lock
 use Rattle.rows.specs.Finalize.{orthogonaliseN, imSumOf, headOf, isLock, lessOf, pairOf, finalizeOf}
 use Rattle.rows.specs.Update.{rowOf, updateOf}
 use Rattle.rows.specs.Builder.{jointContextOf, seedOf, warmedOf, warmedAll, builderUpdateOf}
-use Rattle.rows.proofs.RowIdsCount.{at-most-six}
 use Rattle.rows.proofs.UpdateRows.{length-updateOf}
 use Rattle.rows.proofs.WarmedRows.{context-joint}
 
@@ -34,12 +32,11 @@ pub warmedAll-seeds : (warm : Warmstart) (substep : ℕ) (a b : ImpulseJoint) (i
     → ((i : WritebackId) → List·Memᴰ i is → seedOf a i ≡ seedOf b i) → warmedAll warm substep a is ps rs ≡ warmedAll warm substep b is ps rs
 unfolding warmedAll
 warmedAll-seeds warm substep a b [] ps rs h = refl
-warmedAll-seeds warm substep a b (i ∷ is) [] rs h = refl
-warmedAll-seeds warm substep a b (i ∷ is) (p ∷ ps) [] h = refl
-warmedAll-seeds warm substep a b (i ∷ is) (p ∷ ps) (r ∷ rs) h =
+warmedAll-seeds warm substep a b (i ∷ is) ps [] h = refl
+warmedAll-seeds warm substep a b (i ∷ is) ps (r ∷ rs) h =
     rw (
       h i (List·Memᴰ·head refl),
-      warmedAll-seeds warm substep a b is ps rs (λ j m. h j (List·Memᴰ·tail m)),
+      warmedAll-seeds warm substep a b is (drop 1 ps) rs (λ j m. h j (List·Memᴰ·tail m)),
     )
 
 later-row : (warm : Warmstart) (substep : ℕ) (seed₁ seed₂ prev : Float) (row : JointConstraint)
@@ -58,19 +55,20 @@ pub warmedAll-later : (warm : Warmstart) (substep : ℕ) (a b : ImpulseJoint) (i
     → warmedAll warm (suc substep) a is ps rs ≡ warmedAll warm (suc substep) b is ps rs
 unfolding warmedAll
 warmedAll-later warm substep a b [] ps rs = refl
-warmedAll-later warm substep a b (i ∷ is) [] rs = refl
-warmedAll-later warm substep a b (i ∷ is) (p ∷ ps) [] = refl
-warmedAll-later warm substep a b (i ∷ is) (p ∷ ps) (r ∷ rs) = rw (later-row warm substep (seedOf a i) (seedOf b i) p r, warmedAll-later warm substep a b is ps rs)
+warmedAll-later warm substep a b (i ∷ is) ps [] = refl
+warmedAll-later warm substep a b (i ∷ is) ps (r ∷ rs) =
+    rw (later-row warm substep (seedOf a i) (seedOf b i) (getD ps 0 (bits 0)) r, warmedAll-later warm substep a b is (drop 1 ps) rs)
 
-first-rows : (warm : Warmstart) (joint : ImpulseJoint) (is : List WritebackId) (ps qs : List Float) (rs : List JointConstraint) → length ps ≡ length qs
+first-rows : (warm : Warmstart) (joint : ImpulseJoint) (is : List WritebackId) (ps qs : List Float) (rs : List JointConstraint)
     → warmedAll warm 0 joint is ps rs ≡ warmedAll warm 0 joint is qs rs
 unfolding warmedAll
-first-rows warm joint [] ps qs rs e = refl
-first-rows warm joint (i ∷ is) [] [] rs e = refl
-first-rows warm joint (i ∷ is) [] (q ∷ qs) rs e = absurd (suc-ne-zero (length qs) (sym e))
-first-rows warm joint (i ∷ is) (p ∷ ps) [] rs e = absurd (suc-ne-zero (length ps) e)
-first-rows warm joint (i ∷ is) (p ∷ ps) (q ∷ qs) [] e = refl
-first-rows warm joint (i ∷ is) (p ∷ ps) (q ∷ qs) (r ∷ rs) e = rw (first-row warm (seedOf joint i) p q r, first-rows warm joint is ps qs rs (suc-inj e))
+first-rows warm joint [] ps qs rs = refl
+first-rows warm joint (i ∷ is) ps qs [] = refl
+first-rows warm joint (i ∷ is) ps qs (r ∷ rs) =
+    rw (
+      first-row warm (seedOf joint i) (getD ps 0 (bits 0)) (getD qs 0 (bits 0)) r,
+      first-rows warm joint is (drop 1 ps) (drop 1 qs) rs,
+    )
 
 -- ---- what is kept through orthogonalising
 
@@ -127,25 +125,24 @@ made-impulses cx =
     map-append (λ r. r .impulse) (finalizeOf (map (rowOf cx) one)) (finalizeOf (map (rowOf cx) two))
     ∙ rw (rows-impulses cx one, rows-impulses cx two) (sym (map-append (λ i. bits 0) one two))
 
-cold-rows : (substep : ℕ) (joint : ImpulseJoint) (is : List WritebackId) (ps : List Float) (rs : List JointConstraint) → length rs ≡ length is → length is ≤ length ps
+cold-rows : (substep : ℕ) (joint : ImpulseJoint) (is : List WritebackId) (ps : List Float) (rs : List JointConstraint) → length rs ≡ length is
     → warmedAll Cold substep joint is ps rs ≡ rs
 unfolding warmedAll warmedOf
-cold-rows substep joint [] ps [] e h = refl
-cold-rows substep joint [] ps (r ∷ rs) e h = absurd (suc-ne-zero (length rs) e)
-cold-rows substep joint (i ∷ is) [] rs e h = absurd (not-suc-le-zero h)
-cold-rows substep joint (i ∷ is) (p ∷ ps) [] e h = absurd (suc-ne-zero (length is) (sym e))
-cold-rows substep joint (i ∷ is) (p ∷ ps) (r ∷ rs) e h = ap (λ t. r ∷ t) (cold-rows substep joint is ps rs (suc-inj e) (le-of-suc-le-suc h))
+cold-rows substep joint [] ps [] e = refl
+cold-rows substep joint [] ps (r ∷ rs) e = absurd (suc-ne-zero (length rs) e)
+cold-rows substep joint (i ∷ is) ps [] e = absurd (suc-ne-zero (length is) (sym e))
+cold-rows substep joint (i ∷ is) ps (r ∷ rs) e = ap (λ t. r ∷ t) (cold-rows substep joint is (drop 1 ps) rs (suc-inj e))
 
 module _ (params : IntegrationParameters) (body1 body2 : SolverPose) where
-  pub first-reads-no-row : (warm : Warmstart) (joint : ImpulseJoint) (ps qs : List Float) → length ps ≡ length qs
+  pub first-reads-no-row : (warm : Warmstart) (joint : ImpulseJoint) (ps qs : List Float)
       → builderUpdateOf params 0 warm body1 body2 joint ps ≡ builderUpdateOf params 0 warm body1 body2 joint qs
   unfolding builderUpdateOf
-  first-reads-no-row warm joint ps qs e = first-rows warm joint (rowIds 2 1 (joint .«data» .masks)) ps qs (updateOf (jointContextOf params body1 body2 joint)) e
+  first-reads-no-row warm joint ps qs = first-rows warm joint (rowIds 2 1 (joint .«data» .masks)) ps qs (updateOf (jointContextOf params body1 body2 joint))
 
   -- with no warm coefficient the rows are those that `update` makes, whose impulses are 0
-  pub cold : (substep : ℕ) (joint : ImpulseJoint) (prevs : List Float) → length prevs ≡ 6
+  pub cold : (substep : ℕ) (joint : ImpulseJoint) (prevs : List Float)
       → builderUpdateOf params substep Cold body1 body2 joint prevs ≡ updateOf (jointContextOf params body1 body2 joint)
   unfolding builderUpdateOf
-  cold substep joint prevs six =
+  cold substep joint prevs =
       cold-rows substep joint (rowIds 2 1 (joint .«data» .masks)) prevs (updateOf (jointContextOf params body1 body2 joint))
-      (length-updateOf (jointContextOf params body1 body2 joint) ∙ rw context-joint) (omega (arith, six, at-most-six (joint .«data» .masks)))
+      (length-updateOf (jointContextOf params body1 body2 joint) ∙ rw context-joint)

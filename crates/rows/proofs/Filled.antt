@@ -1,13 +1,13 @@
--- A list that is filled up to a length, as an array holds it: a store at its end, its first elements and those after them, two such arrays
--- joined, and the loops that fill one and that overwrite one from its start. Over any kind of element; assumes nothing.
+-- A list that is filled up to a length, as an array holds it: a store at its end, its first elements and those after them, and the loops
+-- that fill one and that overwrite one from its start. Over any kind of element; assumes nothing.
 use Prim.Native.Nat.{ℕ, zero, suc, _+_, _-_, _≤_, _<_}
-use native.Mathlib.Nat.{le-of-suc-le-suc, not-suc-le-zero, suc-sub-suc, sub-zero, zero-sub, sub-add-eq}
+use native.Mathlib.Nat.{le-of-suc-le-suc, not-suc-le-zero, suc-sub-suc, sub-zero}
 use native.Mathlib.Numerals.{add-one}
 use native.Mathlib.Omega.{arith}
 use mathlib.Core.Path.{_≡_, refl, ap, sym, _∙_}
 use mathlib.Core.List.{List, [], _∷_, _++_, map, append-assoc, map-append}
-use lib.ListN.{length, getD, set, take, drop, replicate, length-append, length-map, length-drop}
-use lib.Seq.{take-at, drop-at, take-suc, drop-cons, length-take-le, drop-drop, getD-drop, getD-at, set-at, append-snoc}
+use lib.ListN.{length, getD, set, take, drop, replicate, length-map}
+use lib.Seq.{take-at, drop-at, take-suc, drop-cons, length-take-le, getD-at, set-at, append-snoc}
 use Rattle.rows.specs.RowIds.{filled}
 
 module _ {A : Type 0} (x : A) where
@@ -58,34 +58,16 @@ module _ {A : Type 0} (x : A) where
       let k : length r ≤ m = omega (arith, f) in
       rw (drop-filled m n l e h, filled-split m r k, f)
 
-  drop-replicate : (n m : ℕ) → drop n (replicate m x) ≡ replicate (m - n) x
-  drop-replicate zero m = rw sub-zero
-  drop-replicate (suc n) zero = rw zero-sub
-  drop-replicate (suc n) (suc m) = rw suc-sub-suc (drop-replicate n m)
-
-  -- two filled lists joined
-  pub join-filled : (m n k : ℕ) (l r : List A) → length l ≡ n → length r ≡ k → n + k ≤ m
-      → take n (filled m x l) ++ (take k (filled m x r) ++ drop (n + k) (filled m x l)) ≡ filled m x (l ++ r)
-  join-filled m n k l r e f h =
-      let t : take n (filled m x l) ≡ l = take-filled m n l e (omega arith) in
-      let u : take k (filled m x r) ≡ r = take-filled m k r f (omega arith) in
-      let v : drop (n + k) (filled m x l) ≡ replicate (m - (n + k)) x =
-      sym (drop-drop k n (filled m x l)) ∙ rw (drop-filled m n l e (omega arith), drop-replicate k (m - n), sub-add-eq) in
-      let w : length (l ++ r) ≡ n + k = length-append l r ∙ rw (e, f) in
-      let g : length (l ++ r) ≤ m = omega (arith, w) in
-      rw (t, u, v, filled-split m (l ++ r) g, w, append-assoc)
-
 module _ {A B : Type 0} (f : A → B) (x : B) where
-  -- a turn of the loop that fills an array with what f makes of a list from a place on
-  pub push-mapped : (m : ℕ) (s : List A) (n k : ℕ) (d : A) (ys : List B) (y : B) → k < m → n + k < length s
-      → ys ≡ filled m x (map f (take k (drop n s))) → y ≡ f (getD s (n + k) d)
-      → set ys k y ≡ filled m x (map f (take (k + 1) (drop n s)))
-  push-mapped m s n k d ys y h g e w =
-      let p : k < length (drop n s) = omega (arith, length-drop n s) in
-      let l : List B = map f (take k (drop n s)) in
-      let q : length l ≡ k = length-map (take k (drop n s)) f ∙ length-take-le k (drop n s) (omega arith) in
+  -- a turn of the loop that fills an array with what f makes of a list
+  pub push-mapped : (m : ℕ) (s : List A) (k : ℕ) (d : A) (ys : List B) (y : B) → k < m → k < length s
+      → ys ≡ filled m x (map f (take k s)) → y ≡ f (getD s k d)
+      → set ys k y ≡ filled m x (map f (take (k + 1) s))
+  push-mapped m s k d ys y h g e w =
+      let l : List B = map f (take k s) in
+      let q : length l ≡ k = length-map (take k s) f ∙ length-take-le k s (omega arith) in
       let stored : set (filled m x l) (length l) y ≡ filled m x (l ++ (y ∷ [])) = set-filled x m l y (omega (arith, q)) in
-      let more : map f (take (k + 1) (drop n s)) ≡ l ++ (y ∷ []) = rw (add-one, take-suc (drop n s) k d p, map-append, getD-drop, ← w) in
+      let more : map f (take (k + 1) s) ≡ l ++ (y ∷ []) = rw (add-one, take-suc s k d g, map-append, ← w) in
       rw (e, more) (rw q at stored)
 
 module _ {A : Type 0} (w o : List A) (k : ℕ) (h : k < length w) (g : k < length o) where

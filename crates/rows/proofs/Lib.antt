@@ -1,4 +1,5 @@
 pub mod StepLaws
+pub mod MakerShapes
 pub mod MakerLaws
 pub mod Orthogonalise
 pub mod OrthogonaliseLaws

@@ -10,7 +10,7 @@ use lib.Bits.{bitAnd, and-mask}
 use lib.Count.{ones, trailingZeros}
 use lib.Dec.{T, eqb, ltb, eqb→eq}
 use lib.ListN.{length}
-use Rattle.rows.specs.RowIds.{hasAxis, axes, keep, first, inOrder}
+use Rattle.rows.specs.RowIds.{hasAxis, axes, keep, lowest, inOrder}
 use Rattle.rows.proofs.RowIdsCount.{count-le}
 
 -- ---- F
@@ -23,7 +23,7 @@ low4-1 : (x : ℕ) → hasAxis (x % 4) 1 ≡ hasAxis x 1
 unfolding hasAxis
 low4-1 x = let e : x % 4 / 2 ^ 1 % 2 ≡ x / 2 ^ 1 % 2 = omega arith in ap (λ t. eqb t 1) e
 
-first4 : (d : ℕ) → d < 4 → first (keep (λ i. hasAxis d i) (axes 0 2)) ≡ cond (ltb (trailingZeros 32 d) 2) (trailingZeros 32 d ∷ []) []
+first4 : (d : ℕ) → d < 4 → lowest (keep (λ i. hasAxis d i) (axes 0 2)) ≡ cond (ltb (trailingZeros 32 d) 2) (trailingZeros 32 d ∷ []) []
 unfolding hasAxis trailingZeros
 first4 zero h = refl
 first4 (suc zero) h = refl
@@ -31,7 +31,7 @@ first4 (suc (suc zero)) h = refl
 first4 (suc (suc (suc zero))) h = refl
 first4 (suc (suc (suc (suc d)))) h = absurd (omega arith)
 
-pub first-coupled : (x : ℕ) → first (keep (λ i. hasAxis x i) (axes 0 2))
+pub first-coupled : (x : ℕ) → lowest (keep (λ i. hasAxis x i) (axes 0 2))
     ≡ cond (ltb (trailingZeros 32 (bitAnd x 3)) 2) (trailingZeros 32 (bitAnd x 3) ∷ []) []
 first-coupled x = rw (and-mask x 2, ← low4-0 x, ← low4-1 x) (first4 (x % 4) (omega arith))
 

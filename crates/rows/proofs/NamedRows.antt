@@ -25,7 +25,7 @@ use Rattle.rows.specs.declared.joint_velocity_constraint.RowContext.{Row
 use Rattle.rows.specs.declared.joint_velocity_constraint.WritebackId.{WritebackId}
 use Rattle.rows.specs.declared.joint_velocity_constraint.WritebackId.the-variants.{Dof, Limit, Motor}
 use Rattle.rows.specs.GenericJoint.{limitsAt, motorAt}
-use Rattle.rows.specs.RowIds.{isLocked, isMotor, isLimit, isCoupled, keep, first, inOrder, axes, firstCoupled, sharesLinear, groupOne, groupTwo, lockIds, limitIds, rowIds}
+use Rattle.rows.specs.RowIds.{isLocked, isMotor, isLimit, isCoupled, keep, inOrder, axes, firstCoupled, sharesLinear, groupOne, groupTwo, lockIds, limitIds, rowIds}
 use Rattle.rows.specs.Update.{contextOf, motorLimitsOf, rowOf, updateOf}
 use Rattle.rows.specs.Builder.{jointContextOf, seedOf, builderUpdateOf}
 use Rattle.rows.specs.Named.{Names, SameNamed}
@@ -175,7 +175,7 @@ module _ (nl na : ℕ) (k : Masks) (i : ℕ) where
 
 -- ---- the rows of two joints that agree on what they name
 
-module _ (params : IntegrationParameters) (body1 body2 : SolverPose) (a b : ImpulseJoint) (s : SameNamed a b) where
+module _ (params : IntegrationParameters) (body1 body2 : SolverPose) (a b : ImpulseJoint) (s : SameNamed (Names (a .«data» .masks)) a b) where
   x : RowContext
   x = jointContextOf params body1 body2 a
 

@@ -1,12 +1,12 @@
 -- A joint's rows and ids in arrays of six. The array of at most six rows gives their number (`rowsArray-len`), the rows themselves, first
--- (`rowsArray-rows`), and blank rows after them (`rowsArray-blank`); the array of a joint's ids gives their number (`rowIdsArray-len`) and each id at
--- its place (`rowIdsArray-id`). From six last impulses the builder's `update` makes as many rows as the joint's masks name
+-- (`rowsArray-rows`), and blank rows after them (`rowsArray-blank`); the array of a joint's ids gives their number (`rowIdsArray-len`), each id at
+-- its place (`rowIdsArray-id`) and all of them (`rowIdsArray-ids`). From six last impulses the builder's `update` makes as many rows as the joint's masks name
 -- (`length-builderUpdateOf`), and with no warm coefficient or in substep 0 it makes the same rows whatever these impulses are (`reads-no-row`).
 -- Assumes nothing.
 use Prim.Native.Nat.{ℕ, zero, suc, _-_, _≤_, _<_}
 use native.Mathlib.Nat.{le-of-suc-le-suc, not-suc-le-zero}
 use native.Mathlib.Omega.{arith}
-use mathlib.Core.Path.{_≡_, refl, sym, _∙_}
+use mathlib.Core.Path.{_≡_, refl, sym, ap, _∙_}
 use mathlib.Core.Logic.{_⊎_, inl, inr}
 use mathlib.Core.List.{List, [], _∷_, map}
 use lib.ListN.{length, getD, take, drop, replicate}
@@ -59,6 +59,15 @@ id-filled zero x d e (a ∷ is) i h g = absurd (not-suc-le-zero h)
 id-filled (suc m) x d e (a ∷ is) zero h g = refl
 id-filled (suc m) x d e (a ∷ is) (suc i) h g = id-filled m x d e is i (le-of-suc-le-suc h) (le-of-suc-le-suc g)
 
+-- ids wrapped one by one
+length-ids : (is : List WritebackId) → length (map rowId is) ≡ length is
+length-ids [] = refl
+length-ids (i ∷ is) = ap suc (length-ids is)
+
+ids-back : (is : List WritebackId) → map (λ (i : RowId). i .id) (map rowId is) ≡ is
+ids-back [] = refl
+ids-back (i ∷ is) = ap (λ l. i ∷ l) (ids-back is)
+
 module _ (k : Masks) where
   pub rowIdsArray-len : rowIdsArray k .len ≡ length (rowIds 2 1 k)
   unfolding rowIdsArray
@@ -68,6 +77,12 @@ module _ (k : Masks) where
   pub rowIdsArray-id : (i : ℕ) (d : RowId) (e : WritebackId) → i < length (rowIds 2 1 k) → getD (rowIdsArray k .ids) i d .id ≡ getD (rowIds 2 1 k) i e
   unfolding rowIdsArray
   rowIdsArray-id i d e h = id-filled 6 (rowId (Dof 0)) d e (rowIds 2 1 k) i (at-most-six k) h
+
+  pub rowIdsArray-ids : map (λ (i : RowId). i .id) (take (rowIdsArray k .len) (rowIdsArray k .ids)) ≡ rowIds 2 1 k
+  unfolding rowIdsArray
+  rowIdsArray-ids =
+      ap (map (λ (i : RowId). i .id)) (take-filled (rowId (Dof 0)) 6 (length (rowIds 2 1 k)) (map rowId (rowIds 2 1 k)) (length-ids (rowIds 2 1 k)) (at-most-six k))
+      ∙ ids-back (rowIds 2 1 k)
 
 -- ---- the rows that the builder makes
 
@@ -82,5 +97,5 @@ module _ (params : IntegrationParameters) (substep : ℕ) (warm : Warmstart) (bo
 
   pub reads-no-row : (warm ≡ Cold) ⊎ (substep ≡ 0) → (ps qs : List Float) → length ps ≡ 6 → length qs ≡ 6
       → builderUpdateOf params substep warm body1 body2 joint ps ≡ builderUpdateOf params substep warm body1 body2 joint qs
-  reads-no-row (inl e) ps qs p q = rw e (cold params body1 body2 substep joint ps p ∙ sym (cold params body1 body2 substep joint qs q))
-  reads-no-row (inr e) ps qs p q = rw e (first-reads-no-row params body1 body2 warm joint ps qs (p ∙ sym q))
+  reads-no-row (inl e) ps qs p q = rw e (cold params body1 body2 substep joint ps ∙ sym (cold params body1 body2 substep joint qs))
+  reads-no-row (inr e) ps qs p q = rw e (first-reads-no-row params body1 body2 warm joint ps qs)

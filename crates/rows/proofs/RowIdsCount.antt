@@ -11,7 +11,7 @@ use lib.ListN.{length, length-append, length-map}
 use Rattle.rows.specs.declared.generic_joint.Masks.{Masks}
 use Rattle.rows.specs.declared.joint_velocity_constraint.WritebackId.{WritebackId}
 use Rattle.rows.specs.declared.joint_velocity_constraint.WritebackId.the-variants.{Dof, Limit, Motor}
-use Rattle.rows.specs.RowIds.{hasAxis, isLocked, isMotor, isLimit, isCoupled, axes, keep, some, first, firstCoupled, inOrder, sharesLinear, groupOne, lockIds, limitIds, groupTwo, rowIds}
+use Rattle.rows.specs.RowIds.{hasAxis, isLocked, isMotor, isLimit, isCoupled, axes, keep, some, lowest, firstCoupled, inOrder, sharesLinear, groupOne, lockIds, limitIds, groupTwo, rowIds}
 
 -- 1 for true
 abbrev pub bit : Bool → ℕ
@@ -70,40 +70,40 @@ some-count : (p : ℕ → Bool) (l : List ℕ) → bit (some p l) ≤ count p l
 some-count p [] = omega arith
 some-count p (i ∷ l) = omega (arith, bit-or (p i) (some p l), count-cons p i l, some-count p l)
 
-length-first : (l : List ℕ) → length (first l) ≤ 1
+length-first : (l : List ℕ) → length (lowest l) ≤ 1
 length-first [] = omega arith
 length-first (i ∷ l) = omega arith
 
-length-once : (f : ℕ → WritebackId) (b : Bool) (l : List ℕ) → length (cond b (map f (first l)) []) ≤ bit b
-length-once f true l = omega (arith, length-map (first l) f, length-first l)
+length-once : (f : ℕ → WritebackId) (b : Bool) (l : List ℕ) → length (cond b (map f (lowest l)) []) ≤ bit b
+length-once f true l = omega (arith, length-map (lowest l) f, length-first l)
 length-once f false l = omega arith
 
 bit-and : (a b : Bool) → b ≡ true → bit (a && b) ≡ bit a
 bit-and true b e = ap bit e
 bit-and false b e = refl
 
-first-step : (p q : ℕ → Bool) (i : ℕ) (l : List ℕ) (b : Bool) → q i ≡ b → count p (first (keep q l)) ≤ count (λ i. p i && q i) l
-    → count p (first (keep q (i ∷ l))) ≤ count (λ i. p i && q i) (i ∷ l)
+first-step : (p q : ℕ → Bool) (i : ℕ) (l : List ℕ) (b : Bool) → q i ≡ b → count p (lowest (keep q l)) ≤ count (λ i. p i && q i) l
+    → count p (lowest (keep q (i ∷ l))) ≤ count (λ i. p i && q i) (i ∷ l)
 first-step p q i l true e h =
-    let a : count p (first (keep q (i ∷ l))) ≡ count p (i ∷ []) = rw e in
+    let a : count p (lowest (keep q (i ∷ l))) ≡ count p (i ∷ []) = rw e in
     omega (arith, a, count-cons p i [], count-cons (λ i. p i && q i) i l, bit-and (p i) (q i) e)
 first-step p q i l false e h =
-    let a : count p (first (keep q (i ∷ l))) ≡ count p (first (keep q l)) = rw e in
+    let a : count p (lowest (keep q (i ∷ l))) ≡ count p (lowest (keep q l)) = rw e in
     omega (arith, a, count-cons (λ i. p i && q i) i l)
 
 -- the first of those that pass q: it passes p too at most where one passes both
-first-count : (p q : ℕ → Bool) (l : List ℕ) → count p (first (keep q l)) ≤ count (λ i. p i && q i) l
+first-count : (p q : ℕ → Bool) (l : List ℕ) → count p (lowest (keep q l)) ≤ count (λ i. p i && q i) l
 first-count p q [] = omega arith
 first-count p q (i ∷ l) = first-step p q i l (q i) refl (first-count p q l)
 
 some-step : (p q : ℕ → Bool) (i : ℕ) (l : List ℕ) (a b : Bool) → q i ≡ b → ((a && b) || some (λ i. p i && q i) l) ≡ true
-    → (some (λ i. p i && q i) l ≡ true → length (first (keep q l)) ≡ 1) → length (first (keep q (i ∷ l))) ≡ 1
+    → (some (λ i. p i && q i) l ≡ true → length (lowest (keep q l)) ≡ 1) → length (lowest (keep q (i ∷ l))) ≡ 1
 some-step p q i l a true e s h = rw e
 some-step p q i l true false e s h = rw e (h s)
 some-step p q i l false false e s h = rw e (h s)
 
 -- where one passes both, there is a first of those that pass q
-pub some-first : (p q : ℕ → Bool) (l : List ℕ) → some (λ i. p i && q i) l ≡ true → length (first (keep q l)) ≡ 1
+pub some-first : (p q : ℕ → Bool) (l : List ℕ) → some (λ i. p i && q i) l ≡ true → length (lowest (keep q l)) ≡ 1
 some-first p q [] s = cc
 some-first p q (i ∷ l) s = some-step p q i l (p i) (q i) refl s (some-first p q l)
 
@@ -111,7 +111,7 @@ bit-or-false : (b : Bool) → bit (b || false) ≡ bit b
 bit-or-false true = refl
 bit-or-false false = refl
 
-pub count-first : (p : ℕ → Bool) (l : List ℕ) → count p (first l) ≡ bit (some p (first l))
+pub count-first : (p : ℕ → Bool) (l : List ℕ) → count p (lowest l) ≡ bit (some p (lowest l))
 count-first p [] = refl
 count-first p (i ∷ l) = omega (arith, count-cons p i [], bit-or-false (p i))
 

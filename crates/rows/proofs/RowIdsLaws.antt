@@ -8,7 +8,7 @@ use mathlib.Core.List.{List, [], _∷_, _++_, map}
 use Rattle.rows.specs.declared.generic_joint.Masks.{Masks}
 use Rattle.rows.specs.declared.joint_velocity_constraint.WritebackId.{WritebackId}
 use Rattle.rows.specs.declared.joint_velocity_constraint.WritebackId.the-variants.{Dof, Limit, Motor}
-use Rattle.rows.specs.RowIds.{isLocked, isMotor, isLimit, isCoupled, axes, keep, first, firstCoupled, inOrder, sharesLinear, groupOne, lockIds, limitIds, groupTwo, rowIds}
+use Rattle.rows.specs.RowIds.{isLocked, isMotor, isLimit, isCoupled, axes, keep, lowest, firstCoupled, inOrder, sharesLinear, groupOne, lockIds, limitIds, groupTwo, rowIds}
 
 -- ---- lists
 
@@ -50,7 +50,7 @@ all-kept : (p : ℕ → Bool) (l : List ℕ) → All (λ i. p i ≡ true) (keep 
 all-kept p [] = tt
 all-kept p (i ∷ l) = all-cond (λ i. p i ≡ true) (p i) i (keep p l) (λ t. t) (all-kept p l)
 
-all-first : (P : ℕ → Type 0) (l : List ℕ) → All P l → All P (first l)
+all-first : (P : ℕ → Type 0) (l : List ℕ) → All P l → All P (lowest l)
 all-first P [] x = tt
 all-first P (i ∷ l) x = (x .0, tt)
 
@@ -76,7 +76,7 @@ distinct-keep : (p : ℕ → Bool) (l : List ℕ) → Distinct l → Distinct (k
 distinct-keep p [] d = tt
 distinct-keep p (i ∷ l) d = distinct-cond (p i) i (keep p l) (all-keep (λ j. i ≡ j → ⊥) p l (d .0)) (distinct-keep p l (d .1))
 
-distinct-first : (l : List ℕ) → Distinct (first l)
+distinct-first : (l : List ℕ) → Distinct (lowest l)
 distinct-first [] = tt
 distinct-first (i ∷ l) = (tt, tt)
 

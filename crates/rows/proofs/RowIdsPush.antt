@@ -11,7 +11,7 @@ use Rattle.rows.specs.declared.generic_joint.Masks.{Masks}
 use Rattle.rows.specs.declared.joint_velocity_constraint.WritebackId.{WritebackId}
 use Rattle.rows.specs.declared.joint_velocity_constraint.WritebackId.the-variants.{Dof, Limit, Motor}
 use Rattle.rows.specs.declared.row_ids.RowIds.{RowIds}
-use Rattle.rows.specs.RowIds.{isMotor, isLimit, isCoupled, axes, keep, some, first, firstCoupled, inOrder, sharesLinear, groupOne, lockIds, limitIds, filled, rowId, held}
+use Rattle.rows.specs.RowIds.{isMotor, isLimit, isCoupled, axes, keep, some, firstCoupled, inOrder, sharesLinear, groupOne, lockIds, limitIds, filled, rowId, held}
 use Rattle.rows.proofs.Filled.{set-filled}
 use Rattle.rows.proofs.RowIdsCount.{bit, some-first, count-first, motors-and-locks, limits-fit}
 

@@ -6,7 +6,8 @@ use mathlib.Core.Bool.{false}
 use lib.Ieee.{lt}
 use Rattle.floats.specs.Scalar.{clampOf}
 use Rattle.floats.proofs.ScalarLaws.{Within, clamp-within}
-use Rattle.rows.specs.Step.{wantedImpulseOf, withImpulse, stepOf, removeBiasOf}
+use Rattle.rows.specs.Row.{withImpulse}
+use Rattle.rows.specs.Step.{wantedImpulseOf, stepOf, removeBiasOf}
 use Rattle.rows.specs.declared.joint_velocity_constraint.JointConstraint.{JointConstraint}
 use Rattle.rows.specs.declared.joint_velocity_constraint.SolverVel.{SolverVel}
 

@@ -1,5 +1,5 @@
 -- A joint's stored impulses are read as seeds only. Two joints with the same frames, masks, softness, ends of limits, motors and centre have the
--- same rows made by `update` (`same-rows`), as a joint has before and after `writeback_impulse` (`written-rows`). What the builder's `update`
+-- same rows made by `update` (`same-rows`), as a joint has before and after `writebackOf` (`written-rows`). What the builder's `update`
 -- gives then differs at most by the seeds of the joint's ids (`same-seeds`), and after substep 0 not at all (`later-reads-no-seed`).
 -- Assumes nothing.
 use Prim.Native.Nat.{ℕ, zero, suc}
@@ -11,17 +11,14 @@ use Rattle.rows.specs.declared.integration_parameters.IntegrationParamet
 use Rattle.rows.specs.declared.generic_joint.GenericJoint.{GenericJoint}
 use Rattle.rows.specs.declared.generic_joint.JointLimits.{JointLimits}
 use Rattle.rows.specs.declared.generic_joint.JointMotor.{JointMotor}
-use Rattle.rows.specs.declared.joint_constraint_helper.JointConstraintHelper.{JointConstraintHelper}
 use Rattle.rows.specs.declared.joint_constraint_builder.SolverPose.{SolverPose}
 use Rattle.rows.specs.declared.joint_constraint_builder.ImpulseJoint.{ImpulseJoint}
 use Rattle.rows.specs.declared.joint_constraint_builder.Warmstart.{Warmstart}
-use Rattle.rows.specs.declared.joint_velocity_constraint.JointSolverBody.{JointSolverBody}
 use Rattle.rows.specs.declared.joint_velocity_constraint.RowContext.{RowContext}
 use Rattle.rows.specs.declared.joint_velocity_constraint.WritebackId.{WritebackId}
 use Rattle.rows.specs.declared.joint_velocity_constraint.WritebackId.the-variants.{Dof, Limit, Motor}
 use Rattle.rows.specs.GenericJoint.{limitsAt, motorAt, motorParamsOf}
 use Rattle.rows.specs.RowIds.{groupOne, groupTwo, rowIds}
-use Rattle.rows.specs.Makers.{limitLinearOf, limitLinearCoupledOf}
 use Rattle.rows.specs.Update.{contextOf, motorLimitsOf, rowOf, updateOf}
 use Rattle.rows.specs.Builder.{jointContextOf, seedOf, builderUpdateOf}
 use Rattle.rows.specs.Writeback.{writebackOf}
@@ -47,16 +44,6 @@ equal-parts a b e = record {
   maxs = λ i. rw e;
   motors = λ i dt. rw e;
 }
-
--- a limit's row reads its two ends
-module _ (h : JointConstraintHelper) (p : IntegrationParameters) (body1 body2 : JointSolverBody) (i : ℕ) (l m : JointLimits) (erp cfm : Float) (e : l .min ≡ m .min) (f : l .max ≡ m .max) where
-  limit-linear-ends : limitLinearOf h p body1 body2 i l erp cfm ≡ limitLinearOf h p body1 body2 i m erp cfm
-  unfolding limitLinearOf
-  limit-linear-ends = rw (e, f)
-
-  limit-coupled-ends : limitLinearCoupledOf h p body1 body2 i l erp cfm ≡ limitLinearCoupledOf h p body1 body2 i m erp cfm
-  unfolding limitLinearCoupledOf
-  limit-coupled-ends = rw f
 
 motor-limits-ends : (a b : GenericJoint) → SameParts a b → (i : ℕ) → motorLimitsOf a i ≡ motorLimitsOf b i
 unfolding motorLimitsOf
@@ -86,9 +73,8 @@ same-row x y s (Limit i) =
       s .cfm,
       s .angLimit,
       s .joint .masks,
-      limit-coupled-ends (y .helper) (y .params) (y .body1) (y .body2) (y .joint .masks .«coupled_axes») (limitsAt (x .joint) i) (limitsAt (y .joint) i) (y .«erp_inv_dt») (y .«cfm_coeff»)
-          (s .joint .mins i) (s .joint .maxs i),
-      limit-linear-ends (y .helper) (y .params) (y .body1) (y .body2) i (limitsAt (x .joint) i) (limitsAt (y .joint) i) (y .«erp_inv_dt») (y .«cfm_coeff») (s .joint .mins i) (s .joint .maxs i),
+      s .joint .mins i,
+      s .joint .maxs i,
     )
 same-row x y s (Motor i) =
     rw (

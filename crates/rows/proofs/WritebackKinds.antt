@@ -3,46 +3,12 @@
 -- An axis past the last one is a store past a list's end, which changes nothing. Assumes nothing.
 use Prim.Native.Nat.{ℕ}
 use mathlib.Core.Path.{_≡_, refl}
-use mathlib.Core.List.{List}
 use lib.ListN.{set}
 use lib.Ieee.{Float}
-use Rattle.rows.specs.declared.generic_joint.JointLimits.{JointLimits}
-use Rattle.rows.specs.declared.generic_joint.JointMotor.{JointMotor}
-use Rattle.rows.specs.declared.generic_joint.GenericJoint.{GenericJoint}
 use Rattle.rows.specs.declared.joint_constraint_builder.ImpulseJoint.{ImpulseJoint}
 use Rattle.rows.specs.declared.joint_velocity_constraint.WritebackId.the-variants.{Dof, Limit, Motor}
 use Rattle.rows.specs.GenericJoint.{limitsAt, motorAt}
-use Rattle.rows.specs.Writeback.{writebackOf}
-
--- a limit and a motor with another stored impulse
-abbrev pub limitsWith : JointLimits → Float → JointLimits
-limitsWith l p = record { min = l .min; max = l .max; impulse = p }
-
-abbrev pub motorWith : JointMotor → Float → JointMotor
-motorWith m p = record {
-  «target_vel» = m .«target_vel»;
-  «target_pos» = m .«target_pos»;
-  stiffness = m .stiffness;
-  damping = m .damping;
-  «max_force» = m .«max_force»;
-  impulse = p;
-  model = m .model;
-}
-
--- a joint with other limits and motors
-abbrev pub dataWith : GenericJoint → List JointLimits → List JointMotor → GenericJoint
-dataWith j limits motors = record {
-  «local_frame1» = j .«local_frame1»;
-  «local_frame2» = j .«local_frame2»;
-  masks = j .masks;
-  limits = limits;
-  motors = motors;
-  softness = j .softness;
-}
-
--- a joint with other contents and other Dof impulses; its centre stays
-abbrev pub jointWith : ImpulseJoint → GenericJoint → List Float → ImpulseJoint
-jointWith joint «data» impulses = record { «data» = «data»; impulses = impulses; center = joint .center }
+use Rattle.rows.specs.Writeback.{limitsWith, motorWith, dataWith, jointWith, writebackOf}
 
 module _ (joint : ImpulseJoint) (i : ℕ) (p : Float) where
   pub dof-written : writebackOf joint (Dof i) p ≡ jointWith joint (joint .«data») (set (joint .impulses) i p)

@@ -1,5 +1,6 @@
--- An impulse written back by one id to two joints that agree but for what they do not name leaves them so (`named-written`), and both keep their three axes
--- (`written-axes`). The stored impulse of an id that they name is the same in both (`named-seeds`). Assumes nothing.
+-- An impulse written back by one id to two joints with equal contents, unnamed numbers aside, leaves them so (`named-written`), and both keep their three axes
+-- (`written-axes`). The stored impulse of a named id is the same in both (`named-seeds`); and the joints agree where fewer ids are named (`fewer-named`).
+-- Stated over any naming of ids. Assumes nothing.
 use Prim.Native.Nat.{ℕ, zero, suc}
 use native.Mathlib.Omega.{arith}
 use mathlib.Core.Path.{_≡_, refl, sym, ap, _∙_}
@@ -13,7 +14,7 @@ use Rattle.rows.specs.declared.joint_velocity_constraint.WritebackId.{Wr
 use Rattle.rows.specs.declared.joint_velocity_constraint.WritebackId.the-variants.{Dof, Limit, Motor}
 use Rattle.rows.specs.Builder.{seedOf}
 use Rattle.rows.specs.Writeback.{writebackOf}
-use Rattle.rows.specs.Named.{Names, SameNamed}
+use Rattle.rows.specs.Named.{SameNamed}
 
 -- an element that two lists share, after a store at one place in both
 set-same : {A : Type 0} (l l′ : List A) (i i′ : ℕ) (v v′ d : A) → length l ≡ length l′ → (i′ ≡ i → v ≡ v′) → getD l i′ d ≡ getD l′ i′ d
@@ -39,7 +40,8 @@ written-axes a (Limit i) p x = record { limits = length-set (a .«data» .limits
 written-axes a (Motor i) p x = record { limits = x .limits; motors = length-set (a .«data» .motors) i _ ∙ x .motors; impulses = x .impulses }
 
 -- one impulse written to both by one id
-pub named-written : (a b : ImpulseJoint) (id : WritebackId) (p : Float) → Axes a → Axes b → SameNamed a b → SameNamed (writebackOf a id p) (writebackOf b id p)
+pub named-written : {named : WritebackId → Type 0} (a b : ImpulseJoint) (id : WritebackId) (p : Float) → Axes a → Axes b → SameNamed named a b
+    → SameNamed named (writebackOf a id p) (writebackOf b id p)
 unfolding writebackOf
 named-written a b (Dof i) p x y s = record {
   frame1 = s .frame1;
@@ -74,9 +76,21 @@ named-written a b (Motor i) p x y s = record {
   dof = s .dof;
 }
 
--- the stored impulses that two joints name
-pub named-seeds : (a b : ImpulseJoint) → SameNamed a b → (id : WritebackId) → Names (a .«data» .masks) id → seedOf a id ≡ seedOf b id
+-- the stored impulses of named ids
+pub named-seeds : {named : WritebackId → Type 0} (a b : ImpulseJoint) → SameNamed named a b → (id : WritebackId) → named id → seedOf a id ≡ seedOf b id
 unfolding seedOf
 named-seeds a b s (Dof i) n = s .dof i n
 named-seeds a b s (Limit i) n = ap (λ (l : JointLimits). l .impulse) (s .limits i n)
 named-seeds a b s (Motor i) n = ap (λ (l : JointMotor). l .impulse) (s .motor i n)
+
+pub fewer-named : {named fewer : WritebackId → Type 0} (a b : ImpulseJoint) → ((id : WritebackId) → fewer id → named id) → SameNamed named a b → SameNamed fewer a b
+fewer-named a b f s = record {
+  frame1 = s .frame1;
+  frame2 = s .frame2;
+  masks = s .masks;
+  softness = s .softness;
+  motor = λ i n. s .motor i (f (Motor i) n);
+  limits = λ i n. s .limits i (f (Limit i) n);
+  center = λ n. s .center (f (Limit 2) n);
+  dof = λ i n. s .dof i (f (Dof i) n);
+}

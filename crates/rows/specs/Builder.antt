@@ -1,15 +1,15 @@
 -- The Rust's joint_constraint_builder.rs: `update`, after `update_warmstart_seeds`.
 use Prim.Native.Nat.{ℕ, zero, suc}
 use mathlib.Core.List.{List, [], _∷_, _++_}
-use lib.ListN.{getD}
+use lib.ListN.{getD, drop}
 use lib.Ieee.{Float, nan}
-use Rattle.floats.specs.Operators.{_⊗_}
+use Rattle.floats.specs.Operators.{bits, _⊗_}
 use Rattle.floats.specs.Pose.{poseProductOf}
 use Rattle.rows.specs.GenericJoint.{limitsAt, motorAt}
 use Rattle.rows.specs.RowIds.{rowIds}
 use Rattle.rows.specs.Helper.{angularLimitParamsOf}
 use Rattle.rows.specs.Update.{contextOf, updateOf}
-use Rattle.rows.specs.Step.{withImpulse}
+use Rattle.rows.specs.Row.{withImpulse}
 use Rattle.rows.specs.declared.integration_parameters.IntegrationParameters.{IntegrationParameters}
 use Rattle.rows.specs.declared.generic_joint.GenericJoint.{GenericJoint}
 use Rattle.rows.specs.declared.joint_constraint_builder.SolverPose.{SolverPose}
@@ -45,12 +45,12 @@ warmedOf Cold substep seed prev row = row
 warmedOf (Warm coeff) zero seed prev row = withImpulse row (seed ⊗ coeff)
 warmedOf (Warm coeff) (suc substep) seed prev row = withImpulse row (prev ⊗ coeff)
 
--- row by row, with the row's id and its last impulse
+-- row by row, with the row's id and its last impulse, which reads 0 where there is none
 unfoldable pub warmedAll : Warmstart → ℕ → ImpulseJoint → List WritebackId → List Float → List JointConstraint → List JointConstraint
 warmedAll warm substep joint [] prevs rows = []
-warmedAll warm substep joint (i ∷ is) [] rows = []
-warmedAll warm substep joint (i ∷ is) (p ∷ ps) [] = []
-warmedAll warm substep joint (i ∷ is) (p ∷ ps) (r ∷ rs) = warmedOf warm substep (seedOf joint i) p r ∷ warmedAll warm substep joint is ps rs
+warmedAll warm substep joint (i ∷ is) prevs [] = []
+warmedAll warm substep joint (i ∷ is) prevs (r ∷ rs) =
+    warmedOf warm substep (seedOf joint i) (getD prevs 0 (bits 0)) r ∷ warmedAll warm substep joint is (drop 1 prevs) rs
 
 -- the builder's `update`: prevs are the impulses of the rows of the last build, by row
 unfoldable pub builderUpdateOf : IntegrationParameters → ℕ → Warmstart → SolverPose → SolverPose → ImpulseJoint → List Float → List JointConstraint

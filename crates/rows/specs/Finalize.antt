@@ -1,17 +1,18 @@
 -- Orthogonalising a group of rows: the Rust's `finalize_constraints`, the loops first over any kind of row.
-use Prim.Native.Nat.{ℕ, zero, suc}
+use Prim.Native.Nat.{ℕ, zero, suc, _-_}
 use mathlib.Core.Bool.{Bool, cond, _&&_}
 use mathlib.Core.List.{List, [], _∷_, _++_, map}
 use lib.ListN.{length, take, drop}
 use lib.Ieee.{Float, neg, eq}
 use Rattle.floats.specs.Operators.{_⊕_, _⊖_, _⊗_}
+use Rattle.floats.specs.Constants.{maxFloat}
 use Rattle.floats.specs.Utils.{simdInvOf}
 use Rattle.floats.specs.Vector.{addOf, subOf, mulOf, gdotOf, componentMulOf}
 use Rattle.floats.specs.declared.vector.Vector.{Vector}
-use Rattle.rows.specs.IntegrationParameters.{maxFloat}
+use Rattle.rows.specs.Row.{withInvLhs, withCfmGain}
 use Rattle.rows.specs.declared.joint_velocity_constraint.JointConstraint.{JointConstraint}
 
--- Each of n rows in turn is finished by its head step; if it is a lock, each later row is reduced by it in a pair step.
+-- The modified Gram-Schmidt process. Each of n rows in turn is finished by its head step; if it is a lock, each later row is reduced by it in a pair step.
 unfoldable pub orthogonaliseN : {Row : Type 0} → (Row → Row) → (Row → Bool) → (Row → Row → Row) → ℕ → List Row → List Row
 orthogonaliseN head lock pair zero cs = cs
 orthogonaliseN head lock pair (suc n) [] = []
@@ -27,33 +28,17 @@ orthogonalise head lock pair cs = orthogonaliseN head lock pair (length cs) cs
 unfoldable pub imSumOf : JointConstraint → Vector
 imSumOf c = addOf (c .im1) (c .im2)
 
--- the product of two rows, c_i and c_j, under the inverse masses and inertias
+-- J_i M⁻¹ J_jᵀ of two rows of one joint, c_i and c_j: their product under the inverse masses and inertias. Of a row with itself it is the inverse of its effective mass.
 unfoldable pub rowDotOf : Vector → JointConstraint → JointConstraint → Float
 rowDotOf imsum ci cj =
     gdotOf (ci .«lin_jac») (componentMulOf imsum (cj .«lin_jac»)) ⊕ ci .«ii_ang_jac1» ⊗ cj .«ang_jac1» ⊕ ci .«ii_ang_jac2» ⊗ cj .«ang_jac2»
 
--- the head step: the row's inverse left-hand side, with its softness
+-- the head step: the row's inverse left-hand side, the effective mass softened by cfm
 unfoldable pub headOf : Vector → JointConstraint → JointConstraint
 headOf imsum c =
     let dot = rowDotOf imsum c c in
     let gain = dot ⊗ c .«cfm_coeff» ⊕ c .«cfm_gain» in
-    record {
-      impulse = c .impulse;
-      «impulse_min» = c .«impulse_min»;
-      «impulse_max» = c .«impulse_max»;
-      «lin_jac» = c .«lin_jac»;
-      «ang_jac1» = c .«ang_jac1»;
-      «ang_jac2» = c .«ang_jac2»;
-      «ii_ang_jac1» = c .«ii_ang_jac1»;
-      «ii_ang_jac2» = c .«ii_ang_jac2»;
-      «inv_lhs» = simdInvOf (dot ⊕ gain);
-      rhs = c .rhs;
-      «rhs_wo_bias» = c .«rhs_wo_bias»;
-      «cfm_gain» = gain;
-      «cfm_coeff» = c .«cfm_coeff»;
-      im1 = c .im1;
-      im2 = c .im2;
-    }
+    withCfmGain (withInvLhs c (simdInvOf (dot ⊕ gain))) gain
 
 -- the lock test: the bounds are [−MAX, MAX]. A motor can have them too; both bounds infinite is no lock.
 unfoldable pub isLock : JointConstraint → Bool
@@ -79,7 +64,7 @@ lessOf ci cj coeff = record {
   im2 = ci .im2;
 }
 
--- the pair step: row c_i made orthogonal to the lock c_j
+-- the pair step: row c_i made orthogonal to the lock c_j, so that J_i M⁻¹ J_jᵀ is 0 but for rounding
 unfoldable pub pairOf : Vector → JointConstraint → JointConstraint → JointConstraint
 pairOf imsum cj ci = lessOf ci cj (rowDotOf imsum ci cj ⊗ simdInvOf (rowDotOf imsum cj cj))
 
@@ -91,3 +76,7 @@ finalizeOf (c ∷ cs) = orthogonalise (headOf (imSumOf c)) isLock (pairOf (imSum
 -- the first n of a list of rows orthogonalised as one group; the rows after them stay
 unfoldable pub finalizeFirst : ℕ → List JointConstraint → List JointConstraint
 finalizeFirst n cs = finalizeOf (take n cs) ++ drop n cs
+
+-- the first len of a list of rows orthogonalised as two groups, of which the first has n rows; the rows after them stay
+unfoldable pub finalizeGroups : ℕ → ℕ → List JointConstraint → List JointConstraint
+finalizeGroups n len cs = finalizeOf (take n cs) ++ (finalizeOf (take (len - n) (drop n cs)) ++ drop len cs)

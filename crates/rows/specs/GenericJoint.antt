@@ -1,4 +1,6 @@
 -- The Rust's generic_joint.rs: motors and limits, by axis.
+-- A limit's ends and a motor's target position are in metres along a linear axis and in radians about the angular one, its target velocity in m/s and rad/s, and its
+-- maximum force in N and N·m; a motor is a spring of that stiffness and damping towards its targets.
 use Prim.Native.Nat.{ℕ}
 use mathlib.Core.Bool.{cond}
 use lib.ListN.{getD}
@@ -8,10 +10,10 @@ use Rattle.rows.specs.MotorModel.{combineCoefficientsOf}
 use Rattle.rows.specs.declared.motor_model.MotorModel.the-variants.{AccelerationBased}
 use Rattle.rows.specs.declared.generic_joint.JointLimits.{JointLimits}
 use Rattle.rows.specs.declared.generic_joint.JointMotor.{JointMotor}
-use Rattle.rows.specs.declared.generic_joint.MotorParameters.{MotorParameters}
+use Rattle.rows.specs.declared.joint_velocity_constraint.MotorParameters.{MotorParameters}
 use Rattle.rows.specs.declared.generic_joint.GenericJoint.{GenericJoint}
 
--- `max_impulse`: zero where dt is zero
+-- `JointMotor::max_impulse`, force times dt: zero where dt is zero, whatever the force
 unfoldable pub maxImpulseOf : Float → Float → Float
 maxImpulseOf maxForce dt = cond (eq dt (bits 0)) (bits 0) (maxForce ⊗ dt)
 

@@ -4,6 +4,7 @@ use mathlib.Core.Bool.{cond, _||_}
 use lib.Dec.{eqb}
 use lib.Ieee.{Float, le, ne}
 use Rattle.floats.specs.Operators.{bits, _⊕_, _⊖_, _⊗_}
+use Rattle.floats.specs.Constants.{half, one, ten, pi}
 use Rattle.floats.specs.Utils.{simdInvOf}
 use Rattle.floats.specs.Vector.{addOf, subOf, mulOf, gdotOf, gcrossMatrixOf, lengthOf}
 use Rattle.floats.specs.Rotation.{productOf, inverseOf, toMatOf, columnOf}
@@ -14,23 +15,19 @@ use Rattle.floats.specs.declared.pose.Pose.{Pose}
 use Rattle.rows.specs.RowIds.{hasAxis}
 use Rattle.rows.specs.declared.joint_constraint_helper.AngularLimitParams.{AngularLimitParams}
 use Rattle.rows.specs.declared.joint_constraint_helper.JointConstraintHelper.{JointConstraintHelper}
-use Rattle.rows.specs.declared.joint_constraint_helper.CoupledAxis.{CoupledAxis}
-
--- π, bits 40490FDB
-abbrev pub pi : Float
-pi = bits 0x4049_0FDB
+use Rattle.rows.specs.declared.joint_constraint_helper.RowAxis.{RowAxis}
 
 -- half of the range from min to max
 abbrev pub halfRangeOf : Float → Float → Float
-halfRangeOf min max = (max ⊖ min) ⊗ bits 0x3F00_0000
+halfRangeOf min max = (max ⊖ min) ⊗ half
 
 -- `AngularLimitParams::new`, with the caller's centre: a half range of π or more, or a NaN, gives the centre (1, 0) and 10, which no angle reaches
 unfoldable pub angularLimitParamsOf : Float → Float → Rotation → AngularLimitParams
 angularLimitParamsOf min max center =
-    let half = halfRangeOf min max in
-    cond (le pi half || ne half half)
-    (record { center = record { re = bits 0x3F80_0000; im = bits 0 }; «half_range» = bits 0x4120_0000 })
-    (record { center = center; «half_range» = half })
+    let halfRange = halfRangeOf min max in
+    cond (le pi halfRange || ne halfRange halfRange)
+    (record { center = record { re = one; im = bits 0 }; «half_range» = ten })
+    (record { center = center; «half_range» = halfRange })
 
 -- the number of linear axis 0, or else of axis 1
 unfoldable pub coordOf : Vector → ℕ → Float
@@ -41,7 +38,8 @@ unfoldable pub snappedOf : Vector → Matrix → Vector → ℕ → ℕ → Vect
 snappedOf center basis linErr locked i =
     cond (hasAxis locked i) (subOf center (mulOf (columnOf basis i) (gdotOf linErr (columnOf basis i)))) center
 
--- `JointConstraintHelper::new`
+-- `JointConstraintHelper::new`. The basis is frame 1's two directions; lin_err is how far frame 2's origin lies from frame 1's, and ang_err the rotation from frame 1
+-- to frame 2. cmat1_basis and cmat2_basis have, for each direction, the moment arms of the point where the rows act about each body's centre of mass.
 unfoldable pub newOf : Pose → Pose → Vector → Vector → ℕ → JointConstraintHelper
 newOf frame1 frame2 com1 com2 locked =
     let basis = toMatOf (frame1 .rotation) in
@@ -57,10 +55,10 @@ newOf frame1 frame2 com1 com2 locked =
       «ang_err» = productOf (inverseOf (frame1 .rotation)) (frame2 .rotation);
     }
 
--- ---- a row's direction: its jacobians, and the distance along it
+-- ---- a row's direction (`RowAxis`): its Jacobian, and the distance along it
 
 -- an uncoupled linear axis
-unfoldable pub linearAxisOf : JointConstraintHelper → ℕ → CoupledAxis
+unfoldable pub linearAxisOf : JointConstraintHelper → ℕ → RowAxis
 linearAxisOf h i = record {
   dist = gdotOf (h .«lin_err») (columnOf (h .basis) i);
   «lin_jac» = columnOf (h .basis) i;
@@ -68,17 +66,17 @@ linearAxisOf h i = record {
   «ang_jac2» = coordOf (h .«cmat2_basis») i;
 }
 
--- the angular axis: both angular jacobians are 1
-unfoldable pub angularAxis : CoupledAxis
+-- the angular axis: both angular Jacobians are 1
+unfoldable pub angularAxis : RowAxis
 angularAxis = record {
   dist = bits 0;
   «lin_jac» = record { x = bits 0; y = bits 0 };
-  «ang_jac1» = bits 0x3F80_0000;
-  «ang_jac2» = bits 0x3F80_0000;
+  «ang_jac1» = one;
+  «ang_jac2» = one;
 }
 
 -- the sums over the coupled linear axes, with axis i added where it is coupled
-unfoldable pub coupledStepOf : JointConstraintHelper → CoupledAxis → ℕ → ℕ → CoupledAxis
+unfoldable pub coupledStepOf : JointConstraintHelper → RowAxis → ℕ → ℕ → RowAxis
 coupledStepOf h c coupled i =
     let coeff = gdotOf (columnOf (h .basis) i) (h .«lin_err») in
     cond (hasAxis coupled i)
@@ -90,11 +88,11 @@ coupledStepOf h c coupled i =
     })
     c
 
-abbrev pub noAxis : CoupledAxis
+abbrev pub noAxis : RowAxis
 noAxis = record { dist = bits 0; «lin_jac» = record { x = bits 0; y = bits 0 }; «ang_jac1» = bits 0; «ang_jac2» = bits 0 }
 
 -- the coupled linear axes as one: the distance is the length of the sum, which then is scaled to length 1
-unfoldable pub coupledAxisOf : JointConstraintHelper → ℕ → CoupledAxis
+unfoldable pub coupledAxisOf : JointConstraintHelper → ℕ → RowAxis
 coupledAxisOf h coupled =
     let c = coupledStepOf h (coupledStepOf h noAxis coupled 0) coupled 1 in
     let dist = lengthOf (c .«lin_jac») in

@@ -1,31 +1,18 @@
 -- The Rust's integration_parameters.rs: softness, and what a row reads of the settings.
+-- A joint's softness is a spring and a damper, by natural frequency (1/s) and damping ratio. For a timestep dt they are the row's erp, the "error reduction
+-- parameter", the part of a position's error that one step corrects, and its cfm, "constraint force mixing", the part by which J M⁻¹ Jᵀ is softened.
 use mathlib.Core.Bool.{cond}
 use lib.Ieee.{Float, eq, ne}
 use Rattle.floats.specs.Operators.{bits, _⊕_, _⊖_, _⊗_, _⊘_}
+use Rattle.floats.specs.Constants.{one, two, four, twoPi, maxFloat}
 use Rattle.rows.specs.declared.integration_parameters.SpringCoefficients.{SpringCoefficients}
 use Rattle.rows.specs.declared.integration_parameters.IntegrationParameters.{IntegrationParameters}
-
-abbrev pub one : Float
-one = bits 0x3F80_0000
-
-abbrev pub two : Float
-two = bits 0x4000_0000
-
-abbrev pub four : Float
-four = bits 0x4080_0000
-
-abbrev pub twoPi : Float
-twoPi = bits 0x40C9_0FDB
-
--- the largest finite value, f32::MAX
-abbrev pub maxFloat : Float
-maxFloat = bits 0x7F7F_FFFF
 
 -- `angular_frequency`
 unfoldable pub angularFrequencyOf : SpringCoefficients → Float
 angularFrequencyOf s = s .«natural_frequency» ⊗ twoPi
 
--- `erp_inv_dt`
+-- `erp_inv_dt`: erp / dt, in 1/s
 unfoldable pub erpInvDtOf : SpringCoefficients → Float → Float
 erpInvDtOf s dt = angularFrequencyOf s ⊘ (dt ⊗ angularFrequencyOf s ⊕ two ⊗ s .«damping_ratio»)
 

@@ -1,29 +1,39 @@
--- The Rust's joint_constraint_helper.rs: one definition a row kind, before its group is orthogonalised.
+-- The Rust's joint_constraint_helper.rs: one definition a row kind, before its group is orthogonalised. As in the Rust, an uncoupled linear limit and motor are the
+-- lock's row with fields overwritten; proofs/MakerShapes.antt has them as one literal, and the coupled two with the Rust's loop over the axes.
 use Prim.Native.Nat.{ℕ}
 use mathlib.Core.Bool.{true, false, cond}
 use lib.Ieee.{Float, inf, neg, le, ne}
 use Rattle.floats.specs.Operators.{bits, _⊕_, _⊖_, _⊗_}
+use Rattle.floats.specs.Constants.{maxFloat}
 use Rattle.floats.specs.Scalar.{maxOf, minOf, clampOf}
 use Rattle.floats.specs.Utils.{smallestAbsDiffBetweenAnglesOf}
 use Rattle.floats.specs.Angle.{angleOf}
 use Rattle.floats.specs.Vector.{gdotOf, transformVectorOf}
-use Rattle.rows.specs.IntegrationParameters.{maxFloat, invDtOf, maxCorrectiveVelocityOf}
+use Rattle.rows.specs.IntegrationParameters.{invDtOf, maxCorrectiveVelocityOf}
+use Rattle.rows.specs.Row.{withBounds, withRhs, withRhsWoBias, withCfmGain, withCfmCoeff}
 use Rattle.rows.specs.Helper.{linearAxisOf, angularAxis, coupledAxisOf}
 use Rattle.rows.specs.declared.integration_parameters.IntegrationParameters.{IntegrationParameters}
-use Rattle.rows.specs.declared.generic_joint.JointLimits.{JointLimits}
-use Rattle.rows.specs.declared.generic_joint.MotorParameters.{MotorParameters}
+use Rattle.rows.specs.declared.joint_velocity_constraint.MotorParameters.{MotorParameters}
 use Rattle.rows.specs.declared.joint_constraint_helper.AngularLimitParams.{AngularLimitParams}
 use Rattle.rows.specs.declared.joint_constraint_helper.JointConstraintHelper.{JointConstraintHelper}
-use Rattle.rows.specs.declared.joint_constraint_helper.CoupledAxis.{CoupledAxis}
+use Rattle.rows.specs.declared.joint_constraint_helper.RowAxis.{RowAxis}
 use Rattle.rows.specs.declared.joint_constraint_helper.ImpulseBounds.{ImpulseBounds}
+use Rattle.rows.specs.declared.joint_constraint_helper.LimitEnds.{LimitEnds}
 use Rattle.rows.specs.declared.joint_constraint_helper.MotorLimits.{MotorLimits}
 use Rattle.rows.specs.declared.joint_constraint_helper.MotorLimits.the-variants.{Span, None}
 use Rattle.rows.specs.declared.joint_velocity_constraint.JointSolverBody.{JointSolverBody}
 use Rattle.rows.specs.declared.joint_velocity_constraint.JointConstraint.{JointConstraint}
 
--- a row: impulse 0, and an inverse left-hand side that comes with its group
-unfoldable pub assembleOf : JointSolverBody → JointSolverBody → CoupledAxis → ImpulseBounds → Float → Float → Float → Float → JointConstraint
-assembleOf body1 body2 axis bounds rhs rhsWoBias cfmCoeff cfmGain = record {
+-- a row's right-hand side, with and without its bias, and its softness
+pub record RowTerms : Type 0 where
+  pub rhs : Float
+  pub rhsWoBias : Float
+  pub cfmCoeff : Float
+  pub cfmGain : Float
+
+-- The literal that ends the Rust's makers: impulse 0, and an inverse left-hand side that comes with its group.
+unfoldable pub assembleOf : JointSolverBody → JointSolverBody → RowAxis → ImpulseBounds → RowTerms → JointConstraint
+assembleOf body1 body2 axis bounds terms = record {
   impulse = bits 0;
   «impulse_min» = bounds .min;
   «impulse_max» = bounds .max;
@@ -33,10 +43,10 @@ assembleOf body1 body2 axis bounds rhs rhsWoBias cfmCoeff cfmGain = record {
   «ii_ang_jac1» = transformVectorOf (body1 .ii) (axis .«ang_jac1»);
   «ii_ang_jac2» = transformVectorOf (body2 .ii) (axis .«ang_jac2»);
   «inv_lhs» = bits 0;
-  rhs = rhs;
-  «rhs_wo_bias» = rhsWoBias;
-  «cfm_gain» = cfmGain;
-  «cfm_coeff» = cfmCoeff;
+  rhs = terms .rhs;
+  «rhs_wo_bias» = terms .rhsWoBias;
+  «cfm_gain» = terms .cfmGain;
+  «cfm_coeff» = terms .cfmCoeff;
   im1 = body1 .im;
   im2 = body2 .im;
 }
@@ -47,18 +57,18 @@ assembleOf body1 body2 axis bounds rhs rhsWoBias cfmCoeff cfmGain = record {
 unfoldable pub lockBounds : ImpulseBounds
 lockBounds = record { min = neg maxFloat; max = maxFloat }
 
--- `lock_linear`
+-- `lock_linear`: its bias takes the error along the axis back, at erp / dt
 unfoldable pub lockLinearOf : JointConstraintHelper → JointSolverBody → JointSolverBody → ℕ → Float → Float → JointConstraint
 lockLinearOf h body1 body2 i erpInvDt cfmCoeff =
     let axis = linearAxisOf h i in
     let bias = gdotOf (axis .«lin_jac») (h .«lin_err») ⊗ erpInvDt in
-    assembleOf body1 body2 axis lockBounds (bits 0 ⊕ bias) (bits 0) cfmCoeff (bits 0)
+    assembleOf body1 body2 axis lockBounds (record { rhs = bits 0 ⊕ bias; rhsWoBias = bits 0; cfmCoeff = cfmCoeff; cfmGain = bits 0 })
 
 -- `lock_angular`
 unfoldable pub lockAngularOf : JointConstraintHelper → JointSolverBody → JointSolverBody → Float → Float → JointConstraint
 lockAngularOf h body1 body2 erpInvDt cfmCoeff =
     let bias = h .«ang_err» .im ⊗ erpInvDt in
-    assembleOf body1 body2 angularAxis lockBounds (bits 0 ⊕ bias) (bits 0) cfmCoeff (bits 0)
+    assembleOf body1 body2 angularAxis lockBounds (record { rhs = bits 0 ⊕ bias; rhsWoBias = bits 0; cfmCoeff = cfmCoeff; cfmGain = bits 0 })
 
 -- ---- limits
 
@@ -74,21 +84,25 @@ cappedOf p bias = clampOf bias (neg (maxCorrectiveVelocityOf p)) (maxCorrectiveV
 unfoldable pub limitBiasOf : IntegrationParameters → Float → Float → Float → Float → Float
 limitBiasOf p dist low high erpInvDt = cappedOf p ((maxOf (dist ⊖ high) (bits 0) ⊖ maxOf (low ⊖ dist) (bits 0)) ⊗ erpInvDt)
 
--- `limit_linear`
-unfoldable pub limitLinearOf : JointConstraintHelper → IntegrationParameters → JointSolverBody → JointSolverBody → ℕ → JointLimits → Float → Float → JointConstraint
+-- `limit_linear`: the lock's row, with three fields overwritten
+unfoldable pub limitLinearOf : JointConstraintHelper → IntegrationParameters → JointSolverBody → JointSolverBody → ℕ → LimitEnds → Float → Float → JointConstraint
 limitLinearOf h p body1 body2 i limits erpInvDt cfmCoeff =
-    let axis = linearAxisOf h i in
-    let bias = limitBiasOf p (axis .dist) (limits .min) (limits .max) erpInvDt in
-    assembleOf body1 body2 axis (limitBoundsOf (axis .dist) (limits .min) (limits .max)) (bits 0 ⊕ bias) (bits 0) cfmCoeff (bits 0)
+    let lock = lockLinearOf h body1 body2 i erpInvDt cfmCoeff in
+    let dist = gdotOf (h .«lin_err») (lock .«lin_jac») in
+    let bias = limitBiasOf p dist (limits .min) (limits .max) erpInvDt in
+    let moved = withRhs lock (lock .«rhs_wo_bias» ⊕ bias) in
+    let soft = withCfmCoeff moved cfmCoeff in
+    withBounds soft (limitBoundsOf dist (limits .min) (limits .max))
 
 -- `limit_linear_coupled`: always [0, infinity], and only the upper end is read
-unfoldable pub limitLinearCoupledOf : JointConstraintHelper → IntegrationParameters → JointSolverBody → JointSolverBody → ℕ → JointLimits → Float → Float → JointConstraint
+unfoldable pub limitLinearCoupledOf : JointConstraintHelper → IntegrationParameters → JointSolverBody → JointSolverBody → ℕ → LimitEnds → Float → Float → JointConstraint
 limitLinearCoupledOf h p body1 body2 coupled limits erpInvDt cfmCoeff =
     let axis = coupledAxisOf h coupled in
     let passed = axis .dist ⊖ limits .max in
     let rhsWoBias = minOf passed (bits 0) ⊗ invDtOf p in
     let bias = cappedOf p (maxOf passed (bits 0) ⊗ erpInvDt) in
-    assembleOf body1 body2 axis (record { min = bits 0; max = inf false }) (rhsWoBias ⊕ bias) rhsWoBias cfmCoeff (bits 0)
+    let bounds : ImpulseBounds = record { min = bits 0; max = inf false } in
+    assembleOf body1 body2 axis bounds (record { rhs = rhsWoBias ⊕ bias; rhsWoBias = rhsWoBias; cfmCoeff = cfmCoeff; cfmGain = bits 0 })
 
 -- `recentered_angle`: the joint's angle from its limit's centre
 unfoldable pub recenteredAngleOf : JointConstraintHelper → AngularLimitParams → Float
@@ -103,7 +117,7 @@ limitAngularOf h p body1 body2 limit erpInvDt cfmCoeff =
     let ang = recenteredAngleOf h limit in
     let high = limit .«half_range» in
     let bias = limitBiasOf p ang (neg high) high erpInvDt in
-    assembleOf body1 body2 angularAxis (limitBoundsOf ang (neg high) high) (bits 0 ⊕ bias) (bits 0) cfmCoeff (bits 0)
+    assembleOf body1 body2 angularAxis (limitBoundsOf ang (neg high) high) (record { rhs = bits 0 ⊕ bias; rhsWoBias = bits 0; cfmCoeff = cfmCoeff; cfmGain = bits 0 })
 
 -- ---- motors
 
@@ -122,14 +136,18 @@ unfoldable pub motorBoundsOf : MotorParameters → ImpulseBounds
 motorBoundsOf m = record { min = neg (m .«max_impulse»); max = m .«max_impulse» }
 
 -- a motor's row: its right-hand side has no bias
-unfoldable pub motorRowOf : JointSolverBody → JointSolverBody → CoupledAxis → MotorParameters → Float → JointConstraint
-motorRowOf body1 body2 axis m rhs = assembleOf body1 body2 axis (motorBoundsOf m) rhs rhs (m .«cfm_coeff») (m .«cfm_gain»)
+unfoldable pub motorRowOf : JointSolverBody → JointSolverBody → RowAxis → MotorParameters → Float → JointConstraint
+motorRowOf body1 body2 axis m rhs =
+    assembleOf body1 body2 axis (motorBoundsOf m) (record { rhs = rhs; rhsWoBias = rhs; cfmCoeff = m .«cfm_coeff»; cfmGain = m .«cfm_gain» })
 
--- `motor_linear`
+-- `motor_linear`: the lock's row with no softness, with five fields overwritten
 unfoldable pub motorLinearOf : JointConstraintHelper → IntegrationParameters → JointSolverBody → JointSolverBody → ℕ → MotorParameters → MotorLimits → JointConstraint
 motorLinearOf h p body1 body2 i m limits =
-    let axis = linearAxisOf h i in
-    motorRowOf body1 body2 axis m (motorRhsOf p m limits (axis .dist))
+    let lock = lockLinearOf h body1 body2 i (bits 0) (bits 0) in
+    let rhs = motorRhsOf p m limits (gdotOf (h .«lin_err») (lock .«lin_jac»)) in
+    let soft = withCfmGain (withCfmCoeff lock (m .«cfm_coeff»)) (m .«cfm_gain») in
+    let bounded = withBounds soft (motorBoundsOf m) in
+    withRhsWoBias (withRhs bounded rhs) rhs
 
 -- `motor_linear_coupled`
 unfoldable pub motorLinearCoupledOf : JointConstraintHelper → IntegrationParameters → JointSolverBody → JointSolverBody → ℕ → MotorParameters → MotorLimits → JointConstraint

@@ -6,7 +6,8 @@ use Rattle.rows.specs.declared.motor_model.MotorModel.{MotorModel}
 use Rattle.rows.specs.declared.motor_model.MotorModel.the-variants.{AccelerationBased, ForceBased}
 use Rattle.rows.specs.declared.motor_model.MotorCoefficients.{MotorCoefficients}
 
--- `combine_coefficients`, with document 01's record of floats for the Rust's tuple
+-- `combine_coefficients`, with document 01's record of floats for the Rust's tuple: erp / dt, and the softness cfm, as a part of J M⁻¹ Jᵀ where stiffness and damping
+-- are accelerations (per unit of mass), and as an inverse mass where they are forces
 unfoldable pub combineCoefficientsOf : MotorModel → Float → Float → Float → MotorCoefficients
 combineCoefficientsOf AccelerationBased dt stiffness damping = record {
   «erp_inv_dt» = stiffness ⊗ invOf (dt ⊗ stiffness ⊕ damping);

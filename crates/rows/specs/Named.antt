@@ -1,4 +1,4 @@
--- Document 01, "Two studies side by side": what a joint names, and when two joints agree but for what they do not name.
+-- Document 01, "Two studies side by side": the rows that a joint's masks give it, and when two joints have equal contents but for numbers that are not named.
 use Prim.Native.Nat.{ℕ}
 use mathlib.Core.Path.{_≡_}
 use mathlib.Core.List.{List·Memᴰ}
@@ -15,14 +15,14 @@ use Rattle.rows.specs.declared.joint_velocity_constraint.WritebackId.the
 abbrev pub Names : Masks → WritebackId → Type 0
 Names masks id = List·Memᴰ id (rowIds 2 1 masks)
 
--- Equal contents, unnamed numbers aside: an axis's motor, its limits and its Dof impulse count only where the joint names them, and the centre only with
--- the angular limit.
-pub record SameNamed (j k : ImpulseJoint) : Type 0 where
+-- Equal contents, unnamed numbers aside. Where Motor(i) isn't named, axis i's motor may differ, its stored impulse included; without Limit(i), its limit ends and
+-- their stored impulse, and for i = 2 the centre; without Dof(i), that Dof impulse.
+pub record SameNamed (named : WritebackId → Type 0) (j k : ImpulseJoint) : Type 0 where
   pub frame1 : j .«data» .«local_frame1» ≡ k .«data» .«local_frame1»
   pub frame2 : j .«data» .«local_frame2» ≡ k .«data» .«local_frame2»
   pub masks : j .«data» .masks ≡ k .«data» .masks
   pub softness : j .«data» .softness ≡ k .«data» .softness
-  pub motor : (i : ℕ) → Names (j .«data» .masks) (Motor i) → motorAt (j .«data») i ≡ motorAt (k .«data») i
-  pub limits : (i : ℕ) → Names (j .«data» .masks) (Limit i) → limitsAt (j .«data») i ≡ limitsAt (k .«data») i
-  pub center : Names (j .«data» .masks) (Limit 2) → j .center ≡ k .center
-  pub dof : (i : ℕ) → Names (j .«data» .masks) (Dof i) → getD (j .impulses) i nan ≡ getD (k .impulses) i nan
+  pub motor : (i : ℕ) → named (Motor i) → motorAt (j .«data») i ≡ motorAt (k .«data») i
+  pub limits : (i : ℕ) → named (Limit i) → limitsAt (j .«data») i ≡ limitsAt (k .«data») i
+  pub center : named (Limit 2) → j .center ≡ k .center
+  pub dof : (i : ℕ) → named (Dof i) → getD (j .impulses) i nan ≡ getD (k .impulses) i nan

@@ -45,13 +45,14 @@ abbrev pub some : (ℕ → Bool) → List ℕ → Bool
 some p [] = false
 some p (i ∷ is) = p i || some p is
 
-abbrev pub first : List ℕ → List ℕ
-first [] = []
-first (i ∷ is) = i ∷ []
+-- of a list in ascending order the lowest number, if there is one
+abbrev pub lowest : List ℕ → List ℕ
+lowest [] = []
+lowest (i ∷ is) = i ∷ []
 
 -- F: the lowest set bit of C's linear part, if there is one
 abbrev pub firstCoupled : ℕ → Masks → List ℕ
-firstCoupled nl k = first (keep (isCoupled k) (axes 0 nl))
+firstCoupled nl k = lowest (keep (isCoupled k) (axes 0 nl))
 
 -- angular axes come before linear ones
 abbrev pub inOrder : ℕ → ℕ → List ℕ

@@ -5,12 +5,13 @@ use lib.ListN.{getD, set}
 use Rattle.floats.specs.Operators.{_⊕_, _⊖_, _⊗_}
 use Rattle.floats.specs.Scalar.{clampOf}
 use Rattle.floats.specs.Vector.{addOf, subOf, mulOf, gdotOf, componentMulOf}
+use Rattle.rows.specs.Row.{withImpulse, withRhs}
 use Rattle.rows.specs.declared.joint_velocity_constraint.JointConstraint.{JointConstraint}
 use Rattle.rows.specs.declared.joint_velocity_constraint.SolverVel.{SolverVel}
 use Rattle.rows.specs.declared.joint_velocity_constraint.SolverVels.{SolverVels}
 use Rattle.rows.specs.declared.joint_velocity_constraint.Solved.{Solved}
 
--- the impulse that a row wants, before its bounds
+-- the impulse that a row wants, before its bounds: at it J v + rhs − cfm_gain λ would be 0
 unfoldable pub wantedImpulseOf : JointConstraint → SolverVel → SolverVel → Float
 wantedImpulseOf c v1 v2 =
     let dlinvel = gdotOf (c .«lin_jac») (subOf (v2 .linear) (v1 .linear)) in
@@ -18,7 +19,7 @@ wantedImpulseOf c v1 v2 =
     let rhs = dlinvel ⊕ dangvel ⊕ c .rhs in
     c .impulse ⊕ c .«inv_lhs» ⊗ (rhs ⊖ c .«cfm_gain» ⊗ c .impulse)
 
--- both velocities once an impulse acts along the row
+-- both velocities once an impulse acts along the row: body 1 moves along lin_jac, body 2 against it
 unfoldable pub appliedOf : JointConstraint → SolverVel → SolverVel → Float → SolverVels
 appliedOf c v1 v2 p =
     let linImpulse = mulOf (c .«lin_jac») p in
@@ -26,26 +27,6 @@ appliedOf c v1 v2 p =
       vel1 = record { linear = addOf (v1 .linear) (componentMulOf linImpulse (c .im1)); angular = v1 .angular ⊕ c .«ii_ang_jac1» ⊗ p };
       vel2 = record { linear = subOf (v2 .linear) (componentMulOf linImpulse (c .im2)); angular = v2 .angular ⊖ c .«ii_ang_jac2» ⊗ p };
     }
-
--- the row with another impulse
-unfoldable pub withImpulse : JointConstraint → Float → JointConstraint
-withImpulse c p = record {
-  impulse = p;
-  «impulse_min» = c .«impulse_min»;
-  «impulse_max» = c .«impulse_max»;
-  «lin_jac» = c .«lin_jac»;
-  «ang_jac1» = c .«ang_jac1»;
-  «ang_jac2» = c .«ang_jac2»;
-  «ii_ang_jac1» = c .«ii_ang_jac1»;
-  «ii_ang_jac2» = c .«ii_ang_jac2»;
-  «inv_lhs» = c .«inv_lhs»;
-  rhs = c .rhs;
-  «rhs_wo_bias» = c .«rhs_wo_bias»;
-  «cfm_gain» = c .«cfm_gain»;
-  «cfm_coeff» = c .«cfm_coeff»;
-  im1 = c .im1;
-  im2 = c .im2;
-}
 
 -- `solve_generic`: the wanted impulse within the row's bounds, and its change acting on both bodies
 unfoldable pub stepOf : JointConstraint → SolverVel → SolverVel → Solved
@@ -59,20 +40,4 @@ warmstartOf c v1 v2 = appliedOf c v1 v2 (c .impulse)
 
 -- `remove_bias_from_rhs`
 unfoldable pub removeBiasOf : JointConstraint → JointConstraint
-removeBiasOf c = record {
-  impulse = c .impulse;
-  «impulse_min» = c .«impulse_min»;
-  «impulse_max» = c .«impulse_max»;
-  «lin_jac» = c .«lin_jac»;
-  «ang_jac1» = c .«ang_jac1»;
-  «ang_jac2» = c .«ang_jac2»;
-  «ii_ang_jac1» = c .«ii_ang_jac1»;
-  «ii_ang_jac2» = c .«ii_ang_jac2»;
-  «inv_lhs» = c .«inv_lhs»;
-  rhs = c .«rhs_wo_bias»;
-  «rhs_wo_bias» = c .«rhs_wo_bias»;
-  «cfm_gain» = c .«cfm_gain»;
-  «cfm_coeff» = c .«cfm_coeff»;
-  im1 = c .im1;
-  im2 = c .im2;
-}
+removeBiasOf c = withRhs c (c .«rhs_wo_bias»)

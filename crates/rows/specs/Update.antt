@@ -17,6 +17,7 @@ use Rattle.rows.specs.Finalize.{finalizeOf}
 use Rattle.rows.specs.declared.integration_parameters.IntegrationParameters.{IntegrationParameters}
 use Rattle.rows.specs.declared.generic_joint.GenericJoint.{GenericJoint}
 use Rattle.rows.specs.declared.joint_constraint_helper.AngularLimitParams.{AngularLimitParams}
+use Rattle.rows.specs.declared.joint_constraint_helper.LimitEnds.{LimitEnds}
 use Rattle.rows.specs.declared.joint_constraint_helper.MotorLimits.{MotorLimits}
 use Rattle.rows.specs.declared.joint_constraint_helper.MotorLimits.the-variants.{Span, None}
 use Rattle.rows.specs.declared.joint_velocity_constraint.JointSolverBody.{JointSolverBody}
@@ -40,6 +41,10 @@ contextOf params body1 body2 frame1 frame2 joint angLimit = record {
   «cfm_coeff» = cfmCoeffOf (joint .softness) (params .dt);
 }
 
+-- axis i's two ends
+abbrev pub endsAt : GenericJoint → ℕ → LimitEnds
+endsAt joint i = record { min = limitsAt joint i .min; max = limitsAt joint i .max }
+
 -- axis i's limits for its linear motor: its two ends where T holds i
 unfoldable pub motorLimitsOf : GenericJoint → ℕ → MotorLimits
 motorLimitsOf joint i = cond (isLimit (joint .masks) i) (Span (limitsAt joint i .min) (limitsAt joint i .max)) None
@@ -54,8 +59,8 @@ rowOf cx (Limit i) =
     cond (eqb i 2)
     (limitAngularOf (cx .helper) (cx .params) (cx .body1) (cx .body2) (cx .«ang_limit») (cx .«erp_inv_dt») (cx .«cfm_coeff»))
     (cond (isCoupled (cx .joint .masks) i)
-    (limitLinearCoupledOf (cx .helper) (cx .params) (cx .body1) (cx .body2) (cx .joint .masks .«coupled_axes») (limitsAt (cx .joint) i) (cx .«erp_inv_dt») (cx .«cfm_coeff»))
-    (limitLinearOf (cx .helper) (cx .params) (cx .body1) (cx .body2) i (limitsAt (cx .joint) i) (cx .«erp_inv_dt») (cx .«cfm_coeff»)))
+    (limitLinearCoupledOf (cx .helper) (cx .params) (cx .body1) (cx .body2) (cx .joint .masks .«coupled_axes») (endsAt (cx .joint) i) (cx .«erp_inv_dt») (cx .«cfm_coeff»))
+    (limitLinearOf (cx .helper) (cx .params) (cx .body1) (cx .body2) i (endsAt (cx .joint) i) (cx .«erp_inv_dt») (cx .«cfm_coeff»)))
 rowOf cx (Motor i) =
     cond (eqb i 2)
     (motorAngularOf (cx .helper) (cx .body1) (cx .body2) (motorParamsOf (motorAt (cx .joint) i) (cx .params .dt)))
@@ -93,6 +98,6 @@ blankRow = record {
 unfoldable pub rowsArray : List JointConstraint → Rows
 rowsArray l = record { rows = filled 6 blankRow l; len = length l }
 
--- a group's rows before it is orthogonalised, from an array of ids: `count` of them from id `from` on
-unfoldable pub groupRows : RowContext → List RowId → ℕ → ℕ → List JointConstraint
-groupRows cx ids from count = filled 6 blankRow (map (λ i. rowOf cx (i .id)) (take count (drop from ids)))
+-- the rows of the first `count` ids of an array, before their groups are orthogonalised
+unfoldable pub madeRows : RowContext → List RowId → ℕ → List JointConstraint
+madeRows cx ids count = filled 6 blankRow (map (λ i. rowOf cx (i .id)) (take count ids))

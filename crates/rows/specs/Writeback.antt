@@ -1,5 +1,5 @@
 -- The Rust's joint_velocity_constraint.rs, `writeback_impulses`: a row's impulse goes to its id's stored impulse.
-use Prim.Native.Nat.{ℕ}
+use mathlib.Core.List.{List}
 use lib.ListN.{set}
 use lib.Ieee.{Float}
 use Rattle.rows.specs.GenericJoint.{limitsAt, motorAt}
@@ -10,10 +10,11 @@ use Rattle.rows.specs.declared.joint_constraint_builder.ImpulseJoint.{Im
 use Rattle.rows.specs.declared.joint_velocity_constraint.WritebackId.{WritebackId}
 use Rattle.rows.specs.declared.joint_velocity_constraint.WritebackId.the-variants.{Dof, Limit, Motor}
 
-abbrev limitsWith : JointLimits → Float → JointLimits
+-- a limit and a motor with another stored impulse
+abbrev pub limitsWith : JointLimits → Float → JointLimits
 limitsWith l p = record { min = l .min; max = l .max; impulse = p }
 
-abbrev motorWith : JointMotor → Float → JointMotor
+abbrev pub motorWith : JointMotor → Float → JointMotor
 motorWith m p = record {
   «target_vel» = m .«target_vel»;
   «target_pos» = m .«target_pos»;
@@ -24,34 +25,27 @@ motorWith m p = record {
   model = m .model;
 }
 
+-- a joint with other limits and motors
+abbrev pub dataWith : GenericJoint → List JointLimits → List JointMotor → GenericJoint
+dataWith j limits motors = record {
+  «local_frame1» = j .«local_frame1»;
+  «local_frame2» = j .«local_frame2»;
+  masks = j .masks;
+  limits = limits;
+  motors = motors;
+  softness = j .softness;
+}
+
+-- a joint with other contents and other Dof impulses; its centre stays
+abbrev pub jointWith : ImpulseJoint → GenericJoint → List Float → ImpulseJoint
+jointWith joint «data» impulses = record { «data» = «data»; impulses = impulses; center = joint .center }
+
 -- one stored impulse written; an axis past the last one has none
 unfoldable pub writebackOf : ImpulseJoint → WritebackId → Float → ImpulseJoint
-writebackOf joint (Dof i) p = record { «data» = joint .«data»; impulses = set (joint .impulses) i p; center = joint .center }
+writebackOf joint (Dof i) p = jointWith joint (joint .«data») (set (joint .impulses) i p)
 writebackOf joint (Limit i) p =
     let «data» = joint .«data» in
-    record {
-      «data» = record {
-        «local_frame1» = «data» .«local_frame1»;
-        «local_frame2» = «data» .«local_frame2»;
-        masks = «data» .masks;
-        limits = set («data» .limits) i (limitsWith (limitsAt «data» i) p);
-        motors = «data» .motors;
-        softness = «data» .softness;
-      };
-      impulses = joint .impulses;
-      center = joint .center;
-    }
+    jointWith joint (dataWith «data» (set («data» .limits) i (limitsWith (limitsAt «data» i) p)) («data» .motors)) (joint .impulses)
 writebackOf joint (Motor i) p =
     let «data» = joint .«data» in
-    record {
-      «data» = record {
-        «local_frame1» = «data» .«local_frame1»;
-        «local_frame2» = «data» .«local_frame2»;
-        masks = «data» .masks;
-        limits = «data» .limits;
-        motors = set («data» .motors) i (motorWith (motorAt «data» i) p);
-        softness = «data» .softness;
-      };
-      impulses = joint .impulses;
-      center = joint .center;
-    }
+    jointWith joint (dataWith «data» («data» .limits) (set («data» .motors) i (motorWith (motorAt «data» i) p))) (joint .impulses)

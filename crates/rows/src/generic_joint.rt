@@ -3,6 +3,7 @@ ghost use mathlib.Core.Path.{_≡_};
 ghost use Rattle.rows.specs.GenericJoint.{motorParamsOf, maxImpulseOf, limitsAt, motorAt};
 ghost use Rattle.rows.specs.RowIds.{hasAxis};
 use crate::integration_parameters::SpringCoefficients;
+use crate::joint_velocity_constraint::MotorParameters;
 use crate::motor_model::MotorModel;
 use floats::pose::Pose;
 
@@ -20,16 +21,6 @@ pub struct JointMotor {
     pub max_force: f32,
     pub impulse: f32,
     pub model: MotorModel,
-}
-
-// What a motor's row reads of its motor at a timestep.
-pub struct MotorParameters {
-    pub erp_inv_dt: f32,
-    pub cfm_coeff: f32,
-    pub cfm_gain: f32,
-    pub target_pos: f32,
-    pub target_vel: f32,
-    pub max_impulse: f32,
 }
 
 // In each mask bits 0 and 1 are the linear axes and bit 2 is the angular one.
@@ -62,16 +53,16 @@ impl JointMotor {
             cfm_gain: c.cfm_gain,
             target_pos: self.target_pos,
             target_vel: self.target_vel,
-            max_impulse: max_impulse(self.max_force, dt),
+            max_impulse: JointMotor::max_impulse(self.max_force, dt),
         }
     }
-}
 
-// The largest impulse of a motor during dt: zero if dt is zero, whatever the force.
-pub fn max_impulse(max_force: f32, dt: f32) -> f32
-    ensures { λ r. ⌜ r ≡ maxImpulseOf «max_force» dt ⌝ }
-{
-    if dt == 0.0 { 0.0 } else { max_force * dt }
+    // The largest impulse of a motor during dt: zero if dt is zero, whatever the force.
+    pub fn max_impulse(max_force: f32, dt: f32) -> f32
+        ensures { λ r. ⌜ r ≡ maxImpulseOf «max_force» dt ⌝ }
+    {
+        if dt == 0.0 { 0.0 } else { max_force * dt }
+    }
 }
 
 // Whether a mask has an axis.

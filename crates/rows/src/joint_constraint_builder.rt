@@ -2,7 +2,6 @@
 // from the poses of its bodies, and where their impulses start.
 ghost use mathlib.Core.Path.{_≡_};
 ghost use Rattle.rows.specs.Builder.{solverBodyOf, jointContextOf, seedOf, warmedOf, builderUpdateOf};
-ghost use Rattle.rows.specs.Writeback.{writebackOf};
 ghost use Rattle.rows.specs.Update.{rowsArray};
 use crate::generic_joint::GenericJoint;
 use crate::integration_parameters::IntegrationParameters;
@@ -95,39 +94,6 @@ impl ImpulseJoint {
             WritebackId::Motor(axis) => data.motor_at(axis).impulse,
         }
     }
-
-    // The Rust's `writeback_impulses`: a row's impulse stored by its id.
-    pub fn writeback_impulse(self, id: WritebackId, impulse: f32) -> ImpulseJoint
-        ensures { λ r. ⌜ r ≡ writebackOf self id impulse ⌝ }
-    {
-        let mut joint = self;
-        match id {
-            WritebackId::Dof(axis) => {
-                if axis < 3 {
-                    joint.impulses[axis] = impulse;
-                }
-            }
-            WritebackId::Limit(axis) => {
-                let mut data = joint.data;
-                if axis < 3 {
-                    let mut limits = data.limits[axis];
-                    limits.impulse = impulse;
-                    data.limits[axis] = limits;
-                }
-                joint.data = data;
-            }
-            WritebackId::Motor(axis) => {
-                let mut data = joint.data;
-                if axis < 3 {
-                    let mut motor = data.motors[axis];
-                    motor.impulse = impulse;
-                    data.motors[axis] = motor;
-                }
-                joint.data = data;
-            }
-        }
-        joint
-    }
 }
 
 // Where a row's impulse starts, from its stored impulse and its last one.
@@ -167,7 +133,7 @@ pub fn update(
     let data = joint.data;
     let ids = row_ids(data.masks);
     let context = joint.context(params, body1, body2);
-    let made = context.update();
+    let made = context.update_by(ids);
     let mut rows = made.rows;
     let len = made.len;
     let mut k = 0usize;

@@ -1,17 +1,17 @@
 // The Rust's dynamics/solver/joint_constraint/joint_constraint_helper.rs: one function a row kind.
 ghost use mathlib.Core.Path.{_≡_};
+ghost use Prim.Native.Nat.{_≤_};
 ghost use Rattle.floats.specs.Operators.{_⊗_};
 ghost use Rattle.floats.specs.Utils.{simdInvOf};
-ghost use Rattle.rows.specs.Finalize.{imSumOf, rowDotOf, headOf, isLock, lessOf, finalizeOf, finalizeFirst};
+ghost use Rattle.rows.specs.Finalize.{imSumOf, rowDotOf, headOf, isLock, lessOf, finalizeOf, finalizeFirst, finalizeGroups};
 ghost use Rattle.rows.specs.Helper.{angularLimitParamsOf, snappedOf, newOf, coordOf, linearAxisOf, angularAxis, coupledStepOf, coupledAxisOf};
 ghost use Rattle.rows.specs.Makers.{assembleOf, lockBounds, limitBoundsOf, limitBiasOf, limitedTargetVelOf, motorRhsOf, motorBoundsOf, motorRowOf, limitLinearOf, limitLinearCoupledOf, motorLinearOf, motorLinearCoupledOf, lockLinearOf, recenteredAngleOf, limitAngularOf, motorAngularRhsOf, motorAngularOf, lockAngularOf};
-use crate::generic_joint::JointLimits;
-use crate::generic_joint::MotorParameters;
 use crate::generic_joint::has_axis;
 use crate::integration_parameters::IntegrationParameters;
 use crate::integration_parameters::MAX;
 use crate::joint_velocity_constraint::JointConstraint;
 use crate::joint_velocity_constraint::JointSolverBody;
+use crate::joint_velocity_constraint::MotorParameters;
 use floats::angle::angle;
 use floats::angular_inertia_ops::transform_vector;
 use floats::pose::Pose;
@@ -42,12 +42,19 @@ pub struct JointConstraintHelper {
     pub ang_err: Rotation,
 }
 
-// The direction and the length of a joint's error over its coupled linear axes.
-pub struct CoupledAxis {
+// A row's direction, and the distance along it: of one linear axis, of the coupled ones together, or
+// of the angular axis.
+pub struct RowAxis {
     pub dist: f32,
     pub lin_jac: Vector,
     pub ang_jac1: f32,
     pub ang_jac2: f32,
+}
+
+// A limit's two ends: the Rust's `[N; 2]`.
+pub struct LimitEnds {
+    pub min: f32,
+    pub max: f32,
 }
 
 // The two ends of a motor's limits, or none: the Rust's `Option<[N; 2]>`.
@@ -141,7 +148,7 @@ impl JointConstraintHelper {
     }
 
     // The jacobians of a coupled row with one more linear axis, if that is coupled.
-    pub fn coupled_step(self, c: CoupledAxis, coupled_axes: u32, axis: usize) -> CoupledAxis
+    pub fn coupled_step(self, c: RowAxis, coupled_axes: u32, axis: usize) -> RowAxis
         ensures { λ r. ⌜ r ≡ coupledStepOf self c «coupled_axes» axis ⌝ }
     {
         if has_axis(coupled_axes, axis) {
@@ -149,7 +156,7 @@ impl JointConstraintHelper {
             let column = basis.column(axis);
             let coeff = column.gdot(self.lin_err);
             let lin_jac = c.lin_jac;
-            return CoupledAxis {
+            return RowAxis {
                 dist: c.dist,
                 lin_jac: lin_jac.add(column.mul(coeff)),
                 ang_jac1: c.ang_jac1 + coord(self.cmat1_basis, axis) * coeff,
@@ -160,10 +167,10 @@ impl JointConstraintHelper {
     }
 
     // What the coupled limit and the coupled motor share: the length is taken before scaling.
-    pub fn coupled_axis(self, coupled_axes: u32) -> CoupledAxis
+    pub fn coupled_axis(self, coupled_axes: u32) -> RowAxis
         ensures { λ r. ⌜ r ≡ coupledAxisOf self «coupled_axes» ⌝ }
     {
-        let none = CoupledAxis {
+        let none = RowAxis {
             dist: 0.0,
             lin_jac: Vector { x: 0.0, y: 0.0 },
             ang_jac1: 0.0,
@@ -173,7 +180,7 @@ impl JointConstraintHelper {
         let lin_jac = c.lin_jac;
         let dist = lin_jac.simd_length();
         let inv_dist = simd_inv(dist);
-        CoupledAxis {
+        RowAxis {
             dist: dist,
             lin_jac: lin_jac.mul(inv_dist),
             ang_jac1: c.ang_jac1 * inv_dist,
@@ -186,14 +193,15 @@ impl JointConstraintHelper {
 pub fn assemble(
     body1: JointSolverBody,
     body2: JointSolverBody,
-    axis: CoupledAxis,
+    axis: RowAxis,
     bounds: ImpulseBounds,
     rhs: f32,
     rhs_wo_bias: f32,
     cfm_coeff: f32,
     cfm_gain: f32,
 ) -> JointConstraint
-    ensures { λ r. ⌜ r ≡ assembleOf body1 body2 axis bounds rhs «rhs_wo_bias» «cfm_coeff» «cfm_gain» ⌝ }
+    ensures { λ r. ⌜ r ≡ assembleOf body1 body2 axis bounds
+        (record { rhs = rhs; rhsWoBias = «rhs_wo_bias»; cfmCoeff = «cfm_coeff»; cfmGain = «cfm_gain» }) ⌝ }
 {
     let lin_jac = axis.lin_jac;
     let im1 = body1.im;
@@ -305,7 +313,7 @@ pub fn motor_bounds(motor_params: MotorParameters) -> ImpulseBounds
 pub fn motor_row(
     body1: JointSolverBody,
     body2: JointSolverBody,
-    axis: CoupledAxis,
+    axis: RowAxis,
     motor_params: MotorParameters,
     rhs: f32,
 ) -> JointConstraint
@@ -324,10 +332,10 @@ pub fn motor_row(
 }
 
 // The direction of an angular row: both angular jacobians are 1.
-pub fn angular_axis() -> CoupledAxis
+pub fn angular_axis() -> RowAxis
     ensures { λ r. ⌜ r ≡ angularAxis ⌝ }
 {
-    CoupledAxis {
+    RowAxis {
         dist: 0.0,
         lin_jac: Vector { x: 0.0, y: 0.0 },
         ang_jac1: 1.0,
@@ -337,13 +345,13 @@ pub fn angular_axis() -> CoupledAxis
 
 impl JointConstraintHelper {
     // The direction of an uncoupled linear row, and the distance along it.
-    pub fn linear_axis(self, axis: usize) -> CoupledAxis
+    pub fn linear_axis(self, axis: usize) -> RowAxis
         ensures { λ r. ⌜ r ≡ linearAxisOf self axis ⌝ }
     {
         let basis = self.basis;
         let lin_err = self.lin_err;
         let lin_jac = basis.column(axis);
-        CoupledAxis {
+        RowAxis {
             dist: lin_err.gdot(lin_jac),
             lin_jac: lin_jac,
             ang_jac1: coord(self.cmat1_basis, axis),
@@ -357,7 +365,7 @@ impl JointConstraintHelper {
         body1: JointSolverBody,
         body2: JointSolverBody,
         limited_axis: usize,
-        limits: JointLimits,
+        limits: LimitEnds,
         erp_inv_dt: f32,
         cfm_coeff: f32,
     ) -> JointConstraint
@@ -385,7 +393,7 @@ impl JointConstraintHelper {
         body1: JointSolverBody,
         body2: JointSolverBody,
         coupled_axes: u32,
-        limits: JointLimits,
+        limits: LimitEnds,
         erp_inv_dt: f32,
         cfm_coeff: f32,
     ) -> JointConstraint
@@ -662,4 +670,20 @@ pub fn finalize_group(rows: [JointConstraint; 6], n: usize) -> [JointConstraint;
     }
     finalize_constraints(&mut group[..len]);
     group
+}
+
+// `finalize_constraints` for two groups of an array that is handed over: the rows before row `first`, and those from there
+// to before row `len`.
+pub(crate) fn finalize_groups(
+    rows: [JointConstraint; 6],
+    first: usize,
+    len: usize,
+) -> [JointConstraint; 6]
+    requires { ⌜ (first ≤ len) × (len ≤ 6) ⌝ }
+    ensures { λ r. ⌜ r ≡ finalizeGroups first len rows ⌝ }
+{
+    let mut groups = rows;
+    finalize_constraints(&mut groups[..first]);
+    finalize_constraints(&mut groups[first..len]);
+    groups
 }

@@ -1,22 +1,33 @@
 // The Rust's dynamics/solver/joint_constraint/joint_velocity_constraint.rs: a row, and what it does
 // to the velocities of its two bodies.
 ghost use mathlib.Core.Path.{_≡_};
-ghost use Prim.Native.Nat.{_+_, _≤_};
-ghost use mathlib.Core.List.{_++_};
-ghost use lib.ListN.{take, drop};
-ghost use Rattle.rows.specs.Update.{contextOf, motorLimitsOf, rowOf, updateOf, blankRow, rowsArray, groupRows};
-ghost use Rattle.rows.specs.Step.{wantedImpulseOf, appliedOf, stepOf, warmstartOf, removeBiasOf, withImpulse};
+ghost use Prim.Native.Nat.{_≤_};
+ghost use Rattle.rows.specs.RowIds.{rowIdsArray};
+ghost use Rattle.rows.specs.Update.{contextOf, motorLimitsOf, rowOf, updateOf, blankRow, rowsArray, madeRows};
+ghost use Rattle.rows.specs.Step.{wantedImpulseOf, appliedOf, stepOf, warmstartOf, removeBiasOf};
+ghost use Rattle.rows.specs.Row.{withImpulse};
 use crate::generic_joint::GenericJoint;
 use crate::integration_parameters::IntegrationParameters;
 use crate::joint_constraint_helper::AngularLimitParams;
 use crate::joint_constraint_helper::JointConstraintHelper;
+use crate::joint_constraint_helper::LimitEnds;
 use crate::joint_constraint_helper::MotorLimits;
-use crate::joint_constraint_helper::finalize_group;
+use crate::joint_constraint_helper::finalize_groups;
 use crate::row_ids::RowIds;
 use crate::row_ids::row_ids;
 use floats::pose::Pose;
 use floats::scalar::clamp;
 use floats::vector::Vector;
+
+// What a motor's row reads of its motor at a timestep.
+pub struct MotorParameters {
+    pub erp_inv_dt: f32,
+    pub cfm_coeff: f32,
+    pub cfm_gain: f32,
+    pub target_pos: f32,
+    pub target_vel: f32,
+    pub max_impulse: f32,
+}
 
 // Which stored impulse of its joint a row is for: an axis's lock, limit or motor.
 pub enum WritebackId {
@@ -286,6 +297,10 @@ impl RowContext {
         let joint = self.joint;
         let masks = joint.masks;
         let limits = joint.limits_at(axis);
+        let ends = LimitEnds {
+            min: limits.min,
+            max: limits.max,
+        };
         if masks.is_coupled(axis) {
             let coupled = masks.coupled_axes;
             return helper.limit_linear_coupled(
@@ -293,12 +308,12 @@ impl RowContext {
                 body1,
                 body2,
                 coupled,
-                limits,
+                ends,
                 erp_inv_dt,
                 cfm_coeff,
             );
         }
-        helper.limit_linear(params, body1, body2, axis, limits, erp_inv_dt, cfm_coeff)
+        helper.limit_linear(params, body1, body2, axis, ends, erp_inv_dt, cfm_coeff)
     }
 
     pub fn motor_row(self, axis: usize) -> JointConstraint
@@ -334,16 +349,16 @@ impl RowContext {
         }
     }
 
-    // `count` rows from id number `from` on, before their group is orthogonalised.
-    fn group(self, ids: RowIds, from: usize, count: usize) -> [JointConstraint; 6]
-        requires { ⌜ from + count ≤ 6 ⌝ }
-        ensures { λ r. ⌜ r ≡ groupRows self (ids .ids) from count ⌝ }
+    // The rows of the first `count` ids, before their groups are orthogonalised.
+    fn made(self, ids: RowIds, count: usize) -> [JointConstraint; 6]
+        requires { ⌜ count ≤ 6 ⌝ }
+        ensures { λ r. ⌜ r ≡ madeRows self (ids .ids) count ⌝ }
     {
         let blank = blank_row();
         let mut rows = [blank; 6];
         let mut k = 0usize;
         while k < count {
-            let named = ids.ids[from + k];
+            let named = ids.ids[k];
             let id = named.id;
             rows[k] = self.row(id);
             k += 1;
@@ -355,33 +370,18 @@ impl RowContext {
         ensures { λ r. ⌜ r ≡ rowsArray (updateOf self) ⌝ }
     {
         let joint = self.joint;
-        let ids = row_ids(joint.masks);
-        let first = ids.first;
-        let second = ids.len - first;
-        let one = finalize_group(self.group(ids, 0, first), first);
-        let two = finalize_group(self.group(ids, first, second), second);
+        self.update_by(row_ids(joint.masks))
+    }
+
+    // `update`, with the joint's ids at hand.
+    pub(crate) fn update_by(self, ids: RowIds) -> Rows
+        requires { ⌜ ids ≡ rowIdsArray (self .joint .masks) ⌝ }
+        ensures { λ r. ⌜ r ≡ rowsArray (updateOf self) ⌝ }
+    {
+        let len = ids.len;
         Rows {
-            rows: joined(one, first, two, second),
-            len: ids.len,
+            rows: finalize_groups(self.made(ids, len), ids.first, len),
+            len: len,
         }
     }
-}
-
-// The first n rows of one array, then the first m of another.
-fn joined(
-    one: [JointConstraint; 6],
-    n: usize,
-    two: [JointConstraint; 6],
-    m: usize,
-) -> [JointConstraint; 6]
-    requires { ⌜ n + m ≤ 6 ⌝ }
-    ensures { λ r. ⌜ r ≡ take n one ++ (take m two ++ drop (n + m) one) ⌝ }
-{
-    let mut rows = one;
-    let mut k = 0usize;
-    while k < m {
-        rows[n + k] = two[k];
-        k += 1;
-    }
-    rows
 }

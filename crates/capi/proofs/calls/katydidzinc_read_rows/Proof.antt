@@ -25,7 +25,7 @@ returns : tie.Need-returns
 returns c =
     let p = c .before .before .before .before .before in
     let s = p .before .before .before .before .before in
-    let told = rw (s .before .header .ensures) at (s .read-rows .ensures) in
+    let told = rw (s .before .header .ensures) at (s .read-rows .ensures .1) in
     (rw told at (c .rows-number .ensures), (rw told at (p .put-read .ensures .0), rw told at (p .put-read .ensures .1)))
 
 pub katydidzinc-read-rows-spec : {M : Type 1} → statement M

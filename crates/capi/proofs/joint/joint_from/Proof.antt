@@ -1,5 +1,7 @@
 -- `joint_from` meets its contract, by what its call ensures.
+use mathlib.Core.Path.{_∙_}
 use borrow.Author.Needs.{needs}
+use Rattle.model.proofs.SingleRecordsLaws.{joint-read}
 use Rattle.capi.specs.JointExports.{jointFrom}
 use Rattle.capi.proofs.joint.joint_from.Statement.{statement}
 use Rattle.capi.proofs.joint.joint_from.Tie as tie
@@ -25,24 +27,26 @@ shared-slice-read-t15 c = search needs
 shared-slice-read-t17 : tie.Need-shared-slice-read-t17
 shared-slice-read-t17 c = search needs
 
-slice-aggregate-joint-at : tie.Need-slice-aggregate-joint-at
-slice-aggregate-joint-at c = search needs
+slice-aggregate-read-joint : tie.Need-slice-aggregate-read-joint
+slice-aggregate-read-joint c = search needs
 
-sub-joint-at : tie.Need-sub-joint-at
-sub-joint-at c = search needs
+sub-read-joint : tie.Need-sub-read-joint
+sub-read-joint c = search needs
 
-part-joint-at-start : tie.Need-part-joint-at-start
-part-joint-at-start c = search needs
+part-read-joint-start : tie.Need-part-read-joint-start
+part-read-joint-start c = search needs
 
-part-joint-at-end : tie.Need-part-joint-at-end
-part-joint-at-end c = search needs
+part-read-joint-end : tie.Need-part-read-joint-end
+part-read-joint-end c = search needs
 
-joint-at-requires : tie.Need-joint-at-requires
-joint-at-requires c κs = search needs
+read-joint-requires : tie.Need-read-joint-requires
+read-joint-requires c κs = search needs
 
 returns : tie.Need-returns
 unfolding jointFrom
-returns c = cc
+returns c =
+    let e = c .read-joint .ensures ∙ joint-read _ _ _ (search needs) (search needs) in
+    cc
 
 pub joint-from-spec : {M : Type 1} → statement M
 joint-from-spec =
@@ -55,9 +59,9 @@ joint-from-spec =
     shared-slice-read-t13
     shared-slice-read-t15
     shared-slice-read-t17
-    slice-aggregate-joint-at
-    sub-joint-at
-    part-joint-at-start
-    part-joint-at-end
-    joint-at-requires
+    slice-aggregate-read-joint
+    sub-read-joint
+    part-read-joint-start
+    part-read-joint-end
+    read-joint-requires
     returns)

@@ -5,7 +5,8 @@ use borrow.Author.Needs.{needs}
 use lib.Ieee.{Float, lt}
 use Rattle.floats.specs.Operators.{_⊖_, _⊗_}
 use Rattle.floats.specs.Sign.{absOf, signumOf}
-use Rattle.floats.specs.Utils.{twoPi, complementOf, smallestAbsDiffBetweenAnglesOf}
+use Rattle.floats.specs.Constants.{twoPi}
+use Rattle.floats.specs.Utils.{complementOf, smallestAbsDiffBetweenAnglesOf}
 use Rattle.floats.proofs.utils.smallest_abs_diff_between_angles.Statement.{statement}
 use Rattle.floats.proofs.utils.smallest_abs_diff_between_angles.Tie as tie
 

@@ -48,26 +48,23 @@ returns-3 c =
     (refused-late _ _ _ (e1 .before .storage-refusal .ensures) (e1 .if1 .left)
     (no-joint _ _ _ (jc .joint-count .ensures) (t3 .if3 .taken) ∙ sym (is-built _ _ (not-false _ (e2 .if2 .left)))) (omega arith))
 
-masks-at-requires : tie.Need-masks-at-requires
-masks-at-requires c κs = joint-words _ _ _ (rw (c .before .joint-count .ensures) at (c .if3 .left))
-
-row-ids-requires : tie.Need-row-ids-requires
-row-ids-requires c κs = search needs
+ids-at-requires : tie.Need-ids-at-requires
+ids-at-requires c κs = joint-words _ _ _ (rw (c .before .joint-count .ensures) at (c .if3 .left))
 
 rows-before-requires : tie.Need-rows-before-requires
 rows-before-requires c κs =
-    let e3 = c .before .before in
+    let e3 = c .before in
     omega (arith, joint-words _ _ _ (rw (e3 .before .joint-count .ensures) at (e3 .if3 .left)))
 
 count-at-requires : tie.Need-count-at-requires
 count-at-requires c κs =
-    let e3 = c .before .before .before in
+    let e3 = c .before .before in
     joint-words _ _ _ (rw (e3 .before .joint-count .ensures) at (e3 .if3 .left))
 
 rows-from-requires : tie.Need-rows-from-requires
 rows-from-requires c κs =
     let rb = c .before in
-    let e3 = rb .before .before .before in
+    let e3 = rb .before .before in
     let jc = e3 .before in
     let e1 = jc .before .before .before in
     let room = call-room _ _ _ (e1 .before .storage-refusal .ensures) (e1 .if1 .left) in
@@ -77,13 +74,12 @@ returns-4 : tie.Need-returns-4
 returns-4 c =
     let ca = c .before in
     let rb = ca .before in
-    let ri = rb .before in
-    let ma = ri .before in
-    let e3 = ma .before in
+    let ia = rb .before in
+    let e3 = ia .before in
     let jc = e3 .before in
     let e2 = jc .before in
     let e1 = e2 .before .before in
-    rows-granted _ _ _ (ma .masks-at .ensures) (ri .row-ids .ensures) (rb .rows-before .ensures) (ca .count-at .ensures) (c .rows-from .ensures)
+    rows-granted _ _ _ (ia .ids-at .ensures) (rb .rows-before .ensures) (ca .count-at .ensures) (c .rows-from .ensures)
     (granted-late _ _ _ (e1 .before .storage-refusal .ensures) (e1 .if1 .left)
     (is-built _ _ (not-false _ (e2 .if2 .left)) ∙ some-joint _ _ _ (jc .joint-count .ensures) (e3 .if3 .left) ∙ no-rules))
 
@@ -99,8 +95,7 @@ read-rows-spec =
     joint-count-requires
     no-rows-requires-3
     returns-3
-    masks-at-requires
-    row-ids-requires
+    ids-at-requires
     rows-before-requires
     count-at-requires
     rows-from-requires

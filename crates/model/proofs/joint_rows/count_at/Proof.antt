@@ -1,6 +1,6 @@
 -- `count_at` meets its contract, by those of `masks_at` and `row_count`.
 use mathlib.Core.Path.{_∙_}
-use Rattle.model.specs.JointRows.{rowCount}
+use Rattle.model.specs.JointRows.{jointIds, rowCount}
 use borrow.Author.Needs.{needs}
 use Rattle.model.proofs.joint_rows.count_at.Statement.{statement}
 use Rattle.model.proofs.joint_rows.count_at.Tie as tie
@@ -12,7 +12,7 @@ row-count-requires : tie.Need-row-count-requires
 row-count-requires c κs = search needs
 
 returns : tie.Need-returns
-unfolding rowCount
+unfolding jointIds rowCount
 returns c = c .row-count .ensures ∙ rw (c .before .masks-at .ensures)
 
 pub count-at-spec : {M : Type 1} → statement M

@@ -1,36 +1,34 @@
 -- `write_back_joint` meets its contract. Before turn i, storing the impulses from row i on gives what storing all of them gave at the start.
 use Prim.Native.Nat.{_+_, _*_, _-_, _≤_}
-use mathlib.Core.Path.{_≡_, refl, sym, ap, _∙_}
+use mathlib.Core.Path.{_≡_, refl, sym, _∙_}
 use native.Mathlib.Nat.{add-zero}
 use native.Mathlib.Omega.{arith}
 use lib.ListN.{length, drop}
 use Rattle.rows.specs.RowIds.{rowIdsArray}
+use Rattle.model.specs.Layout.{rowWidth}
 use Rattle.model.specs.Store.{masksAt}
-use Rattle.model.specs.JointRows.{rowCount, writeBackIds, writeBackJoint}
-use Rattle.model.proofs.JointRowsLaws.{idsOf, ids-len, few-rows, back-turn, back-done}
+use Rattle.model.specs.JointRows.{jointIds, rowCount, writeBackIds, writeBackJoint}
+use Rattle.model.proofs.JointRowsLaws.{ids-len, few-rows, back-turn, back-done}
 use borrow.Author.Needs.{needs}
 use Rattle.model.proofs.joint_rows.write_back_joint.Statement.{statement}
 use Rattle.model.proofs.joint_rows.write_back_joint.Tie as tie
 
 abbrev Inv-loop : tie.InvT-loop
 Inv-loop rows words k j numbers₀ ids n i₀ numbers i =
-    (i ≤ n) × (n ≤ 6) × (n ≡ rowCount words j) × ((k + n) * 18 ≤ length rows) × (length numbers ≡ length numbers₀) × (ids ≡ rowIdsArray (masksAt words j))
-    × (writeBackIds rows (k + i) j (drop i (idsOf words j)) numbers ≡ writeBackIds rows k j (idsOf words j) numbers₀)
+    (i ≤ n) × (n ≤ 6) × (n ≡ rowCount words j) × ((k + n) * rowWidth ≤ length rows) × (length numbers ≡ length numbers₀) × (ids ≡ rowIdsArray (masksAt words j))
+    × (writeBackIds rows (k + i) j (drop i (jointIds words j)) numbers ≡ writeBackIds rows k j (jointIds words j) numbers₀)
 
 abbrev μ-loop : tie.MeasureT-loop
 μ-loop rows words k j numbers₀ ids n i₀ numbers i = n - i
 
-masks-at-requires : tie.Need-masks-at-requires Inv-loop μ-loop
-masks-at-requires c κs = search needs
-
-row-ids-requires : tie.Need-row-ids-requires Inv-loop μ-loop
-row-ids-requires c κs = search needs
+ids-at-requires : tie.Need-ids-at-requires Inv-loop μ-loop
+ids-at-requires c κs = search needs
 
 loop-holds : tie.Need-loop-holds Inv-loop μ-loop
 loop-holds c =
-    let e = c .row-ids .ensures ∙ ap (λ m. rowIdsArray m) (c .before .masks-at .ensures) in
+    let e = c .ids-at .ensures in
     let q = ids-len _ _ e in
-    (search needs, few-rows _ _ q, q, omega (arith, q, c .before .before .before .before .before .pre .1 .1), refl, e, rw add-zero)
+    (search needs, few-rows _ _ q, q, omega (arith, q, c .before .before .before .before .pre .1 .1), refl, e, rw add-zero)
 
 mul-named : tie.Need-mul-named Inv-loop μ-loop
 mul-named c = search needs
@@ -64,7 +62,7 @@ loop-again c =
     let ps = c .before .before in
     let lt = ps .before .before .before .before in
     let lp = lt .before in
-    let st = lp .before .before .before .before .before .before in
+    let st = lp .before .before .before .before .before in
     let v = lp .loop .inv in
     let h = back-turn _ _ (st .args .k) (st .args .j) (lp .loop .i) (lp .loop .numbers) _ (rw (v .2) at (lt .loop-test .taken)) (v .5) (ps .put-seed .ensures) in
     (omega (arith, lt .loop-test .taken), v .1, v .2, v .3, ps .put-seed .kept .0 ∙ v .4, v .5, h ∙ v .6)
@@ -76,7 +74,7 @@ returns : tie.Need-returns Inv-loop μ-loop
 unfolding writeBackJoint
 returns c =
     let lp = c .before in
-    let st = lp .before .before .before .before .before .before in
+    let st = lp .before .before .before .before .before in
     let v = lp .loop .inv in
     sym (back-done _ _ (st .args .k + lp .loop .i) (st .args .j) (lp .loop .i) (lp .loop .numbers) (v .2) (c .loop-test .left)) ∙ v .6
 
@@ -86,8 +84,7 @@ write-back-joint-spec =
     (tie.spec
     Inv-loop
     μ-loop
-    masks-at-requires
-    row-ids-requires
+    ids-at-requires
     loop-holds
     mul-named
     element-copy-out-named

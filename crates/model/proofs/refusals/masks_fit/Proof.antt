@@ -6,17 +6,18 @@ use native.Mathlib.Nat.{add-assoc}
 use borrow.Author.Tests.{lt-ltb, le-ltb}
 use borrow.Author.Needs.{needs}
 use lib.Dec.{ltb}
+use Rattle.model.specs.Layout.{wordsWidth, masksPlace}
 use Rattle.model.specs.Records.{word}
-use Rattle.model.specs.Refusals.{all, atMost, masksFit}
+use Rattle.model.specs.Refusals.{all, allAxes, fourMasks, atMost, masksFit}
 use Rattle.model.proofs.RefusalLaws.{all-turn-from, all-stop, all-done}
 use Rattle.model.proofs.refusals.masks_fit.Statement.{statement}
 use Rattle.model.proofs.refusals.masks_fit.Tie as tie
 
 abbrev Inv-loop : tie.InvT-loop
-Inv-loop words j o c₀ c = (c ≤ 4) × (all (2 + c) (4 - c) (λ c. atMost 7 (word 9 words j c)) ≡ masksFit words j)
+Inv-loop words j o c₀ c = (c ≤ fourMasks) × (all (masksPlace + c) (fourMasks - c) (λ c. atMost allAxes (word wordsWidth words j c)) ≡ masksFit words j)
 
 abbrev μ-loop : tie.MeasureT-loop
-μ-loop words j o c₀ c = 4 - c
+μ-loop words j o c₀ c = fourMasks - c
 
 mul-o : tie.Need-mul-o Inv-loop μ-loop
 mul-o c = search needs
@@ -42,7 +43,7 @@ returns c =
     let lt = c .before .before in
     let lp = lt .before in
     let st = lp .before in
-    let e : ltb 7 (word 9 (st .args .words .now) (st .args .j) (2 + lp .loop .c)) ≡ true = rw (← add-assoc (st .args .j * 9) 2 (lp .loop .c)) (lt-ltb _ _ (c .if1 .taken)) in
+    let e : ltb allAxes (word wordsWidth (st .args .words .now) (st .args .j) (masksPlace + lp .loop .c)) ≡ true = rw (← add-assoc (st .args .j * wordsWidth) masksPlace (lp .loop .c)) (lt-ltb _ _ (c .if1 .taken)) in
     sym (all-stop _ _ _ _ (lt .loop-test .taken) (ap not e)) ∙ lp .loop .inv .1
 
 add-c : tie.Need-add-c Inv-loop μ-loop
@@ -56,7 +57,7 @@ loop-again c =
     let lt = c .before .before in
     let lp = lt .before in
     let st = lp .before in
-    let e : ltb 7 (word 9 (st .args .words .now) (st .args .j) (2 + lp .loop .c)) ≡ false = rw (← add-assoc (st .args .j * 9) 2 (lp .loop .c)) (le-ltb _ _ (c .if1 .left)) in
+    let e : ltb allAxes (word wordsWidth (st .args .words .now) (st .args .j) (masksPlace + lp .loop .c)) ≡ false = rw (← add-assoc (st .args .j * wordsWidth) masksPlace (lp .loop .c)) (le-ltb _ _ (c .if1 .left)) in
     (search needs, all-turn-from _ _ _ _ (lt .loop-test .taken) (ap not e) ∙ lp .loop .inv .1)
 
 returns-2 : tie.Need-returns-2 Inv-loop μ-loop

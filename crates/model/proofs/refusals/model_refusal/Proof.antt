@@ -9,7 +9,7 @@ use borrow.Author.Needs.{needs}
 use borrow.Author.Tests.{lt-ltb, le-ltb}
 use lib.Ieee.{lt}
 use Rattle.floats.specs.Operators.{bits}
-use Rattle.model.specs.Model.{Model, bodyCount, jointCount}
+use Rattle.model.specs.Model.{mostBodies, mostJoints, Model, bodyCount, jointCount}
 use Rattle.model.specs.Refusals.{Rule, rule, refusal, allFinite, jointRules, modelRules}
 use Rattle.model.proofs.CountLaws.{bodies-fit, joints-words, joints-numbers}
 use Rattle.model.proofs.RefusalLaws.{holds, fails, no-rules, rule-holds, rule-fails, granted-append, refused-append}
@@ -18,21 +18,21 @@ use Rattle.model.proofs.refusals.model_refusal.Tie as tie
 
 -- the rules in turn, from the counts that the code has
 module _ (m : Model) (arguments : Bool) {n joints : ℕ} (b : n ≡ bodyCount (m .bodies)) (j : joints ≡ jointCount (m .words) (m .numbers)) where
-  many-bodies : 128 < n → 1 ≡ refusal (modelRules m arguments)
+  many-bodies : mostBodies < n → 1 ≡ refusal (modelRules m arguments)
   unfolding modelRules
-  many-bodies h = sym (rule-fails _ _ (ap not (lt-ltb 128 _ (rw b at h))))
+  many-bodies h = sym (rule-fails _ _ (ap not (lt-ltb mostBodies _ (rw b at h))))
 
-  many-joints : n ≤ 128 → 128 < joints → 2 ≡ refusal (modelRules m arguments)
+  many-joints : n ≤ mostBodies → mostJoints < joints → 2 ≡ refusal (modelRules m arguments)
   unfolding modelRules
-  many-joints h g = sym (rule-holds _ _ (ap not (le-ltb 128 _ (rw b at h))) ∙ rule-fails _ _ (ap not (lt-ltb 128 _ (rw j at g))))
+  many-joints h g = sym (rule-holds _ _ (ap not (le-ltb mostBodies _ (rw b at h))) ∙ rule-fails _ _ (ap not (lt-ltb mostJoints _ (rw j at g))))
 
   last : List Rule
   last = rule 6 (allFinite (m .params) (m .bodies) n (m .numbers) joints arguments) ∷ rule 7 (not (lt (m .params .dt) (bits 0))) ∷ []
 
-  module _ (h : n ≤ 128) (g : joints ≤ 128) {k : ℕ} (e : k ≡ refusal (jointRules (m .bodies) (m .words) joints)) where
+  module _ (h : n ≤ mostBodies) (g : joints ≤ mostJoints) {k : ℕ} (e : k ≡ refusal (jointRules (m .bodies) (m .words) joints)) where
     few : refusal (modelRules m arguments) ≡ refusal (jointRules (m .bodies) (m .words) joints ++ last)
     unfolding modelRules last
-    few = rule-holds _ _ (ap not (le-ltb 128 _ (rw b at h))) ∙ rule-holds _ _ (ap not (le-ltb 128 _ (rw j at g))) ∙ rw (b, j)
+    few = rule-holds _ _ (ap not (le-ltb mostBodies _ (rw b at h))) ∙ rule-holds _ _ (ap not (le-ltb mostJoints _ (rw j at g))) ∙ rw (b, j)
 
     joints-fail : k ≢ 0 → k ≡ refusal (modelRules m arguments)
     joints-fail z = sym (few ∙ refused-append (jointRules (m .bodies) (m .words) joints) last (λ q. z (e ∙ q)) ∙ sym e)

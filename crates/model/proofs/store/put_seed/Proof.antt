@@ -2,13 +2,14 @@ use Prim.Native.Nat.{_<_}
 use native.Mathlib.Omega.{arith}
 use borrow.Author.Tests.{le-ltb, lt-ltb}
 use borrow.Author.Needs.{needs}
+use Rattle.model.specs.Layout.{numbersWidth}
 use Rattle.model.specs.Store.{seedIndex, putSeed}
 use Rattle.model.proofs.StoreLaws.{seed-index-below}
 use Rattle.model.proofs.store.put_seed.Statement.{statement}
 use Rattle.model.proofs.store.put_seed.Tie as tie
 
 -- the seed's number is one of the joint's
-below : (c : tie.After-seed-index) → seedIndex (c .before .before .before .before .args .id) < 42
+below : (c : tie.After-seed-index) → seedIndex (c .before .before .before .before .args .id) < numbersWidth
 below c = seed-index-below (c .before .before .before .before .args .id) (rw (c .before .before .axis .ensures) at (c .before .if1 .taken))
 
 axis-requires : tie.Need-axis-requires

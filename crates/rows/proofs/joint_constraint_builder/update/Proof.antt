@@ -1,7 +1,9 @@
 -- The builder's `update` meets its contract. The loop keeps `Warming`: of the rows that `update` made, those before k are warmed.
 use Prim.Native.Nat.{_-_}
-use mathlib.Core.Path.{_∙_}
-use Rattle.rows.proofs.WarmedRows.{Warming, warm-start, warm-turn, warm-end, warmed-rows}
+use mathlib.Core.Path.{sym, ap, _∙_}
+use Rattle.rows.specs.declared.generic_joint.GenericJoint.{GenericJoint}
+use Rattle.rows.specs.RowIds.{rowIdsArray}
+use Rattle.rows.proofs.WarmedRows.{Warming, context-joint, warm-start, warm-turn, warm-end, warmed-rows}
 use borrow.Author.Needs.{needs}
 use Rattle.rows.proofs.joint_constraint_builder.update.Statement.{statement}
 use Rattle.rows.proofs.joint_constraint_builder.update.Tie as tie
@@ -18,8 +20,10 @@ row-ids-requires c κs = search needs
 context-requires : tie.Need-context-requires Inv-loop μ-loop
 context-requires c κs = search needs
 
-update-requires : tie.Need-update-requires Inv-loop μ-loop
-update-requires c κs = search needs
+update-by-requires : tie.Need-update-by-requires Inv-loop μ-loop
+update-by-requires c κs =
+    let a = c .before .before .before .args in
+    c .before .row-ids .ensures ∙ rw (c .context .ensures) (ap (λ (d : GenericJoint). rowIdsArray (d .masks)) (sym (context-joint (a .params) (a .body1) (a .body2) (a .joint))))
 
 loop-holds : tie.Need-loop-holds Inv-loop μ-loop
 loop-holds c =
@@ -27,7 +31,7 @@ loop-holds c =
     let a = d .before .before .before .args in
     let six = d .before .before .before .good .1 .1 .1 .1 .1 .1 .0 .1 .0 .1 in
     warm-start (a .params) (a .substep-id) (a .warmstart) (a .body1) (a .body2) (a .joint) (a .t7) six (d .before .row-ids .ensures)
-    (c .before .update .ensures ∙ rw (d .context .ensures))
+    (c .before .update-by .ensures ∙ rw (d .context .ensures))
 
 mul-named : tie.Need-mul-named Inv-loop μ-loop
 mul-named c = search needs
@@ -70,7 +74,7 @@ loop-again c =
     let l = c .before .before .before .before .before in
     let d = l .before .before .before in
     let a = d .before .before .before .args in
-    warm-turn (a .warmstart) (a .substep-id) (a .joint) (a .t7) (d .before .row-ids .result .ids) (l .before .before .update .result .rows) (l .before .before .update .result .len)
+    warm-turn (a .warmstart) (a .substep-id) (a .joint) (a .t7) (d .before .row-ids .result .ids) (l .before .before .update-by .result .rows) (l .before .before .update-by .result .len)
     (l .loop .rows) (l .loop .k) (l .loop .inv) _ _ _ (c .before .before .before .before .loop-test .taken)
     (rw (c .before .before .seed .ensures) at (c .warmed .ensures))
 
@@ -79,7 +83,7 @@ returns c =
     let l = c .before in
     let d = l .before .before .before in
     let a = d .before .before .before .args in
-    let made = l .before .before .update in
+    let made = l .before .before .update-by in
     warmed-rows (a .params) (a .substep-id) (a .warmstart) (a .body1) (a .body2) (a .joint) (a .t7) (l .loop .inv .six-prevs) (d .before .row-ids .ensures)
     (made .ensures ∙ rw (d .context .ensures))
     (warm-end (a .warmstart) (a .substep-id) (a .joint) (a .t7) (d .before .row-ids .result .ids) (made .result .rows) (made .result .len) (l .loop .rows) (l .loop .k) (l .loop .inv)
@@ -93,7 +97,7 @@ update-spec =
     μ-loop
     row-ids-requires
     context-requires
-    update-requires
+    update-by-requires
     loop-holds
     mul-named
     element-copy-out-named

@@ -3,7 +3,7 @@ use Prim.Native.Nat.{ℕ, zero, suc}
 use mathlib.Core.Path.{_≡_, refl, sym, _∙_}
 use lib.Ieee.{Float}
 use Rattle.floats.specs.Operators.{_⊗_}
-use Rattle.rows.specs.Step.{withImpulse}
+use Rattle.rows.specs.Row.{withImpulse}
 use Rattle.rows.specs.declared.joint_velocity_constraint.JointConstraint.{JointConstraint}
 use Rattle.rows.specs.declared.joint_constraint_builder.Warmstart.the-variants.{Warm}
 use borrow.Author.Needs.{needs}

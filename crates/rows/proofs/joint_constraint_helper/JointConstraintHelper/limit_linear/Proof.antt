@@ -1,6 +1,6 @@
 -- `limit_linear` is put together from what its callees promise.
 use borrow.Author.Needs.{needs}
-use Rattle.rows.specs.Makers.{limitLinearOf}
+use Rattle.rows.proofs.MakerShapes.{limit-linear-is}
 use Rattle.rows.proofs.joint_constraint_helper.JointConstraintHelper.limit_linear.Statement.{
   statement,
 }
@@ -19,12 +19,11 @@ assemble-requires : tie.Need-assemble-requires
 assemble-requires c κs = search needs
 
 returns : tie.Need-returns
-unfolding limitLinearOf
 returns c =
     let d = c .before in
     let e = d .before in
     let f = e .before in
-    simp (c .assemble .ensures, d .limit-bounds .ensures, e .limit-bias .ensures, f .linear-axis .ensures)
+    rw limit-linear-is (simp (c .assemble .ensures, d .limit-bounds .ensures, e .limit-bias .ensures, f .linear-axis .ensures))
 
 pub limit-linear-spec : {M : Type 1} → statement M
 limit-linear-spec =

@@ -1,6 +1,6 @@
 -- `motor_linear` is put together from what its callees promise.
 use borrow.Author.Needs.{needs}
-use Rattle.rows.specs.Makers.{motorLinearOf}
+use Rattle.rows.proofs.MakerShapes.{motor-linear-is}
 use Rattle.rows.proofs.joint_constraint_helper.JointConstraintHelper.motor_linear.Statement.{
   statement,
 }
@@ -16,8 +16,7 @@ motor-row-requires : tie.Need-motor-row-requires
 motor-row-requires c κs = search needs
 
 returns : tie.Need-returns
-unfolding motorLinearOf
-returns c = cc
+returns c = rw motor-linear-is (cc)
 
 pub motor-linear-spec : {M : Type 1} → statement M
 motor-linear-spec =

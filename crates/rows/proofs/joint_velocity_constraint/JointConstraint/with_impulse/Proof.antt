@@ -1,6 +1,6 @@
 -- `with_impulse` computes what its definition says.
 use mathlib.Core.Path.{refl}
-use Rattle.rows.specs.Step.{withImpulse}
+use Rattle.rows.specs.Row.{withImpulse}
 use Rattle.rows.proofs.joint_velocity_constraint.JointConstraint.with_impulse.Statement.{
   statement,
 }

@@ -1,11 +1,11 @@
 -- The calls on rows and velocities keep what two studies share of a closed set: where they agree on it, a warm start and a sweep leave the set's velocities the
--- same (`warm-start-apart`, `sweep-apart`), a sweep and a bias removal the rows of its joints (`sweep-apart`, `bias-apart`), and a build makes these rows the
--- same, from the same rows where it reads any (`build-apart`). The two models may differ in all else, their numbers of bodies, joints and rows too.
+-- same (`warm-start-same`, `sweep-same`), a sweep and a bias removal the rows of its joints (`sweep-same`, `bias-same`), and a build makes these rows the
+-- same, from the same rows where it reads any (`build-same`). The two models may differ in all else, their numbers of bodies, joints and rows too.
 use Prim.Native.Nat.{ℕ, zero, suc, _+_, _<_}
 use mathlib.Core.Path.{_≡_, refl, sym, ap, _∙_}
 use mathlib.Core.Logic.{⊎-elim}
 use mathlib.Core.Bool.{Bool, true}
-use mathlib.Core.List.{List, map}
+use mathlib.Core.List.{List, map, List·Memᴰ}
 use native.Mathlib.Omega.{arith}
 use borrow.Author.Tests.{lt-ltb}
 use lib.ListN.{length, getD}
@@ -14,24 +14,27 @@ use Rattle.floats.specs.Operators.{bits}
 use Rattle.rows.specs.RowIds.{filled}
 use Rattle.rows.specs.Update.{blankRow}
 use Rattle.rows.specs.Builder.{builderUpdateOf}
+use Rattle.rows.specs.Named.{Names, SameNamed}
 use Rattle.rows.specs.declared.integration_parameters.IntegrationParameters.{IntegrationParameters}
 use Rattle.rows.specs.declared.joint_constraint_builder.SolverPose.{SolverPose}
 use Rattle.rows.specs.declared.joint_constraint_builder.ImpulseJoint.{ImpulseJoint}
 use Rattle.rows.specs.declared.joint_constraint_builder.Warmstart.{Warmstart}
 use Rattle.rows.specs.declared.joint_constraint_builder.Warmstart.the-variants.{Cold, Warm}
 use Rattle.rows.proofs.BuilderLaws.{first-reads-no-row, cold}
+use Rattle.rows.specs.declared.joint_velocity_constraint.WritebackId.{WritebackId}
 use Rattle.rows.proofs.NamedRows.{same-named}
-use Rattle.model.specs.Store.{world, rowAt, velAt, solverPoseAt, jointAt, body1At, body2At}
-use Rattle.model.specs.JointRows.{State, state, rowCount, impulsesAt, buildJoint, sweepRow, warmstartRow}
+use Rattle.rows.proofs.WritebackNamed.{fewer-named}
+use Rattle.model.specs.Store.{world, rowAt, velAt, solverPoseAt, jointAt, masksAt, body1At, body2At}
+use Rattle.model.specs.JointRows.{State, state, jointIds, rowCount, impulsesAt, buildJoint, sweepRow, warmstartRow}
 use Rattle.model.specs.Model.{Model, bodyCount, jointCount, rowsBefore, Sound, Room}
 use Rattle.model.specs.Refusals.{readsRows}
 use Rattle.model.specs.Calls.{eachJoint, rounds, buildOne, warmstartOne, removeBiasOne, rowsOf, sweepRound}
-use Rattle.model.specs.Studies.{Inside, Mine, Agree}
+use Rattle.model.specs.Studies.{Inside, OfSet, Agree}
 use Rattle.model.proofs.StoreLaws.{velAt-world, solverPoseAt-world}
 use Rattle.model.proofs.StoredRows.{rowsFrom-at, rowsFrom-same, impulses-of}
 use Rattle.model.proofs.SameStudies.{RowsSame, VelsSame}
-use Rattle.model.proofs.Apart.{Split, Alike, sideOf, joints-alike, rows-alike, rounds-together}
-use Rattle.model.proofs.ApartJoints.{layoutOf, InSet, IsWorld, split}
+use Rattle.model.proofs.JointLocality.{Split, Alike, sideOf, joints-alike, rows-alike, rounds-together}
+use Rattle.model.proofs.ClosedSet.{layoutOf, InSet, IsWorld, split}
 use Rattle.model.proofs.RowWorks.{sweepRows, warmRows, biasRows, warm-all, sweep-all, bias-all, lastOf, six-last, pose1, pose2, madeOf, buildSide, row-made}
 
 -- last impulses count only where the build reads them
@@ -39,35 +42,35 @@ last-impulses : (params : IntegrationParameters) (body1 body2 : SolverPose) (joi
     → length ps ≡ 6 → length qs ≡ 6 → (readsRows warm substep ≡ true → ps ≡ qs)
     → builderUpdateOf params substep warm body1 body2 joint ps ≡ builderUpdateOf params substep warm body1 body2 joint qs
 unfolding readsRows
-last-impulses params body1 body2 joint Cold substep ps qs six six′ h = cold params body1 body2 substep joint ps six ∙ sym (cold params body1 body2 substep joint qs six′)
-last-impulses params body1 body2 joint (Warm c) zero ps qs six six′ h = first-reads-no-row params body1 body2 (Warm c) joint ps qs (six ∙ sym six′)
+last-impulses params body1 body2 joint Cold substep ps qs six six′ h = cold params body1 body2 substep joint ps ∙ sym (cold params body1 body2 substep joint qs)
+last-impulses params body1 body2 joint (Warm c) zero ps qs six six′ h = first-reads-no-row params body1 body2 (Warm c) joint ps qs
 last-impulses params body1 body2 joint (Warm c) (suc substep) ps qs six six′ h = rw (h (lt-ltb 0 (suc substep) (omega arith)))
 
 -- joint j's rows are the same in both, one by one
 abbrev RowByRow : Model → Model → ℕ → List Float → List Float → Type 0
 RowByRow m m′ j s s′ = (i : ℕ) → i < rowCount (m .words) j → rowAt s (rowsBefore (m .words) j + i) ≡ rowAt s′ (rowsBefore (m′ .words) j + i)
 
-module _ (set : ℕ → Bool) (made : Type 0) (m m′ : Model) (agree : Agree set made m m′) (ok : Sound m) (ok′ : Sound m′) (rows rows′ : List Float) (room : Room m rows) (room′ : Room m′ rows′) where
+module _ (set : ℕ → Bool) {named : ℕ → WritebackId → Type 0} (m m′ : Model) (agree : Agree set named m m′) (ok : Sound m) (ok′ : Sound m′) (rows rows′ : List Float) (room : Room m rows) (room′ : Room m′ rows′) where
   here : (b : ℕ) → set b ≡ true → b < bodyCount (m .bodies)
   here b s = agree .present b s .0
 
   here′ : (b : ℕ) → set b ≡ true → b < bodyCount (m′ .bodies)
   here′ b s = agree .present b s .1
 
-  parted : Split (layoutOf m) (layoutOf m′) (InSet set) IsWorld (Mine set m)
-  parted = split set made m m′ agree ok ok′
+  parted : Split (layoutOf m) (layoutOf m′) (InSet set) IsWorld (OfSet set m)
+  parted = split set m m′ agree ok ok′
 
-  count-same : (j : ℕ) → Mine set m j → rowCount (m .words) j ≡ rowCount (m′ .words) j
+  count-same : (j : ℕ) → OfSet set m j → rowCount (m .words) j ≡ rowCount (m′ .words) j
   count-same j t = parted .joint j t .count-same
 
   -- a joint's rows one by one, and whole
-  each-row : (s s′ : List Float) → RowsSame set m m′ s s′ → (j : ℕ) → Mine set m j → RowByRow m m′ j s s′
+  each-row : (s s′ : List Float) → RowsSame set m m′ s s′ → (j : ℕ) → OfSet set m j → RowByRow m m′ j s s′
   unfolding rowsOf
   each-row s s′ h j t i l =
       sym (rowsFrom-at s (rowsBefore (m .words) j) (rowCount (m .words) j) i l) ∙ ap (λ r. getD r i blankRow) (h j t)
       ∙ rowsFrom-at s′ (rowsBefore (m′ .words) j) (rowCount (m′ .words) j) i (rw (← (count-same j t)) l)
 
-  whole-rows : (s s′ : List Float) → ((j : ℕ) → Mine set m j → RowByRow m m′ j s s′) → RowsSame set m m′ s s′
+  whole-rows : (s s′ : List Float) → ((j : ℕ) → OfSet set m j → RowByRow m m′ j s s′) → RowsSame set m m′ s s′
   unfolding rowsOf
   whole-rows s s′ h j t =
       rw (← (count-same j t)) (rowsFrom-same s s′ (rowCount (m .words) j) (rowsBefore (m .words) j) (rowsBefore (m′ .words) j) (h j t))
@@ -76,53 +79,53 @@ module _ (set : ℕ → Bool) (made : Type 0) (m m′ : Model) (agree : Agree se
   still : (b : ℕ) → b ≡ world → (s s′ : List Float) → velAt s b ≡ velAt s′ b
   still b e s s′ = rw e (velAt-world s ∙ sym (velAt-world s′))
 
-  pub warm-start-apart : RowsSame set m m′ rows rows′ → VelsSame set
+  pub warm-start-same : RowsSame set m m′ rows rows′ → VelsSame set
       (eachJoint (warmstartOne (m .words) rows) 0 (jointCount (m .words) (m .numbers)) (m .bodies))
       (eachJoint (warmstartOne (m′ .words) rows′) 0 (jointCount (m′ .words) (m′ .numbers)) (m′ .bodies))
   unfolding warmRows warmstartRow
-  warm-start-apart same b s =
+  warm-start-same same b s =
       rw (warm-all set m ok here rows room, warm-all set m′ ok′ here′ rows′ room′)
-      (rows-alike (warmRows set m ok here rows room) (warmRows set m′ ok′ here′ rows′ room′) IsWorld (Mine set m) still parted (m .bodies) (m′ .bodies)
+      (rows-alike (warmRows set m ok here rows room) (warmRows set m′ ok′ here′ rows′ room′) IsWorld (OfSet set m) still parted (m .bodies) (m′ .bodies)
       (record { ok = refl; ok′ = refl; rows = λ j t r. each-row rows rows′ same j t; vels = agree .velocities })
       .vels b s)
 
-  pub bias-apart : RowsSame set m m′ rows rows′ → RowsSame set m m′
+  pub bias-same : RowsSame set m m′ rows rows′ → RowsSame set m m′
       (eachJoint (removeBiasOne (m .words)) 0 (jointCount (m .words) (m .numbers)) rows)
       (eachJoint (removeBiasOne (m′ .words)) 0 (jointCount (m′ .words) (m′ .numbers)) rows′)
   unfolding biasRows
-  bias-apart same =
+  bias-same same =
       rw (bias-all set m ok here rows room, bias-all set m′ ok′ here′ rows′ room′)
       (whole-rows _ _
-      (λ j t. rows-alike (biasRows set m ok here rows room) (biasRows set m′ ok′ here′ rows′ room′) IsWorld (Mine set m) (λ b e s s′. refl) parted rows rows′
+      (λ j t. rows-alike (biasRows set m ok here rows room) (biasRows set m′ ok′ here′ rows′ room′) IsWorld (OfSet set m) (λ b e s s′. refl) parted rows rows′
       (record { ok = refl; ok′ = refl; rows = λ j t r. each-row rows rows′ same j t; vels = λ b s. refl })
       .rows j t (λ h. tt)))
 
   -- what each round of a sweep keeps
   SweepAlike : State → State → Type 0
-  SweepAlike = Alike (sideOf (sweepRows set m ok here rows room)) (sideOf (sweepRows set m′ ok′ here′ rows′ room′)) (InSet set) (Mine set m) Unit 0
+  SweepAlike = Alike (sideOf (sweepRows set m ok here rows room)) (sideOf (sweepRows set m′ ok′ here′ rows′ room′)) (InSet set) (OfSet set m) Unit 0
 
-  round-apart : (st st′ : State) → SweepAlike st st′
+  round-same : (st st′ : State) → SweepAlike st st′
       → SweepAlike (sweepRound (m .words) (jointCount (m .words) (m .numbers)) st) (sweepRound (m′ .words) (jointCount (m′ .words) (m′ .numbers)) st′)
   unfolding SweepAlike sweepRows sweepRow
-  round-apart st st′ k =
+  round-same st st′ k =
       rw (sweep-all set m ok here rows room, sweep-all set m′ ok′ here′ rows′ room′)
-      (rows-alike (sweepRows set m ok here rows room) (sweepRows set m′ ok′ here′ rows′ room′) IsWorld (Mine set m)
+      (rows-alike (sweepRows set m ok here rows room) (sweepRows set m′ ok′ here′ rows′ room′) IsWorld (OfSet set m)
       (λ b e st st′. still b e (st .bodies) (st′ .bodies)) parted st st′ k)
 
-  pub sweep-apart : (n : ℕ) → RowsSame set m m′ rows rows′ →
+  pub sweep-same : (n : ℕ) → RowsSame set m m′ rows rows′ →
       let st = rounds (sweepRound (m .words) (jointCount (m .words) (m .numbers))) n (state rows (m .bodies)) in
       let st′ = rounds (sweepRound (m′ .words) (jointCount (m′ .words) (m′ .numbers))) n (state rows′ (m′ .bodies)) in
       VelsSame set (st .bodies) (st′ .bodies) × RowsSame set m m′ (st .rows) (st′ .rows)
   unfolding SweepAlike sweepRows sweepRow
-  sweep-apart n same =
+  sweep-same n same =
       let k =
-      rounds-together SweepAlike (sweepRound (m .words) (jointCount (m .words) (m .numbers))) (sweepRound (m′ .words) (jointCount (m′ .words) (m′ .numbers))) round-apart
+      rounds-together SweepAlike (sweepRound (m .words) (jointCount (m .words) (m .numbers))) (sweepRound (m′ .words) (jointCount (m′ .words) (m′ .numbers))) round-same
       n (state rows (m .bodies)) (state rows′ (m′ .bodies))
       (record { ok = (refl, refl); ok′ = (refl, refl); rows = λ j t r. each-row rows rows′ same j t; vels = agree .velocities }) in
       (k .vels, whole-rows _ _ (λ j t. k .rows j t (λ h. tt)))
 
   -- a joint of the set's: its last impulses are the same where its rows are, and so are the rows that a build makes of it
-  module _ (j : ℕ) (t : Mine set m j) where
+  module _ (j : ℕ) (t : OfSet set m j) where
     impulses-same : (s s′ : List Float) → RowByRow m m′ j s s′
         → impulsesAt s (rowsBefore (m .words) j) (rowCount (m .words) j) ≡ impulsesAt s′ (rowsBefore (m′ .words) j) (rowCount (m′ .words) j)
     impulses-same s s′ h =
@@ -133,26 +136,31 @@ module _ (set : ℕ → Bool) (made : Type 0) (m m′ : Model) (agree : Agree se
     pose-same : (b : ℕ) → Inside set b → solverPoseAt (m .bodies) b ≡ solverPoseAt (m′ .bodies) b
     pose-same b i = ⊎-elim (agree .poses b) (λ e. rw e (solverPoseAt-world (m .bodies) ∙ sym (solverPoseAt-world (m′ .bodies)))) i
 
-    made-same : made → (warm : Warmstart) (substep : ℕ) (s s′ : List Float) → (readsRows warm substep ≡ true → RowByRow m m′ j s s′)
-        → madeOf m warm substep j s ≡ madeOf m′ warm substep j s′
-    made-same x warm substep s s′ h =
-        let c = agree .contents j t in
-        let e1 : pose1 m j ≡ pose1 m′ j = pose-same (body1At (m .words) j) (t .inside1) ∙ rw (c .body1) in
-        let e2 : pose2 m j ≡ pose2 m′ j = pose-same (body2At (m .words) j) (t .inside2) ∙ rw (c .body2) in
-        last-impulses (m .params) (pose1 m j) (pose2 m j) (jointAt (m .words) (m .numbers) j) warm substep (lastOf m j s) (lastOf m′ j s′) (six-last m j s) (six-last m′ j s′)
-        (λ r. ap (λ l. filled 6 (bits 0) l) (impulses-same s s′ (h r)))
-        ∙ same-named (m .params) (pose1 m j) (pose2 m j) (jointAt (m .words) (m .numbers) j) (jointAt (m′ .words) (m′ .numbers) j) (c .named x) substep warm (lastOf m′ j s′)
-        ∙ rw (agree .params, e1, e2)
+    -- where every id that the joint's masks give it is named
+    module _ (gives : (id : WritebackId) → List·Memᴰ id (jointIds (m .words) j) → named j id) where
+      named-same : SameNamed (Names (jointAt (m .words) (m .numbers) j .«data» .masks)) (jointAt (m .words) (m .numbers) j) (jointAt (m′ .words) (m′ .numbers) j)
+      unfolding jointIds jointAt masksAt
+      named-same = fewer-named _ _ gives (agree .contents j t)
 
-  pub build-apart : made → (warm : Warmstart) (substep : ℕ) → (readsRows warm substep ≡ true → RowsSame set m m′ rows rows′) → RowsSame set m m′
+      made-same : (warm : Warmstart) (substep : ℕ) (s s′ : List Float) → (readsRows warm substep ≡ true → RowByRow m m′ j s s′)
+          → madeOf m warm substep j s ≡ madeOf m′ warm substep j s′
+      made-same warm substep s s′ h =
+          let e1 : pose1 m j ≡ pose1 m′ j = pose-same (body1At (m .words) j) (t .inside1) ∙ rw (agree .bodies1 j t) in
+          let e2 : pose2 m j ≡ pose2 m′ j = pose-same (body2At (m .words) j) (t .inside2) ∙ rw (agree .bodies2 j t) in
+          last-impulses (m .params) (pose1 m j) (pose2 m j) (jointAt (m .words) (m .numbers) j) warm substep (lastOf m j s) (lastOf m′ j s′) (six-last m j s) (six-last m′ j s′)
+          (λ r. ap (λ l. filled 6 (bits 0) l) (impulses-same s s′ (h r)))
+          ∙ same-named (m .params) (pose1 m j) (pose2 m j) (jointAt (m .words) (m .numbers) j) (jointAt (m′ .words) (m′ .numbers) j) named-same substep warm (lastOf m′ j s′)
+          ∙ rw (agree .params, e1, e2)
+
+  pub build-same : ((j : ℕ) (id : WritebackId) → List·Memᴰ id (jointIds (m .words) j) → named j id) → (warm : Warmstart) (substep : ℕ) → (readsRows warm substep ≡ true → RowsSame set m m′ rows rows′) → RowsSame set m m′
       (eachJoint (buildOne m warm substep) 0 (jointCount (m .words) (m .numbers)) rows)
       (eachJoint (buildOne m′ warm substep) 0 (jointCount (m′ .words) (m′ .numbers)) rows′)
   unfolding buildSide buildOne buildJoint
-  build-apart x warm substep same =
+  build-same gives warm substep same =
       whole-rows _ _
-      (λ j t. joints-alike (buildSide m warm substep rows room) (buildSide m′ warm substep rows′ room′) (InSet set) IsWorld (Mine set m) (readsRows warm substep ≡ true) parted (λ b e s s′. refl)
+      (λ j t. joints-alike (buildSide m warm substep rows room) (buildSide m′ warm substep rows′ room′) (InSet set) IsWorld (OfSet set m) (readsRows warm substep ≡ true) parted (λ b e s s′. refl)
       (λ j t s s′ o o′ r v1 v2. record {
-        rows = λ i h. row-made m warm substep rows room j i s (t .there) h o ∙ ap (λ l. getD l i blankRow) (made-same j t x warm substep s s′ r)
+        rows = λ i h. row-made m warm substep rows room j i s (t .there) h o ∙ ap (λ l. getD l i blankRow) (made-same j t (gives j) warm substep s s′ r)
             ∙ sym (row-made m′ warm substep rows′ room′ j i s′ (agree .joints j t .there) (rw (← (count-same j t)) h) o′);
         first = refl;
         second = refl;

@@ -1,32 +1,29 @@
--- `group` meets its contract. The loop's invariant: the array holds the rows of the first k ids from id `from` on, and blank rows after them. That
+-- `made` meets its contract. The loop's invariant: the array holds the rows of the first k ids, and blank rows after them. That
 -- there are six ids is what owning `ids` tells of its first field.
 use mathlib.Core.Path.{_≡_}
 use mathlib.Core.List.{map}
 use Prim.Native.Nat.{_≤_, _-_}
 use native.Mathlib.Omega.{arith}
-use lib.ListN.{length, take, drop, length-map}
+use lib.ListN.{length, take, length-map}
 use Rattle.rows.proofs.Filled.{push-mapped}
 use Rattle.rows.specs.RowIds.{filled}
-use Rattle.rows.specs.Update.{blankRow, rowOf, groupRows}
+use Rattle.rows.specs.Update.{blankRow, rowOf, madeRows}
 use borrow.Author.Needs.{needs}
-use Rattle.rows.proofs.joint_velocity_constraint.RowContext.group.Statement.{statement}
-use Rattle.rows.proofs.joint_velocity_constraint.RowContext.group.Tie as tie
+use Rattle.rows.proofs.joint_velocity_constraint.RowContext.made.Statement.{statement}
+use Rattle.rows.proofs.joint_velocity_constraint.RowContext.made.Tie as tie
 
 abbrev Inv-loop : tie.InvT-loop
-Inv-loop self from count ids rows₀ k₀ rows k =
-    (k ≤ count) × (length rows ≡ 6) × (rows ≡ filled 6 blankRow (map (λ i. rowOf self (i .id)) (take k (drop from (ids .ids)))))
+Inv-loop self count ids rows₀ k₀ rows k =
+    (k ≤ count) × (length rows ≡ 6) × (rows ≡ filled 6 blankRow (map (λ i. rowOf self (i .id)) (take k (ids .ids))))
 
 abbrev μ-loop : tie.MeasureT-loop
-μ-loop self from count ids rows₀ k₀ rows k = count - k
+μ-loop self count ids rows₀ k₀ rows k = count - k
 
 blank-row-requires : tie.Need-blank-row-requires Inv-loop μ-loop
 blank-row-requires c κs = search needs
 
 loop-holds : tie.Need-loop-holds Inv-loop μ-loop
 loop-holds c = (search needs, search needs, rw (c .blank-row .ensures))
-
-add-named : tie.Need-add-named Inv-loop μ-loop
-add-named c = search needs
 
 mul-named : tie.Need-mul-named Inv-loop μ-loop
 mul-named c = search needs
@@ -56,24 +53,23 @@ loop-again c =
     let six = simp length-map at (c .before .before .before .before .before .good .1 .0 .1 .1 .0 .1 .0 .1) in (
       search needs,
       search needs,
-      push-mapped (λ i. rowOf (a .self) (i .id)) blankRow 6 (a .t2 .ids) (a .from) (l .k) _ (l .rows) (c .row .result) (search needs) (omega (arith, six)) (l .inv .2) (c .row .ensures),
+      push-mapped (λ i. rowOf (a .self) (i .id)) blankRow 6 (a .t2 .ids) (l .k) _ (l .rows) (c .row .result) (search needs) (omega (arith, six)) (l .inv .2) (c .row .ensures),
     )
 
 returns : tie.Need-returns Inv-loop μ-loop
-unfolding groupRows
+unfolding madeRows
 returns c =
     let e : c .before .loop .k ≡ c .before .before .before .args .count = omega arith in
     rw (c .before .loop .inv .2, e)
 
-pub group-spec : {M : Type 1} → statement M
-group-spec =
+pub made-spec : {M : Type 1} → statement M
+made-spec =
     tie.close
     (tie.spec
     Inv-loop
     μ-loop
     blank-row-requires
     loop-holds
-    add-named
     mul-named
     element-copy-out-named
     row-requires

@@ -1,7 +1,7 @@
 -- `max_impulse` meets its contract: each answer is the case that the test left.
 use Rattle.rows.specs.GenericJoint.{maxImpulseOf}
-use Rattle.rows.proofs.generic_joint.max_impulse.Statement.{statement}
-use Rattle.rows.proofs.generic_joint.max_impulse.Tie as tie
+use Rattle.rows.proofs.generic_joint.JointMotor.max_impulse.Statement.{statement}
+use Rattle.rows.proofs.generic_joint.JointMotor.max_impulse.Tie as tie
 
 returns : tie.Need-returns
 unfolding maxImpulseOf

@@ -1,4 +1,4 @@
--- The joints of two models that agree on a closed set: the set's joints are there in both, between the same bodies and with as many rows, and every other joint
+-- The joints of two models that agree on a closed set: the set's joints are there in both, between the same bodies and with the same ids, and every other joint
 -- of either has no body of the set (`split`).
 use Prim.Native.Nat.{ℕ, suc, _+_, _<_}
 use mathlib.Core.Path.{_≡_, refl, sym, _∙_}
@@ -7,11 +7,19 @@ use mathlib.Core.Bool.{Bool, true, Bool-discrete}
 use mathlib.Core.List.{List}
 use native.Mathlib.Decide.{ℕ-discrete, decLt, map-dec}
 use native.Mathlib.Omega.{arith}
-use Rattle.model.specs.Store.{world, body1At, body2At}
-use Rattle.model.specs.JointRows.{rowCount}
+use Rattle.rows.specs.Named.{SameNamed}
+use Rattle.rows.specs.declared.joint_velocity_constraint.WritebackId.{WritebackId}
+use Rattle.model.specs.Store.{world, jointAt, masksAt, body1At, body2At}
+use Rattle.model.specs.JointRows.{jointIds, rowCount}
 use Rattle.model.specs.Model.{Model, bodyCount, jointCount, rowsBefore, Sound}
-use Rattle.model.specs.Studies.{Inside, Mine, Closed, Agree}
-use Rattle.model.proofs.Apart.{Layout, Joint, Foreign, Split}
+use Rattle.model.specs.Studies.{Inside, OfSet, Closed, Agree}
+use Rattle.model.proofs.JointLocality.{Layout, Joint, Foreign, Split}
+
+-- joints of equal contents have the same ids
+pub same-ids : {named : WritebackId → Type 0} (m m′ : Model) (j : ℕ) → SameNamed named (jointAt (m .words) (m .numbers) j) (jointAt (m′ .words) (m′ .numbers) j)
+    → jointIds (m .words) j ≡ jointIds (m′ .words) j
+unfolding jointIds jointAt masksAt
+same-ids m m′ j s = rw (s .masks)
 
 pub next-first : (words : List ℕ) (j : ℕ) → rowsBefore words (suc j) ≡ rowsBefore words j + rowCount words j
 unfolding rowsBefore
@@ -42,8 +50,8 @@ module _ (set : ℕ → Bool) where
   inside? : (b : ℕ) → Dec (Inside set b)
   inside? b = either-dec (Bool-discrete (set b) true) (ℕ-discrete b world)
 
-  mine? : (m : Model) (j : ℕ) → Dec (Mine set m j)
-  mine? m j =
+  ofSet? : (m : Model) (j : ℕ) → Dec (OfSet set m j)
+  ofSet? m j =
       map-dec (λ t. record { there = t .0; inside1 = t .1 .0; inside2 = t .1 .1 }) (λ t. (t .there, (t .inside1, t .inside2)))
       (Dec·and (decLt j (jointCount (m .words) (m .numbers))) (Dec·and (inside? (body1At (m .words) j)) (inside? (body2At (m .words) j))))
 
@@ -60,31 +68,34 @@ module _ (set : ℕ → Bool) where
     no-world b s e = omega (arith, present b s, ok .few)
 
     -- a joint with a body of the set is the set's
-    foreign-of : Closed set m → (j : ℕ) → (Mine set m j → ⊥) → j < jointCount (m .words) (m .numbers) → Foreign (layoutOf m) InSet j
+    foreign-of : Closed set m → (j : ℕ) → (OfSet set m j → ⊥) → j < jointCount (m .words) (m .numbers) → Foreign (layoutOf m) InSet j
     foreign-of closed j f h b s =
         let b1 : ℕ = body1At (m .words) j in
-        let b2 : ℕ = body2At (m .words) j in (
-          λ e. let t : InSet b1 = rw (← e) s in f (record { there = h; inside1 = inl t; inside2 = inside-other b1 b2 t (closed j h (no-world b1 t)) }),
-          λ e. let t : InSet b2 = rw (← e) s in f (record { there = h; inside1 = inside-other b2 b1 t (λ w. sym (closed j h w (no-world b2 t))); inside2 = inl t }),
+        let b2 : ℕ = body2At (m .words) j in
+        inl (
+          λ e. let t : InSet b1 = rw (← e) s in
+              f (record { there = h; inside1 = inl t; inside2 = inside-other b1 b2 t (λ w. closed j (record { there = h; body1 = no-world b1 t; body2 = w })) }),
+          λ e. let t : InSet b2 = rw (← e) s in
+              f (record { there = h; inside1 = inside-other b2 b1 t (λ w. sym (closed j (record { there = h; body1 = w; body2 = no-world b2 t }))); inside2 = inl t }),
         )
 
-  module _ (made : Type 0) (m m′ : Model) (agree : Agree set made m m′) (ok : Sound m) (ok′ : Sound m′) where
-    joint-of : (j : ℕ) → Mine set m j → Joint (layoutOf m) (layoutOf m′) InSet IsWorld j
+  module _ {named : ℕ → WritebackId → Type 0} (m m′ : Model) (agree : Agree set named m m′) (ok : Sound m) (ok′ : Sound m′) where
+    joint-of : (j : ℕ) → OfSet set m j → Joint (layoutOf m) (layoutOf m′) InSet IsWorld j
     unfolding rowCount
     joint-of j t = record {
       there = t .there;
       there′ = agree .joints j t .there;
-      count-same = rw (agree .contents j t .masks);
-      body1-same = agree .contents j t .body1;
-      body2-same = agree .contents j t .body2;
+      count-same = rw (same-ids m m′ j (agree .contents j t));
+      body1-same = agree .bodies1 j t;
+      body2-same = agree .bodies2 j t;
       apart = ok .apart j (t .there);
       inside1 = t .inside1;
       inside2 = t .inside2;
     }
 
-    pub split : Split (layoutOf m) (layoutOf m′) InSet IsWorld (Mine set m)
+    pub split : Split (layoutOf m) (layoutOf m′) InSet IsWorld (OfSet set m)
     split = record {
-      either = mine? m;
+      either = ofSet? m;
       joint = joint-of;
       foreign = foreign-of m ok (λ b s. agree .present b s .0) (agree .closed);
       foreign′ = λ j f. foreign-of m′ ok′ (λ b s. agree .present b s .1) (agree .closed′) j (λ t. f (agree .joints′ j t));

@@ -1,10 +1,11 @@
 -- Two studies that do the same work on the joints of a closed set keep the set's rows and velocities equal, whatever their other joints are, however many, and
--- wherever rows stand (`joints-alike`). Stated over any state, row and velocity: a joint's work changes its own rows and its two bodies' velocities alone
--- (`Side`), the set's joints change them alike in both studies (`Together`), and no other joint has a body of the set (`Split`). Work that takes a joint's rows
--- one by one is such work, over any action of a row on two velocities (`rows-alike`). The studies may have different numbers of joints. Assumes nothing.
+-- wherever rows stand (`joints-alike`). Stated over any state, row and velocity: a joint's work is local, it changes its own rows and its two bodies' velocities
+-- alone, and none of a joint without rows (`Side`); the set's joints change them alike in both studies (`Together`); and every other joint has no body of the
+-- set, or no rows (`Split`). Work that takes a joint's rows one by one is such work, over any action of a row on two velocities (`rows-alike`). The studies may
+-- have different numbers of joints. Assumes nothing.
 use Prim.Native.Nat.{ℕ, zero, suc, _+_, _-_, _≤_, _<_}
 use mathlib.Core.Path.{_≡_, refl, sym, ap, _∙_}
-use mathlib.Core.Logic.{_≢_, _⊎_, ⊎-elim}
+use mathlib.Core.Logic.{_≢_, _⊎_, inl, ⊎-elim}
 use native.Mathlib.Nat.{add-zero}
 use native.Mathlib.Decide.{ℕ-discrete, decLt}
 use native.Mathlib.Omega.{arith}
@@ -18,6 +19,11 @@ unfolding eachJoint
 each-keeps P work zero k s h p = p
 each-keeps P work (suc n) k s h p =
     each-keeps P work n (k + 1) (work k s) (λ q l g. h q (omega arith) (omega arith)) (h k (omega arith) (omega arith) s p)
+
+-- no turn changes nothing
+pub no-turns : {S Vel : Type 0} (vel : S → ℕ → Vel) (work : ℕ → S → S) (k : ℕ) (s : S) (b : ℕ) → vel (eachJoint work k 0 s) b ≡ vel s b
+unfolding eachJoint
+no-turns vel work k s b = refl
 
 -- the same number of turns in two studies, from turn k on in the one and k′ on in the other
 pub each-together : {S : Type 0} (P : S → S → Type 0) (work work′ : ℕ → S → S) (n k k′ : ℕ) (s s′ : S)
@@ -102,16 +108,20 @@ pub record Joint (l l′ : Layout) (set still : ℕ → Type 0) (j : ℕ) : Type
   pub inside1 : set (l .body1 j) ⊎ still (l .body1 j)
   pub inside2 : set (l .body2 j) ⊎ still (l .body2 j)
 
--- joint j of a study has no body of the set
-abbrev pub Foreign : Layout → (ℕ → Type 0) → ℕ → Type 0
-Foreign l set j = (b : ℕ) → set b → (b ≢ l .body1 j) × (b ≢ l .body2 j)
+-- joint j of a study cannot change body b's velocity: it is another body's joint, or it has no rows
+abbrev pub Spares : Layout → ℕ → ℕ → Type 0
+Spares l j b = ((b ≢ l .body1 j) × (b ≢ l .body2 j)) ⊎ (l .count j ≡ 0)
 
--- which joints are the set's; the others are foreign in each study that has them
-pub record Split (l l′ : Layout) (set still mine : ℕ → Type 0) : Type 0 where
-  pub either : (j : ℕ) → Dec (mine j)
-  pub joint : (j : ℕ) → mine j → Joint l l′ set still j
-  pub foreign : (j : ℕ) → (mine j → ⊥) → j < l .joints → Foreign l set j
-  pub foreign′ : (j : ℕ) → (mine j → ⊥) → j < l′ .joints → Foreign l′ set j
+-- a joint outside the set: one with no body of the set, or one with no rows
+abbrev pub Foreign : Layout → (ℕ → Type 0) → ℕ → Type 0
+Foreign l set j = (b : ℕ) → set b → Spares l j b
+
+-- which joints are the set's; the others are outside it in each study that has them
+pub record Split (l l′ : Layout) (set still ofSet : ℕ → Type 0) : Type 0 where
+  pub either : (j : ℕ) → Dec (ofSet j)
+  pub joint : (j : ℕ) → ofSet j → Joint l l′ set still j
+  pub foreign : (j : ℕ) → (ofSet j → ⊥) → j < l .joints → Foreign l set j
+  pub foreign′ : (j : ℕ) → (ofSet j → ⊥) → j < l′ .joints → Foreign l′ set j
 
 -- ---- work on joints
 
@@ -124,7 +134,7 @@ pub record Side (S Row Vel : Type 0) (l : Layout) : Type 1 where
   pub work : ℕ → S → S
   pub kept : (j : ℕ) (s : S) → j < l .joints → ok s → ok (work j s)
   pub row-kept : (j q i : ℕ) (s : S) → i < l .count q → q ≢ j → row (work j s) q i ≡ row s q i
-  pub vel-kept : (j b : ℕ) (s : S) → b ≢ l .body1 j → b ≢ l .body2 j → vel (work j s) b ≡ vel s b
+  pub vel-kept : (j b : ℕ) (s : S) → Spares l j b → vel (work j s) b ≡ vel s b
 
 module _ {S Row Vel : Type 0} {l l′ : Layout} (a : Side S Row Vel l) (a′ : Side S Row Vel l′) where
   -- joint j's rows, and body b's velocity, are the same in both
@@ -147,22 +157,22 @@ module _ {S Row Vel : Type 0} {l l′ : Layout} (a : Side S Row Vel l) (a′ : S
 
   -- The two studies are alike before joint n's turn: the set's velocities are the same, and so are the rows of the set's joints whose turn is over, and of the
   -- others where rows are read.
-  pub record Alike (set mine : ℕ → Type 0) (read : Type 0) (n : ℕ) (s s′ : S) : Type 0 where
+  pub record Alike (set ofSet : ℕ → Type 0) (read : Type 0) (n : ℕ) (s s′ : S) : Type 0 where
     pub ok : a .ok s
     pub ok′ : a′ .ok s′
-    pub rows : (j : ℕ) → mine j → (n ≤ j → read) → RowsAlike j s s′
+    pub rows : (j : ℕ) → ofSet j → (n ≤ j → read) → RowsAlike j s s′
     pub vels : (b : ℕ) → set b → VelAlike b s s′
 
-module _ {S Row Vel : Type 0} {l l′ : Layout} (a : Side S Row Vel l) (a′ : Side S Row Vel l′) (set still mine : ℕ → Type 0) (read : Type 0)
-    (p : Split l l′ set still mine) (rest : (b : ℕ) → still b → (s s′ : S) → VelAlike a a′ b s s′) (work : (j : ℕ) → mine j → Together a a′ read j) where
+module _ {S Row Vel : Type 0} {l l′ : Layout} (a : Side S Row Vel l) (a′ : Side S Row Vel l′) (set still ofSet : ℕ → Type 0) (read : Type 0)
+    (p : Split l l′ set still ofSet) (rest : (b : ℕ) → still b → (s s′ : S) → VelAlike a a′ b s s′) (work : (j : ℕ) → ofSet j → Together a a′ read j) where
   abbrev AlikeAt : ℕ → S → S → Type 0
-  AlikeAt = Alike a a′ set mine read
+  AlikeAt = Alike a a′ set ofSet read
 
   inside-vel : (n b : ℕ) (s s′ : S) → AlikeAt n s s′ → set b ⊎ still b → VelAlike a a′ b s s′
   inside-vel n b s s′ k i = ⊎-elim (k .vels b) (λ t. rest b t s s′) i
 
   -- a joint of the set's
-  inside : (j : ℕ) (s s′ : S) → mine j → AlikeAt j s s′ → AlikeAt (j + 1) (a .work j s) (a′ .work j s′)
+  inside : (j : ℕ) (s s′ : S) → ofSet j → AlikeAt j s s′ → AlikeAt (j + 1) (a .work j s) (a′ .work j s′)
   inside j s s′ m k = record {
     ok = a .kept j s (t .there) (k .ok);
     ok′ = a′ .kept j s′ (t .there′) (k .ok′);
@@ -174,7 +184,7 @@ module _ {S Row Vel : Type 0} {l l′ : Layout} (a : Side S Row Vel l) (a′ : S
       | yes e ↦ rw e (z .first)
       | no ne ↦ elim (ℕ-discrete b (l .body2 j)) [
         | yes e ↦ rw e (z .second)
-        | no ne₂ ↦ a .vel-kept j b s ne ne₂ ∙ k .vels b sb ∙ sym (a′ .vel-kept j b s′ (rw (t .body1-same) at ne) (rw (t .body2-same) at ne₂))
+        | no ne₂ ↦ a .vel-kept j b s (inl (ne, ne₂)) ∙ k .vels b sb ∙ sym (a′ .vel-kept j b s′ (inl (rw (t .body1-same) at ne, rw (t .body2-same) at ne₂)))
       ]
     ];
   }
@@ -185,9 +195,9 @@ module _ {S Row Vel : Type 0} {l l′ : Layout} (a : Side S Row Vel l) (a′ : S
       z : JointAlike a a′ j (a .work j s) (a′ .work j s′)
       z = work j m s s′ (k .ok) (k .ok′) (λ r. k .rows j m (λ h. r)) (inside-vel j (l .body1 j) s s′ k (t .inside1)) (inside-vel j (l .body2 j) s s′ k (t .inside2))
 
-  module _ (j : ℕ) (not-mine : mine j → ⊥) where
-    not-here : (q : ℕ) → mine q → q ≢ j
-    not-here q m e = not-mine (rw e at m)
+  module _ (j : ℕ) (not-ofSet : ofSet j → ⊥) where
+    not-here : (q : ℕ) → ofSet q → q ≢ j
+    not-here q m e = not-ofSet (rw e at m)
 
     -- any other joint, in the one study and in the other
     outside : (n : ℕ) (s s′ : S) → j < l .joints → AlikeAt n s s′ → AlikeAt n (a .work j s) s′
@@ -195,7 +205,7 @@ module _ {S Row Vel : Type 0} {l l′ : Layout} (a : Side S Row Vel l) (a′ : S
       ok = a .kept j s h (k .ok);
       ok′ = k .ok′;
       rows = λ q m r i g. a .row-kept j q i s g (not-here q m) ∙ k .rows q m r i g;
-      vels = λ b sb. let f = p .foreign j not-mine h b sb in a .vel-kept j b s (f .0) (f .1) ∙ k .vels b sb;
+      vels = λ b sb. a .vel-kept j b s (p .foreign j not-ofSet h b sb) ∙ k .vels b sb;
     }
 
     outside′ : (n : ℕ) (s s′ : S) → j < l′ .joints → AlikeAt n s s′ → AlikeAt n s (a′ .work j s′)
@@ -203,7 +213,7 @@ module _ {S Row Vel : Type 0} {l l′ : Layout} (a : Side S Row Vel l) (a′ : S
       ok = k .ok;
       ok′ = a′ .kept j s′ h (k .ok′);
       rows = λ q m r i g. k .rows q m r i g ∙ sym (a′ .row-kept j q i s′ (rw (p .joint q m .count-same) at g) (not-here q m));
-      vels = λ b sb. let f = p .foreign′ j not-mine h b sb in k .vels b sb ∙ sym (a′ .vel-kept j b s′ (f .0) (f .1));
+      vels = λ b sb. k .vels b sb ∙ sym (a′ .vel-kept j b s′ (p .foreign′ j not-ofSet h b sb));
     }
 
     passed : (s s′ : S) → AlikeAt j s s′ → AlikeAt (j + 1) s s′
@@ -221,15 +231,15 @@ module _ {S Row Vel : Type 0} {l l′ : Layout} (a : Side S Row Vel l) (a′ : S
       | no f ↦ passed j f (a .work j s) (a′ .work j s′) (outside j f j s (a′ .work j s′) h (outside′ j f j s s′ h′ k))
     ];
     left = λ j s s′ h g k.
-        let f : mine j → ⊥ = λ m. omega (arith, p .joint j m .there′) in
+        let f : ofSet j → ⊥ = λ m. omega (arith, p .joint j m .there′) in
         passed j f (a .work j s) s′ (outside j f j s s′ h k);
     right = λ j s s′ g h′ k.
-        let f : mine j → ⊥ = λ m. omega (arith, p .joint j m .there) in
+        let f : ofSet j → ⊥ = λ m. omega (arith, p .joint j m .there) in
         passed j f s (a′ .work j s′) (outside′ j f j s s′ h′ k);
   }
 
   -- The work on all joints: the set's velocities stay the same, and so do its joints' rows, or they become the same where they were not read.
-  pub joints-alike : (s s′ : S) → AlikeAt 0 s s′ → Alike a a′ set mine Unit 0 (eachJoint (a .work) 0 (l .joints) s) (eachJoint (a′ .work) 0 (l′ .joints) s′)
+  pub joints-alike : (s s′ : S) → AlikeAt 0 s s′ → Alike a a′ set ofSet Unit 0 (eachJoint (a .work) 0 (l .joints) s) (eachJoint (a′ .work) 0 (l′ .joints) s′)
   joints-alike s s′ k =
       let e = each-apart AlikeAt (a .work) (a′ .work) (l .joints) (l′ .joints) s s′ turns k in
       record {
@@ -276,9 +286,11 @@ module _ {S Row Vel : Type 0} {act : Row → Vel → Vel → Acted Row Vel} {set
     row-kept = λ j q i s c ne.
         each-keeps (λ t. w .row t (l .first q + i) ≡ w .row s (l .first q + i)) (w .work (l .body1 j) (l .body2 j)) (l .count j) (l .first j) s
         (λ k f g t e. w .row-kept (l .body1 j) (l .body2 j) k (l .first q + i) t (not-among l j q i k c f g ne) ∙ e) refl;
-    vel-kept = λ j b s n1 n2.
+    vel-kept = λ j b s f. ⊎-elim
+        (λ n.
         each-keeps (λ t. w .vel t b ≡ w .vel s b) (w .work (l .body1 j) (l .body2 j)) (l .count j) (l .first j) s
-        (λ k _ _ t e. w .vel-kept (l .body1 j) (l .body2 j) k b t n1 n2 ∙ e) refl;
+        (λ k _ _ t e. w .vel-kept (l .body1 j) (l .body2 j) k b t (n .0) (n .1) ∙ e) refl)
+        (λ z. ap (λ n. w .vel (eachJoint (w .work (l .body1 j) (l .body2 j)) (l .first j) n s) b) z ∙ no-turns (w .vel) (w .work (l .body1 j) (l .body2 j)) (l .first j) s b) f;
   }
 
   module _ {l l′ : Layout} (w : RowWork S Row Vel act l set) (w′ : RowWork S Row Vel act l′ set) (still : ℕ → Type 0)
@@ -336,8 +348,8 @@ module _ {S Row Vel : Type 0} {act : Row → Vel → Vel → Acted Row Vel} {set
         (record { ok = o; ok′ = o′; alike = record { rows = r tt; first = v1; second = v2 } }) .alike)
 
   -- the work on all rows of all joints keeps two studies alike
-  pub rows-alike : {l l′ : Layout} (w : RowWork S Row Vel act l set) (w′ : RowWork S Row Vel act l′ set) (still mine : ℕ → Type 0)
-      → ((b : ℕ) → still b → (s s′ : S) → w .vel s b ≡ w′ .vel s′ b) → Split l l′ set still mine
-      → (s s′ : S) → Alike (sideOf w) (sideOf w′) set mine Unit 0 s s′
-      → Alike (sideOf w) (sideOf w′) set mine Unit 0 (eachJoint (jointWork w) 0 (l .joints) s) (eachJoint (jointWork w′) 0 (l′ .joints) s′)
-  rows-alike w w′ still mine rest p = joints-alike (sideOf w) (sideOf w′) set still mine Unit p rest (λ j t. rows-together w w′ still rest j (p .joint j t))
+  pub rows-alike : {l l′ : Layout} (w : RowWork S Row Vel act l set) (w′ : RowWork S Row Vel act l′ set) (still ofSet : ℕ → Type 0)
+      → ((b : ℕ) → still b → (s s′ : S) → w .vel s b ≡ w′ .vel s′ b) → Split l l′ set still ofSet
+      → (s s′ : S) → Alike (sideOf w) (sideOf w′) set ofSet Unit 0 s s′
+      → Alike (sideOf w) (sideOf w′) set ofSet Unit 0 (eachJoint (jointWork w) 0 (l .joints) s) (eachJoint (jointWork w′) 0 (l′ .joints) s′)
+  rows-alike w w′ still ofSet rest p = joints-alike (sideOf w) (sideOf w′) set still ofSet Unit p rest (λ j t. rows-together w w′ still rest j (p .joint j t))

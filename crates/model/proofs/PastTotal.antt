@@ -1,0 +1,114 @@
+-- Storage past the total is never written: whatever the call and whatever it is handed, the row storage from the row after the total on stays as it was.
+use Prim.Native.Nat.{ℕ, zero, suc, _+_, _*_, _≤_, _<_}
+use mathlib.Core.Path.{_≡_, refl, _∙_}
+use mathlib.Core.List.{List, [], _∷_}
+use native.Mathlib.Omega.{arith}
+use lib.ListN.{length, set, drop}
+use lib.Seq.{drop-set-lt}
+use lib.Ieee.{Float}
+use Rattle.floats.specs.Operators.{bits}
+use Rattle.rows.specs.RowIds.{filled}
+use Rattle.rows.specs.Builder.{builderUpdateOf}
+use Rattle.rows.specs.declared.joint_constraint_builder.Warmstart.{Warmstart}
+use Rattle.rows.specs.declared.joint_velocity_constraint.JointConstraint.{JointConstraint}
+use Rattle.rows.proofs.Filled.{length-filled}
+use Rattle.model.specs.Layout.{rowWidth}
+use Rattle.model.specs.Records.{puts}
+use Rattle.model.specs.Store.{rowNumbers, putRow, solverPoseAt, jointAt, body1At, body2At}
+use Rattle.model.specs.JointRows.{State, state, rowCount, putRows, impulsesAt, buildJoint, sweepRow, sweepJoint, removeBiasJoint}
+use Rattle.model.specs.Model.{Model, jointCount, rowsBefore, totalRows}
+use Rattle.model.specs.Calls.{Call, Outcome, eachJoint, rounds, buildOne, sweepOne, sweepRound, removeBiasOne, grantedOf, run}
+use Rattle.model.specs.Calls.Call.{load, place, build, warmStart, sweep, removeBias, writeBack, readRows, readVelocity}
+use Rattle.model.proofs.JointRowsLaws.{length-built}
+use Rattle.model.proofs.CountLaws.{rowsBefore-mono}
+use Rattle.model.proofs.Keeps.{run-cases}
+
+-- what stands from row t on is the same
+abbrev pub Past : ℕ → List Float → List Float → Type 0
+Past t s s′ = drop (t * rowWidth) s′ ≡ drop (t * rowWidth) s
+
+-- ---- stores of rows before row t
+
+puts-past : (vs s : List Float) (o j n : ℕ) → o + j + length vs ≤ n → drop n (puts s o j vs) ≡ drop n s
+puts-past [] s o j n h = refl
+puts-past (v ∷ vs) s o j n h = puts-past vs (set s (o + j) v) o (suc j) n (omega arith) ∙ drop-set-lt n s (o + j) v (omega arith)
+
+module _ (t : ℕ) where
+  row-past : (s : List Float) (k : ℕ) (r : JointConstraint) → k < t → Past t s (putRow s k r)
+  unfolding putRow
+  row-past s k r h = puts-past (rowNumbers r) s (k * rowWidth) 0 (t * rowWidth) (omega arith)
+
+  rows-past : (rs : List JointConstraint) (s : List Float) (k : ℕ) → k + length rs ≤ t → Past t s (putRows s k rs)
+  unfolding putRows
+  rows-past [] s k h = refl
+  rows-past (r ∷ rs) s k h = rows-past rs (putRow s k r) (k + 1) (omega arith) ∙ row-past s k r (omega arith)
+
+  swept-past : (n k b1 b2 : ℕ) (st : State) → k + n ≤ t → Past t (st .rows) (sweepJoint k n b1 b2 st .rows)
+  unfolding sweepJoint sweepRow
+  swept-past zero k b1 b2 st h = refl
+  swept-past (suc n) k b1 b2 st h = swept-past n (k + 1) b1 b2 (sweepRow k b1 b2 st) (omega arith) ∙ row-past (st .rows) k _ (omega arith)
+
+  bias-past : (n k : ℕ) (s : List Float) → k + n ≤ t → Past t s (removeBiasJoint k n s)
+  unfolding removeBiasJoint
+  bias-past zero k s h = refl
+  bias-past (suc n) k s h = bias-past n (k + 1) (putRow s k _) (omega arith) ∙ row-past s k _ (omega arith)
+
+  -- ---- all joints, and all rounds, of any work that keeps what stands from row t on
+
+  module _ {A : Type 0} (view : A → List Float) where
+    each-past : (work : ℕ → A → A) (n j : ℕ) (s : A) → ((i : ℕ) (s : A) → i < j + n → Past t (view s) (view (work i s))) → Past t (view s) (view (eachJoint work j n s))
+    unfolding eachJoint
+    each-past work zero j s h = refl
+    each-past work (suc n) j s h = each-past work n (j + 1) (work j s) (λ i s l. h i s (omega arith)) ∙ h j s (omega arith)
+
+    rounds-past : (work : A → A) (n : ℕ) (s : A) → ((s : A) → Past t (view s) (view (work s))) → Past t (view s) (view (rounds work n s))
+    unfolding rounds
+    rounds-past work zero s h = refl
+    rounds-past work (suc n) s h = rounds-past work n (work s) h ∙ h s
+
+-- ---- the calls
+
+module _ (m : Model) (rows : List Float) where
+  abbrev total : ℕ
+  total = totalRows (m .words) (m .numbers)
+
+  -- joint j's rows end before row t
+  ends : (j : ℕ) → j < jointCount (m .words) (m .numbers) → rowsBefore (m .words) j + rowCount (m .words) j ≤ total
+  ends j h = rowsBefore-mono (m .words) j (jointCount (m .words) (m .numbers)) h
+
+  build-past : (warm : Warmstart) (substep j : ℕ) (s : List Float) → j < jointCount (m .words) (m .numbers) → Past total s (buildOne m warm substep j s)
+  unfolding buildOne buildJoint
+  build-past warm substep j s h =
+      let body1 = solverPoseAt (m .bodies) (body1At (m .words) j) in
+      let body2 = solverPoseAt (m .bodies) (body2At (m .words) j) in
+      let last = impulsesAt s (rowsBefore (m .words) j) (rowCount (m .words) j) in
+      let prevs = filled 6 (bits 0) last in
+      rows-past total (builderUpdateOf (m .params) substep warm body1 body2 (jointAt (m .words) (m .numbers) j) prevs) s (rowsBefore (m .words) j)
+      (rw (length-built (m .params) substep warm body1 body2 (m .words) (m .numbers) j prevs (length-filled (bits 0) 6 last)) (ends j h))
+
+  sweep-past : (j : ℕ) (st : State) → j < jointCount (m .words) (m .numbers) → Past total (st .rows) (sweepOne (m .words) j st .rows)
+  unfolding sweepOne
+  sweep-past j st h = swept-past total (rowCount (m .words) j) (rowsBefore (m .words) j) (body1At (m .words) j) (body2At (m .words) j) st (ends j h)
+
+  bias-one-past : (j : ℕ) (s : List Float) → j < jointCount (m .words) (m .numbers) → Past total s (removeBiasOne (m .words) j s)
+  unfolding removeBiasOne
+  bias-one-past j s h = bias-past total (rowCount (m .words) j) (rowsBefore (m .words) j) s (ends j h)
+
+  granted-past : (c : Call) → Past total rows (grantedOf c m rows .rows)
+  unfolding grantedOf sweepRound
+  granted-past load = refl
+  granted-past (place i pose) = refl
+  granted-past (build warm substep) =
+      each-past total (λ s. s) (buildOne m warm substep) (jointCount (m .words) (m .numbers)) 0 rows (λ j s h. build-past warm substep j s (omega arith))
+  granted-past warmStart = refl
+  granted-past (sweep n) =
+      rounds-past total (λ (st : State). st .rows) (sweepRound (m .words) (jointCount (m .words) (m .numbers))) n (state rows (m .bodies))
+      (λ st. each-past total (λ (st : State). st .rows) (sweepOne (m .words)) (jointCount (m .words) (m .numbers)) 0 st (λ j st h. sweep-past j st (omega arith)))
+  granted-past removeBias =
+      each-past total (λ s. s) (removeBiasOne (m .words)) (jointCount (m .words) (m .numbers)) 0 rows (λ j s h. bias-one-past j s (omega arith))
+  granted-past writeBack = refl
+  granted-past (readRows j) = refl
+  granted-past (readVelocity i) = refl
+
+  pub past-total : (c : Call) → drop (totalRows (m .words) (m .numbers) * rowWidth) (run c m rows .rows) ≡ drop (totalRows (m .words) (m .numbers) * rowWidth) rows
+  past-total c = run-cases c m rows (λ (o : Outcome). Past total rows (o .rows)) (λ _. granted-past c) refl

@@ -1,0 +1,59 @@
+-- A row, a joint or a stored impulse is read and stored where its record is there whole; elsewhere zeros are read, and nothing is stored.
+use Prim.Native.Nat.{ℕ, _+_, _*_, _/_, _≤_, _<_}
+use mathlib.Core.Path.{_≡_}
+use mathlib.Core.List.{List}
+use native.Mathlib.Omega.{arith}
+use borrow.Author.Tests.{lt-ltb, le-ltb}
+use lib.ListN.{length}
+use lib.Ieee.{Float}
+use Rattle.rows.specs.Update.{blankRow}
+use Rattle.rows.specs.declared.joint_velocity_constraint.JointConstraint.{JointConstraint}
+use Rattle.rows.specs.declared.joint_velocity_constraint.WritebackId.{WritebackId}
+use Rattle.model.specs.Layout.{rowWidth, wordsWidth, numbersWidth}
+use Rattle.model.specs.Store.{rowAt, putRow, jointAt, putSeed}
+use Rattle.model.specs.Model.{jointCount, rowCapacity}
+use Rattle.model.specs.SingleRecords.{rowIfThere, putRowIfThere, blankJoint, jointIfThere, putSeedIfThere}
+use Rattle.model.proofs.CountLaws.{joint-there}
+
+-- ---- rows
+
+module _ (rows : List Float) (k : ℕ) where
+  pub row-fits : {n : ℕ} → n ≡ rowCapacity rows → k < n → k * rowWidth + rowWidth ≤ length rows
+  unfolding rowCapacity
+  row-fits e h = omega (arith, e)
+
+  pub row-there : k * rowWidth + rowWidth ≤ length rows → rowIfThere rows k ≡ rowAt rows k
+  unfolding rowIfThere rowCapacity
+  row-there h = rw (lt-ltb k (length rows / rowWidth) (omega arith))
+
+  pub row-absent : {n : ℕ} → n ≡ rowCapacity rows → n ≤ k → rowIfThere rows k ≡ blankRow
+  unfolding rowIfThere
+  row-absent {n} e h = rw (← e, le-ltb k n h)
+
+  pub put-row-there : (r : JointConstraint) → k * rowWidth + rowWidth ≤ length rows → putRowIfThere rows k r ≡ putRow rows k r
+  unfolding putRowIfThere rowCapacity
+  put-row-there r h = rw (lt-ltb k (length rows / rowWidth) (omega arith))
+
+  pub put-row-absent : (r : JointConstraint) {n : ℕ} → n ≡ rowCapacity rows → n ≤ k → putRowIfThere rows k r ≡ rows
+  unfolding putRowIfThere
+  put-row-absent r {n} e h = rw (← e, le-ltb k n h)
+
+-- ---- joints
+
+module _ (words : List ℕ) (numbers : List Float) (j : ℕ) where
+  pub joint-read : j * wordsWidth + wordsWidth ≤ length words → j * numbersWidth + numbersWidth ≤ length numbers → jointIfThere words numbers j ≡ jointAt words numbers j
+  unfolding jointIfThere
+  joint-read h g = rw (lt-ltb j (jointCount words numbers) (joint-there words numbers j h g))
+
+  pub joint-absent : {n : ℕ} → n ≡ jointCount words numbers → n ≤ j → jointIfThere words numbers j ≡ blankJoint
+  unfolding jointIfThere
+  joint-absent {n} e h = rw (← e, le-ltb j n h)
+
+module _ (numbers : List Float) (j : ℕ) (id : WritebackId) (p : Float) where
+  pub seed-there : j * numbersWidth + numbersWidth ≤ length numbers → putSeedIfThere numbers j id p ≡ putSeed numbers j id p
+  unfolding putSeedIfThere
+  seed-there h = rw (lt-ltb j (length numbers / numbersWidth) (omega arith))
+
+  pub seed-absent : length numbers / numbersWidth ≤ j → putSeedIfThere numbers j id p ≡ numbers
+  unfolding putSeedIfThere
+  seed-absent h = rw (le-ltb j (length numbers / numbersWidth) h)

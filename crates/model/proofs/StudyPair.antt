@@ -1,0 +1,217 @@
+-- Two studies that differ and meet every premise of demand 3 (`compared`): bodies 0 and 1 are the set, with a joint between them that locks both linear axes;
+-- body 2 hangs on the world by a joint that locks two axes in the one study and three in the other, and stands elsewhere in each. The set's joint has another
+-- target velocity of its first motor in each, which it does not name (`motors-differ`). The list is a build, granted in both (`builds`). All of it is computed.
+use Prim.Native.Nat.{ℕ, zero, suc}
+use mathlib.Core.Path.{_≡_, refl, sym, ap, _∙_}
+use mathlib.Core.Logic.{_≢_, inl, ⊎-elim}
+use mathlib.Core.Bool.{Bool, true, false, true≢false}
+use mathlib.Core.List.{List, [], _∷_, _++_, List·Memᴰ·not-nil, List·Memᴰ·cases-cons}
+use native.Mathlib.Omega.{arith}
+use borrow.Author.Tests.{ltb-true}
+use lib.Dec.{ltb, lit≤}
+use lib.IntN.{pos}
+use lib.ListN.{replicate}
+use lib.Ieee.{Float, fin, lt, eq, isNan, ofBits}
+use Rattle.floats.specs.Scalar.{isFinite}
+use Rattle.rows.specs.Named.{SameNamed}
+use Rattle.rows.specs.RowIds.{hasAxis, rowIds}
+use Rattle.rows.specs.GenericJoint.{motorAt}
+use Rattle.rows.specs.declared.integration_parameters.IntegrationParameters.{IntegrationParameters}
+use Rattle.rows.specs.declared.joint_constraint_builder.Warmstart.the-variants.{Cold}
+use Rattle.rows.specs.declared.joint_velocity_constraint.WritebackId.{WritebackId}
+use Rattle.rows.specs.declared.joint_velocity_constraint.WritebackId.the-variants.{Dof, Limit, Motor}
+use Rattle.model.specs.Store.{world, solverPoseAt, velAt, jointAt, masksAt, body1At, body2At}
+use Rattle.model.specs.JointRows.{jointIds, rowCount}
+use Rattle.model.specs.Model.{Model, model, bodyCount, jointCount, rowCapacity, rowsBefore}
+use Rattle.model.specs.Refusals.{refusal, all, masksFit, presentOrWorld, bodiesPresent, bodiesApart, finiteFrom, noNanFrom, finiteParams, finiteWarm, finiteBody, finiteMotor, finiteJoint, modelRules, storageRule, seedsRule, readsRows}
+use Rattle.model.specs.Calls.{rulesOf, grantedOf}
+use Rattle.model.specs.Calls.Call.{load, build}
+use Rattle.model.specs.Traces.{Study, AtEach, AtSome}
+use Rattle.model.specs.Studies.{planar, Loaded, Enough, Closed, OfSet, Agree, MakesRows, HasRow, Names, Compared, SameNumbers, Noninterference}
+use Rattle.model.proofs.CallLaws.{run-granted}
+use Rattle.model.proofs.RefusedExactly.{told}
+use Rattle.model.proofs.Premises.{Turn, recorded, recorded-returns}
+use Rattle.model.proofs.TwoStudies.{two-studies}
+
+-- ---- the two models
+
+abbrev o : Float
+o = fin false 0 (pos 0)
+
+abbrev one : Float
+one = fin false 1 (pos 0)
+
+abbrev two : Float
+two = fin false 1 (pos 1)
+
+abbrev params : IntegrationParameters
+params = record { dt = one; «length_unit» = one; «normalized_max_corrective_velocity» = one }
+
+-- a body at x
+abbrev bodyAt : Float → List Float
+bodyAt x = one ∷ o ∷ x ∷ o ∷ one ∷ one ∷ one ∷ o ∷ o ∷ o ∷ []
+
+-- the numbers of a joint with identity frames and a target velocity of its first motor
+abbrev jointWith : Float → List Float
+jointWith v = one ∷ o ∷ o ∷ o ∷ one ∷ o ∷ o ∷ o ∷ (replicate 9 o ++ (v ∷ replicate 24 o))
+
+-- the words of a joint between two bodies that locks some axes
+abbrev locking : ℕ → ℕ → ℕ → List ℕ
+locking b1 b2 axes = b1 ∷ b2 ∷ axes ∷ replicate 6 0
+
+-- where body 2 stands, what its joint locks, and the target velocity of joint 0's first motor
+abbrev pub example : Float → ℕ → Float → Model
+example x axes v = model params false (bodyAt o ++ (bodyAt one ++ bodyAt x)) (locking 0 1 3 ++ locking 2 world axes) (jointWith v ++ jointWith o)
+
+abbrev pub m : Model
+m = example two 7 one
+
+abbrev pub m′ : Model
+m′ = example o 3 two
+
+-- row storage of six rows
+abbrev pub storage : List Float
+storage = replicate 108 o
+
+abbrev pub s : Study planar
+s = record { model = m; rows = storage }
+
+abbrev pub s′ : Study planar
+s′ = record { model = m′; rows = storage }
+
+abbrev pub ts : List Turn
+ts = record { call = build Cold 0; lent = storage; lent′ = storage } ∷ []
+
+abbrev pub set : ℕ → Bool
+set i = ltb i 2
+
+-- ---- the calls are granted
+
+-- every rule of a load, and of a build, holds
+abbrev Granted : Model → Type 0
+Granted n = (refusal (rulesOf load n storage) ≡ 0) × (refusal (rulesOf (build Cold 0) n storage) ≡ 0)
+
+both-granted : Granted m × Granted m′
+unfolding rulesOf refusal all modelRules storageRule seedsRule readsRows masksFit presentOrWorld bodiesPresent bodiesApart finiteFrom noNanFrom finiteParams finiteWarm finiteBody finiteMotor finiteJoint isFinite isNan lt ofBits bodyCount jointCount rowCapacity rowsBefore rowCount jointIds masksAt body1At body2At hasAxis rowIds
+both-granted = ((refl, refl), (refl, refl))
+
+granted : Granted m
+granted = both-granted .0
+
+granted′ : Granted m′
+granted′ = both-granted .1
+
+loaded : Loaded s
+unfolding grantedOf
+loaded = record { handedOver = m; left = sym (run-granted load m storage (granted .0)) }
+
+loaded′ : Loaded s′
+unfolding grantedOf
+loaded′ = record { handedOver = m′; left = sym (run-granted load m′ storage (granted′ .0)) }
+
+enough : AtEach Enough (recorded ts s s′) s s′
+unfolding AtEach recorded jointCount rowCapacity rowsBefore rowCount jointIds masksAt hasAxis rowIds
+enough = (λ e. (lit≤ tt, lit≤ tt), tt)
+
+-- ---- they agree
+
+-- the set's bodies are 0 and 1
+body-cases : (P : ℕ → Type 0) → P 0 → P 1 → (i : ℕ) → set i ≡ true → P i
+body-cases P a b zero e = a
+body-cases P a b (suc zero) e = b
+body-cases P a b (suc (suc i)) e = absurd (omega (arith, ltb-true (suc (suc i)) 2 e))
+
+-- either model has two joints
+two-joints : (x v : Float) (axes : ℕ) → jointCount (example x axes v .words) (example x axes v .numbers) ≡ 2
+unfolding jointCount
+two-joints x v axes = refl
+
+three-bodies : (x v : Float) (axes : ℕ) → bodyCount (example x axes v .bodies) ≡ 3
+unfolding bodyCount
+three-bodies x v axes = refl
+
+module _ (x v : Float) (axes : ℕ) where
+  abbrev q : Model
+  q = example x axes v
+
+  closed : Closed set q
+  unfolding body1At body2At
+  closed zero t = refl
+  closed (suc zero) t = absurd (t .body2 refl)
+  closed (suc (suc j)) t = absurd (omega (arith, t .there, two-joints x v axes))
+
+  -- the set's joint is joint 0
+  joint-zero : OfSet set q 0
+  unfolding body1At body2At
+  joint-zero = record { there = omega (arith, two-joints x v axes); inside1 = inl refl; inside2 = inl refl }
+
+  joint-cases : (P : ℕ → Type 0) → P 0 → (j : ℕ) → OfSet set q j → P j
+  unfolding body1At body2At
+  joint-cases P a zero t = a
+  joint-cases P a (suc zero) t = absurd (⊎-elim (λ e. omega (arith, ltb-true 2 2 e)) (λ e. omega (arith, e)) (t .inside1))
+  joint-cases P a (suc (suc j)) t = absurd (omega (arith, t .there, two-joints x v axes))
+
+  -- which has no motor row
+  ids : jointIds (q .words) 0 ≡ Dof 0 ∷ Dof 1 ∷ []
+  unfolding jointIds masksAt hasAxis rowIds
+  ids = refl
+
+  no-motor : (i : ℕ) → HasRow q 0 (Motor i) → ⊥
+  no-motor i h = ⊎-elim (λ e. other e) (λ h. ⊎-elim (λ e. other e) List·Memᴰ·not-nil (List·Memᴰ·cases-cons h)) (List·Memᴰ·cases-cons (rw ids at h))
+    where
+      other : {k : ℕ} → Motor i ≡ Dof k → ⊥
+      other e = true≢false (ap (λ (w : WritebackId). elim w [ Dof k ↦ false | Limit k ↦ false | Motor k ↦ true ]) e)
+
+unnamed : (i : ℕ) → Names (recorded ts s s′) s s′ 0 (Motor i) → ⊥
+unfolding AtSome recorded
+unnamed i h = ⊎-elim (λ n. ⊎-elim (λ k. no-motor two one 7 i (k .1)) (λ k. no-motor o two 3 i (k .1)) n) (λ e. e) h
+
+contents : SameNamed (Names (recorded ts s s′) s s′ 0) (jointAt (m .words) (m .numbers) 0) (jointAt (m′ .words) (m′ .numbers) 0)
+unfolding jointAt
+contents = record {
+  frame1 = refl;
+  frame2 = refl;
+  masks = refl;
+  softness = refl;
+  motor = λ i n. absurd (unnamed i n);
+  limits = λ i n. refl;
+  center = λ n. refl;
+  dof = λ i n. refl;
+}
+
+agree : Agree set (Names (recorded ts s s′) s s′) m m′
+unfolding solverPoseAt velAt body1At body2At
+agree = record {
+  params = refl;
+  closed = closed two one 7;
+  closed′ = closed o two 3;
+  present = λ i e. (omega (arith, ltb-true i 2 e, three-bodies two one 7), omega (arith, ltb-true i 2 e, three-bodies o two 3));
+  poses = body-cases (λ i. solverPoseAt (m .bodies) i ≡ solverPoseAt (m′ .bodies) i) refl refl;
+  velocities = body-cases (λ i. velAt (m .bodies) i ≡ velAt (m′ .bodies) i) refl refl;
+  joints = joint-cases two one 7 (OfSet set m′) (joint-zero o two 3);
+  joints′ = joint-cases o two 3 (OfSet set m) (joint-zero two one 7);
+  bodies1 = joint-cases two one 7 (λ j. body1At (m .words) j ≡ body1At (m′ .words) j) refl;
+  bodies2 = joint-cases two one 7 (λ j. body2At (m .words) j ≡ body2At (m′ .words) j) refl;
+  contents = joint-cases two one 7 (λ j. SameNamed (Names (recorded ts s s′) s s′ j) (jointAt (m .words) (m .numbers) j) (jointAt (m′ .words) (m′ .numbers) j)) contents;
+}
+
+-- ---- what is shown
+
+pub compared : Compared set (recorded ts s s′) s s′
+compared = record { loaded = loaded; loaded′ = loaded′; agree = agree; storage = enough; traces = recorded-returns ts s s′ }
+
+same-numbers : SameNumbers m m′
+same-numbers = record { bodies = three-bodies two one 7 ∙ sym (three-bodies o two 3); joints = two-joints two one 7 ∙ sym (two-joints o two 3) }
+
+pub shared : Noninterference set (recorded ts s s′) s s′
+shared = two-studies set (recorded ts s s′) s s′ same-numbers compared
+
+-- rows are made
+pub builds : AtEach (λ p s s′. MakesRows (p .call) (p .outcome) × MakesRows (p .call) (p .outcome′)) (recorded ts s s′) s s′
+unfolding AtEach recorded
+builds = (((refl, told (build Cold 0) m storage ∙ granted .1), (refl, told (build Cold 0) m′ storage ∙ granted′ .1)), tt)
+
+-- and the set's joint differs in a motor
+pub motors-differ : motorAt (jointAt (m .words) (m .numbers) 0 .«data») 0 .«target_vel» ≢ motorAt (jointAt (m′ .words) (m′ .numbers) 0 .«data») 0 .«target_vel»
+unfolding jointAt eq
+motors-differ e = true≢false (ap (λ x. eq one x) e)

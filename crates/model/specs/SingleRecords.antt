@@ -1,0 +1,31 @@
+-- One row, one joint, one stored impulse, for callers who hold a storage of their own: read and stored where the record is there whole. Elsewhere zeros are
+-- read, and nothing is stored.
+use Prim.Native.Nat.{ℕ, _/_}
+use mathlib.Core.Bool.{cond}
+use mathlib.Core.List.{List}
+use lib.Dec.{ltb}
+use lib.ListN.{length}
+use lib.Ieee.{Float}
+use Rattle.floats.specs.Operators.{bits}
+use Rattle.rows.specs.Update.{blankRow}
+use Rattle.rows.specs.declared.joint_constraint_builder.ImpulseJoint.{ImpulseJoint}
+use Rattle.rows.specs.declared.joint_velocity_constraint.JointConstraint.{JointConstraint}
+use Rattle.rows.specs.declared.joint_velocity_constraint.WritebackId.{WritebackId}
+use Rattle.model.specs.Layout.{numbersWidth}
+use Rattle.model.specs.Store.{rowAt, putRow, jointOf, jointAt, putSeed}
+use Rattle.model.specs.Model.{jointCount, rowCapacity}
+
+unfoldable pub rowIfThere : List Float → ℕ → JointConstraint
+rowIfThere rows k = cond (ltb k (rowCapacity rows)) (rowAt rows k) blankRow
+
+unfoldable pub putRowIfThere : List Float → ℕ → JointConstraint → List Float
+putRowIfThere rows k r = cond (ltb k (rowCapacity rows)) (putRow rows k r) rows
+
+abbrev pub blankJoint : ImpulseJoint
+blankJoint = jointOf (λ _. bits 0) (λ _. 0)
+
+unfoldable pub jointIfThere : List ℕ → List Float → ℕ → ImpulseJoint
+jointIfThere words numbers j = cond (ltb j (jointCount words numbers)) (jointAt words numbers j) blankJoint
+
+unfoldable pub putSeedIfThere : List Float → ℕ → WritebackId → Float → List Float
+putSeedIfThere numbers j id p = cond (ltb j (length numbers / numbersWidth)) (putSeed numbers j id p) numbers

@@ -1,0 +1,104 @@
+// One row, one joint, one stored impulse, for callers who hold a storage of their own: read and stored where the record is there whole. Elsewhere zeros are
+// read, and nothing is stored.
+ghost use mathlib.Core.Path.{_≡_};
+ghost use Rattle.model.specs.SingleRecords.{rowIfThere, putRowIfThere, blankJoint, jointIfThere, putSeedIfThere};
+use crate::all_joints::blank_row;
+use crate::counts::joint_count;
+use crate::counts::row_capacity;
+use crate::layout::NUMBERS_WIDTH;
+use crate::store::joint_at;
+use crate::store::put_row;
+use crate::store::put_seed;
+use crate::store::row_at;
+use floats::pose::Pose;
+use floats::rotation_ops::Rotation;
+use floats::vector::Vector;
+use rows::generic_joint::GenericJoint;
+use rows::generic_joint::JointLimits;
+use rows::generic_joint::JointMotor;
+use rows::generic_joint::Masks;
+use rows::integration_parameters::SpringCoefficients;
+use rows::joint_constraint_builder::ImpulseJoint;
+use rows::joint_velocity_constraint::JointConstraint;
+use rows::joint_velocity_constraint::WritebackId;
+use rows::motor_model::MotorModel;
+
+pub fn read_row(rows: &[f32], k: usize) -> JointConstraint
+    ensures { λ r. ⌜ r ≡ rowIfThere (now (rows .entry)) k ⌝ }
+{
+    if k < row_capacity(rows) {
+        return row_at(rows, k);
+    }
+    blank_row()
+}
+
+pub fn write_row(rows: &mut [f32], k: usize, row: JointConstraint)
+    ensures { λ _. ⌜ now (rows .exit) ≡ putRowIfThere (now (rows .entry)) k row ⌝ }
+{
+    if k < row_capacity(rows) {
+        put_row(rows, k, row);
+    }
+}
+
+// A joint of zeros, its motors acceleration based.
+fn blank_joint() -> ImpulseJoint
+    ensures { λ r. ⌜ r ≡ blankJoint ⌝ }
+{
+    let zero = Rotation { re: 0.0, im: 0.0 };
+    let pose = Pose {
+        rotation: zero,
+        translation: Vector { x: 0.0, y: 0.0 },
+    };
+    let limits = JointLimits {
+        min: 0.0,
+        max: 0.0,
+        impulse: 0.0,
+    };
+    let motor = JointMotor {
+        target_vel: 0.0,
+        target_pos: 0.0,
+        stiffness: 0.0,
+        damping: 0.0,
+        max_force: 0.0,
+        impulse: 0.0,
+        model: MotorModel::AccelerationBased,
+    };
+    let data = GenericJoint {
+        local_frame1: pose,
+        local_frame2: pose,
+        masks: Masks {
+            locked_axes: 0,
+            limit_axes: 0,
+            motor_axes: 0,
+            coupled_axes: 0,
+        },
+        limits: [limits, limits, limits],
+        motors: [motor, motor, motor],
+        softness: SpringCoefficients {
+            natural_frequency: 0.0,
+            damping_ratio: 0.0,
+        },
+    };
+    ImpulseJoint {
+        data: data,
+        impulses: [0.0, 0.0, 0.0],
+        center: zero,
+    }
+}
+
+pub fn read_joint(words: &[u32], numbers: &[f32], j: usize) -> ImpulseJoint
+    ensures { λ r. ⌜ r ≡ jointIfThere (now (words .entry)) (now (numbers .entry)) j ⌝ }
+{
+    if j < joint_count(words, numbers) {
+        return joint_at(words, numbers, j);
+    }
+    blank_joint()
+}
+
+pub fn write_impulse(numbers: &mut [f32], j: usize, id: WritebackId, impulse: f32)
+    ensures { λ _. ⌜ now (numbers .exit) ≡ putSeedIfThere (now (numbers .entry)) j id impulse ⌝ }
+{
+    if j < numbers.len() / NUMBERS_WIDTH {
+        put_seed(numbers, j, id, impulse);
+    }
+}
