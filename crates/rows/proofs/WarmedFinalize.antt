@@ -6,15 +6,16 @@ use native.Mathlib.Omega.{arith}
 use mathlib.Core.Path.{_≡_, refl, ap, sym, _∙_}
 use mathlib.Core.Bool.{Bool, true, false, cond}
 use mathlib.Core.List.{List, [], _∷_, _++_, map}
-use lib.ListN.{length, drop, length-map}
+use lib.ListN.{length, getD, drop, length-map}
 use lib.Ieee.{Float}
+use Rattle.floats.specs.Operators.{bits}
 use Rattle.floats.specs.declared.vector.Vector.{Vector}
 use Rattle.rows.specs.declared.joint_constraint_builder.ImpulseJoint.{ImpulseJoint}
 use Rattle.rows.specs.declared.joint_constraint_builder.Warmstart.{Warmstart}
 use Rattle.rows.specs.declared.joint_constraint_builder.Warmstart.the-variants.{Cold, Warm}
 use Rattle.rows.specs.declared.joint_velocity_constraint.JointConstraint.{JointConstraint}
 use Rattle.rows.specs.declared.joint_velocity_constraint.WritebackId.{WritebackId}
-use Rattle.rows.specs.Step.{withImpulse}
+use Rattle.rows.specs.Row.{withImpulse}
 use Rattle.rows.specs.Finalize.{orthogonaliseN, imSumOf, rowDotOf, headOf, isLock, lessOf, pairOf, finalizeOf}
 use Rattle.rows.specs.Builder.{seedOf, warmedOf, warmedAll}
 
@@ -81,9 +82,8 @@ module _ (warm : Warmstart) (substep : ℕ) (joint : ImpulseJoint) where
       → map (pairOf im d) (all is ps cs) ≡ all is ps (map (pairOf im d) cs)
   unfolding warmedAll
   map-warmed im d [] ps cs = refl
-  map-warmed im d (i ∷ is) [] cs = refl
-  map-warmed im d (i ∷ is) (p ∷ ps) [] = refl
-  map-warmed im d (i ∷ is) (p ∷ ps) (c ∷ cs) = rw (pair-warmed im warm substep (seedOf joint i) p c d, map-warmed im d is ps cs)
+  map-warmed im d (i ∷ is) ps [] = refl
+  map-warmed im d (i ∷ is) ps (c ∷ cs) = rw (pair-warmed im warm substep (seedOf joint i) (getD ps 0 (bits 0)) c d, map-warmed im d is (drop 1 ps) cs)
 
   -- the rows after a row, reduced by it or not
   rest-warmed : (im : Vector) (t : Bool) (d : JointConstraint) (is : List WritebackId) (ps : List Float) (cs : List JointConstraint)
@@ -97,18 +97,17 @@ module _ (warm : Warmstart) (substep : ℕ) (joint : ImpulseJoint) where
   orthogonalise-warmed im zero is ps cs = refl
   orthogonalise-warmed im (suc n) [] ps [] = refl
   orthogonalise-warmed im (suc n) [] ps (c ∷ cs) = refl
-  orthogonalise-warmed im (suc n) (i ∷ is) [] [] = refl
-  orthogonalise-warmed im (suc n) (i ∷ is) [] (c ∷ cs) = refl
-  orthogonalise-warmed im (suc n) (i ∷ is) (p ∷ ps) [] = refl
-  orthogonalise-warmed im (suc n) (i ∷ is) (p ∷ ps) (c ∷ cs) =
+  orthogonalise-warmed im (suc n) (i ∷ is) ps [] = refl
+  orthogonalise-warmed im (suc n) (i ∷ is) ps (c ∷ cs) =
       let seed : Float = seedOf joint i in
+      let p : Float = getD ps 0 (bits 0) in
       let d : JointConstraint = headOf im c in
       rw (
         head-warmed im warm substep seed p c,
         lock-warmed im warm substep seed p d,
         by-warmed im warm substep seed p d,
-        rest-warmed im (isLock d) d is ps cs,
-        orthogonalise-warmed im n is ps (cond (isLock d) (map (pairOf im d) cs) cs),
+        rest-warmed im (isLock d) d is (drop 1 ps) cs,
+        orthogonalise-warmed im n is (drop 1 ps) (cond (isLock d) (map (pairOf im d) cs) cs),
       )
 
   length-all : (is : List WritebackId) (ps : List Float) (cs : List JointConstraint) → length cs ≡ length is → length is ≤ length ps → length (all is ps cs) ≡ length cs
