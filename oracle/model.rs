@@ -8,6 +8,8 @@ pub const WORDS: usize = 9;
 pub const JOINT: usize = 42;
 pub const ROW: usize = 18;
 pub const WORLD: u32 = u32::MAX;
+/// A sweep has at most so many rounds.
+pub const MOST_ROUNDS: u32 = 64;
 
 /// Places in a joint's numbers that rule 6 looks at: frames, softness, centre and the motors'
 /// first four must be finite; limit ends and maximum forces may be infinite. The other nine are
@@ -218,7 +220,7 @@ pub fn refusal(s: &Study, call: &Call) -> u64 {
     if by_model != 0 {
         return by_model;
     }
-    if matches!(call, Call::Sweep(n) if *n > 1000) {
+    if matches!(call, Call::Sweep(n) if *n > MOST_ROUNDS) {
         return 9;
     }
     let needs_built = match call {

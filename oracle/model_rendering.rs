@@ -71,8 +71,8 @@ pub const FAULTS: [&str; 86] = [
     "a velocity read tries rule 8",
     "storage is asked for six rows a joint",
     // Rules 9 to 11.
-    "a sweep of 1000 is refused",
-    "a sweep of 1001 is not refused",
+    "a sweep of 64 is refused",
+    "a sweep of 65 is not refused",
     "a row read needs no build",
     "write-back needs no build",
     "place needs a build",
@@ -249,7 +249,7 @@ fn rules(s: &Study, call: &Call) -> Vec<(u64, bool)> {
     };
     let short = lent && (room < needed || fault(47) && room == needed);
 
-    let most = or!(54, or!(53, 1000, 999), 1001);
+    let most = or!(54, or!(53, 64, 63), 65);
     let too_long = matches!(call, Call::Sweep(n) if *n > most);
     let first_needed = match call {
         Call::Load | Call::ReadVelocity(_) => false,

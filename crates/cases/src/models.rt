@@ -288,16 +288,16 @@ fn velocities_too_soon(bodies: &mut [f32], words: &[u32], numbers: &[f32], rows:
         warm_start(h, bodies, words, numbers, rows),
     );
     plain(
-        b"sweep 1000 before a build",
-        sweep(h, bodies, words, numbers, rows, 1000),
+        b"sweep 64 before a build",
+        sweep(h, bodies, words, numbers, rows, 64),
     );
 }
 
 fn rows_too_soon(bodies: &mut [f32], words: &[u32], numbers: &[f32], rows: &mut [f32]) {
     let h = header(0.5, false);
     plain(
-        b"sweep 1001 before a build",
-        sweep(h, bodies, words, numbers, rows, 1001),
+        b"sweep 65 before a build",
+        sweep(h, bodies, words, numbers, rows, 65),
     );
     plain(
         b"bias removal before a build",
@@ -418,8 +418,8 @@ fn no_sweep(bodies: &mut [f32], words: &[u32], numbers: &[f32], rows: &mut [f32]
 
 fn sweeps(bodies: &mut [f32], words: &[u32], numbers: &[f32], rows: &mut [f32]) {
     let h = header(0.5, true);
-    plain(b"sweep 1001", sweep(h, bodies, words, numbers, rows, 1001));
-    plain(b"sweep 1000", sweep(h, bodies, words, numbers, rows, 1000));
+    plain(b"sweep 65", sweep(h, bodies, words, numbers, rows, 65));
+    plain(b"sweep 64", sweep(h, bodies, words, numbers, rows, 64));
 }
 
 // Rules 3 to 5, then 6 to 8.

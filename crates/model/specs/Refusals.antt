@@ -36,7 +36,7 @@ all i (suc n) p = p i && all (i + 1) n p
 
 -- the largest number of rounds, the mask of all three axes, and the number of masks
 abbrev pub mostRounds : ℕ
-mostRounds = 1000
+mostRounds = 64
 
 abbrev pub allAxes : ℕ
 allAxes = 7

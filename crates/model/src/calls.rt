@@ -35,7 +35,7 @@ use rows::row_ids::RowIds;
 use rows::row_ids::row_ids;
 
 // Rule 9: a sweep has at most so many rounds.
-pub const MOST_ROUNDS: u32 = 1000;
+pub const MOST_ROUNDS: u32 = 64;
 
 // The answer of a call that has nothing to tell.
 pub enum Plain {

@@ -431,7 +431,8 @@ fn many(g: &mut Generator, w: &mut Writer) {
         },
         Call::WriteBack,
         Call::RemoveBias,
-        Call::Sweep(1000),
+        Call::Sweep(63),
+        Call::Sweep(64),
     ];
     w.study(s, |w, h| {
         let all = h.lengths.map(|x| x as u32);
@@ -452,8 +453,11 @@ fn many(g: &mut Generator, w: &mut Writer) {
 
         let asked = [
             Call::Load,
-            Call::Sweep(1001),
+            Call::Sweep(65),
+            Call::Sweep(64),
             Call::Sweep(1000),
+            Call::Sweep(1001),
+            Call::Sweep(u32::MAX),
             Call::ReadRows(200),
             Call::ReadVelocity(WORLD),
             Call::Place {

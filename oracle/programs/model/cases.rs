@@ -273,18 +273,18 @@ impl Cases {
                 self.refused(&format!("storage {cut} numbers short"), &s, &call, 8);
                 self.granted("no storage is handed over", &s, &place(0));
                 self.granted("no storage is handed over", &s, &Call::ReadVelocity(0));
-                self.refused("8 before 9", &s, &Call::Sweep(1001), 8);
+                self.refused("8 before 9", &s, &Call::Sweep(65), 8);
             }
         }
 
-        for n in [1001, 1002, u32::MAX] {
+        for n in [65, 66, 1000, 1001, u32::MAX] {
             self.refused("9", &built, &Call::Sweep(n), 9);
             self.refused("9 before 10", &leg(), &Call::Sweep(n), 9);
         }
         let mut s = built.clone();
         self.done(&mut s, &Call::Sweep(0));
         self.expect("a sweep of 0 changes nothing", same_study(&s, &built));
-        for n in [2, 1000] {
+        for n in [2, 63, 64] {
             let (mut at_once, mut singly) = (built.clone(), built.clone());
             self.done(&mut at_once, &Call::Sweep(n));
             for _ in 0..n {
@@ -333,7 +333,7 @@ impl Cases {
 
         // Every rule broken, 3 to 5 in joints 2, 1 and 0: the first in order is told, and the
         // next when that is mended.
-        for call in [Call::Sweep(1001), Call::ReadRows(200)] {
+        for call in [Call::Sweep(65), Call::ReadRows(200)] {
             let whole = study(3, &[([0, 1], [3, 0, 0, 0]); 3]);
             let mut s = whole.clone();
             s.bodies.resize(129 * BODY, 0.0);
@@ -363,7 +363,7 @@ impl Cases {
             s.rows = whole.rows;
             if let Call::Sweep(_) = call {
                 self.refused("9 to 11 broken", &s, &call, 9);
-                self.refused("10 and 11 broken", &s, &Call::Sweep(1000), 10);
+                self.refused("10 and 11 broken", &s, &Call::Sweep(64), 10);
             } else {
                 self.refused("10 and 11 broken", &s, &call, 10);
             }

@@ -349,10 +349,11 @@ impl Generator {
 
     pub fn sweep(&mut self) -> Call {
         let n = match self.d.below(64) {
-            0 => 1000,
-            1 => 1001,
-            2 => u32::MAX,
-            3 => self.d.below(1100) as u32,
+            0 => 64,
+            1 => 65,
+            2 => self.d.pick(&[1000, 1001, u32::MAX]),
+            3 => self.d.below(70) as u32,
+            4 => 63,
             _ => self.d.pick(&[0, 1, 1, 1, 2, 2, 5]),
         };
         Call::Sweep(n)
@@ -452,7 +453,7 @@ impl Generator {
                     s.rows.truncate(to);
                 }
             }
-            9 => *call = Call::Sweep(self.d.pick(&[1001, 1001, 1002, 2000, u32::MAX])),
+            9 => *call = Call::Sweep(self.d.pick(&[65, 65, 66, 1000, 1001, u32::MAX])),
             10 => {
                 s.built = false;
                 let joint = self.index(joints);
