@@ -4,7 +4,9 @@
 use rapier2d::pipeline::model as rust;
 
 pub const BODY: usize = 10;
-pub const WORDS: usize = 9;
+pub const WORDS: usize = 10;
+/// Place of a joint's `JointEnabled` in its words.
+pub const ENABLED: usize = 9;
 pub const JOINT: usize = 42;
 pub const ROW: usize = 18;
 pub const WORLD: u32 = u32::MAX;
@@ -31,7 +33,8 @@ pub struct Study {
     pub built: bool,
     /// Pose re, im, x, y; inverse inertia; inverse mass x, y; velocity x, y, angular.
     pub bodies: Vec<f32>,
-    /// Body 1, body 2; locked, limit, motor and coupled mask; motor models of axes 0, 1, 2.
+    /// Body 1, body 2; locked, limit, motor and coupled mask; motor models of axes 0, 1, 2;
+    /// `JointEnabled`.
     pub words: Vec<u32>,
     pub numbers: Vec<f32>,
     pub rows: Vec<f32>,

@@ -13,7 +13,7 @@ pub fn carry(number: u32) {
 }
 
 /// Fault k is entry k − 1.
-pub const FAULTS: [&str; 86] = [
+pub const FAULTS: [&str; 93] = [
     // The order of the rules.
     "rules 1 and 2 exchanged",
     "rules 2 and 3 exchanged",
@@ -108,6 +108,14 @@ pub const FAULTS: [&str; 86] = [
     "write-back of the last joint's rows alone",
     "a row read returns rows from the storage's start",
     "a velocity read returns the angular velocity first",
+    // Joints that are switched off.
+    "a joint that is switched off still has rows",
+    "only the word of Disabled switches a joint off",
+    "a word above 2 is Enabled",
+    "a joint that is switched off still counts for rule 8 and the places of rows",
+    "a joint that is switched off is not looked at by rules 3 to 6",
+    "write-back clears what a joint that is switched off has stored",
+    "a row read of a joint that is switched off is refused",
 ];
 
 fn fault(number: u32) -> bool {
@@ -124,9 +132,13 @@ const LIMITS: [usize; 3] = [8, 11, 14];
 
 /// A joint as the model has it.
 struct Joint {
-    words: [u32; 9],
+    words: [u32; 10],
     numbers: [f32; 42],
     ids: Vec<u32>,
+    /// Whether it is switched off.
+    off: bool,
+    /// Rows that are counted for it whatever its ids; none but by a fault.
+    takes: usize,
     /// Place of its first row.
     first: usize,
 }
@@ -134,14 +146,27 @@ struct Joint {
 fn joints(s: &Study) -> Vec<Joint> {
     let mut next = 0;
     let mut all = Vec::new();
-    for (w, n) in s.words.chunks_exact(9).zip(s.numbers.chunks_exact(42)) {
-        let ids = rendering::ids(&w[2..6]);
+    for (w, n) in s.words.chunks_exact(10).zip(s.numbers.chunks_exact(42)) {
+        let named = rendering::ids(&w[2..6]);
+        let off = match w[9] {
+            0 => false,
+            1 => !fault(88),
+            2 => true,
+            _ => !fault(89),
+        };
+        let ids = if off && !fault(87) {
+            vec![]
+        } else {
+            named.clone()
+        };
         let first = or!(68, next, 6 * all.len());
-        next += ids.len();
+        next += or!(90, ids.len(), named.len());
         all.push(Joint {
             words: w.try_into().unwrap(),
             numbers: n.try_into().unwrap(),
             ids,
+            off,
+            takes: or!(90, 0, named.len()),
             first,
         });
     }
@@ -149,7 +174,7 @@ fn joints(s: &Study) -> Vec<Joint> {
 }
 
 fn count_of(joints: &[Joint]) -> usize {
-    joints.iter().map(|j| j.ids.len()).sum()
+    joints.iter().map(|j| j.ids.len().max(j.takes)).sum()
 }
 
 fn wild(n: &[f32]) -> bool {
@@ -191,11 +216,12 @@ fn joint_wild(joint: &Joint) -> bool {
 /// The rules in checking order, and whether each refuses.
 fn rules(s: &Study, call: &Call) -> Vec<(u64, bool)> {
     let all = joints(s);
+    let looked_at = |j: &&Joint| !(fault(91) && j.off);
     let parts = or!(16, s.bodies.len(), s.bodies.len() + 9) / 10;
     let bodies = parts as u64;
 
     let too_many = bodies > or!(13, or!(12, 128, 127), 129);
-    let counted = or!(17, all.len(), s.words.len() / 9);
+    let counted = or!(17, all.len(), s.words.len() / 10);
     let too_jointed = counted > or!(15, or!(14, 128, 127), 129);
     let mask_bad = |j: &Joint| {
         let masks = &j.words[2..or!(20, 6, 5)];
@@ -233,7 +259,7 @@ fn rules(s: &Study, call: &Call) -> Vec<(u64, bool)> {
     };
     let any_wild = wild(&s.settings[..or!(40, 3, 2)])
         || looked.iter().any(|n| body_wild(n))
-        || all.iter().any(joint_wild)
+        || all.iter().filter(looked_at).any(joint_wild)
         || asked;
     let dt = s.settings[0];
     let backwards =
@@ -270,7 +296,10 @@ fn rules(s: &Study, call: &Call) -> Vec<(u64, bool)> {
         Call::Place { body, .. } | Call::ReadVelocity(body) => {
             *body as u64 >= bodies && !(fault(61) && *body == WORLD)
         }
-        Call::ReadRows(joint) => *joint as usize >= or!(62, all.len(), all.len() + 1),
+        Call::ReadRows(joint) => {
+            *joint as usize >= or!(62, all.len(), all.len() + 1)
+                || fault(93) && all[*joint as usize].off
+        }
         _ => false,
     };
 
@@ -279,10 +308,11 @@ fn rules(s: &Study, call: &Call) -> Vec<(u64, bool)> {
             3,
             all[..or!(21, all.len(), all.len().min(1))]
                 .iter()
+                .filter(looked_at)
                 .any(mask_bad),
         ),
-        (4, all.iter().any(stray)),
-        (5, all.iter().any(twice)),
+        (4, all.iter().filter(looked_at).any(stray)),
+        (5, all.iter().filter(looked_at).any(twice)),
         (6, any_wild),
     ];
     if fault(11) {
@@ -332,7 +362,7 @@ fn put_velocity(s: &mut Study, i: u32, vel: &[f32]) {
 
 fn build(s: &mut Study, all: &[Joint], warm: Option<f32>, substep: u32) -> usize {
     let built = &all[..or!(67, all.len(), all.len().min(1))];
-    for joint in built {
+    for joint in built.iter().filter(|j| !j.off || fault(87)) {
         let mut n = s.settings.to_vec();
         n.extend(&body(s, joint.words[0])[..7]);
         n.extend(&body(s, joint.words[1])[..7]);
@@ -343,7 +373,7 @@ fn build(s: &mut Study, all: &[Joint], warm: Option<f32>, substep: u32) -> usize
                 n[17 + k] = all[0].numbers[k];
             }
         }
-        let mut words = joint.words[2..].to_vec();
+        let mut words = joint.words[2..9].to_vec();
         words.extend([warm.is_some() as u32, substep]);
 
         let (first, length) = (joint.first * 18, joint.ids.len() * 18);
@@ -398,6 +428,11 @@ fn sweep(s: &mut Study, all: &[Joint], n: u32) {
 fn write_back(s: &mut Study, all: &[Joint]) {
     let from = or!(84, 0, all.len().saturating_sub(1));
     for (j, joint) in all.iter().enumerate().skip(from) {
+        if fault(92) && joint.off {
+            for id in rendering::ids(&joint.words[2..6]) {
+                rendering::writeback(id, 0.0, &mut s.numbers[42 * j..][..42]);
+            }
+        }
         for (k, id) in joint.ids.iter().enumerate() {
             let impulse = s.rows[18 * (joint.first + k)];
             let id = or!(83, *id, joint.ids[0]);

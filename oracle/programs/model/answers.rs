@@ -4,7 +4,9 @@
 use crate::bits::bits;
 use crate::generator::{Generator, Size, total};
 use crate::library::{ORACLE, Side};
-use crate::model::{Answer, BODY, Call, FINITE, JOINT, KINDS, NUMBER, ROW, Study, WORDS, WORLD};
+use crate::model::{
+    Answer, BODY, Call, ENABLED, FINITE, JOINT, KINDS, NUMBER, ROW, Study, WORDS, WORLD,
+};
 use std::fmt::Write;
 
 const SEED: u64 = 20;
@@ -264,12 +266,12 @@ fn write_any(g: &mut Generator, s: &Study) -> Option<Line> {
     let (slice, index, value) = match d.below(14) {
         0 | 1 if joints > 0 => {
             let mask = [8, 9, 263, u32::MAX, 7, 7, 0, 1, 2, 3, 4, 5, 6];
-            let at = d.below(joints) * 9 + 2 + d.below(4);
+            let at = d.below(joints) * WORDS as u64 + 2 + d.below(4);
             (Slice::Words, at, d.pick(&mask))
         }
         2 | 3 if joints > 0 => {
             let body = [bodies as u32, WORLD - 1, WORLD, 0, 1];
-            let at = d.below(joints) * 9 + d.below(2);
+            let at = d.below(joints) * WORDS as u64 + d.below(2);
             (Slice::Words, at, d.pick(&body))
         }
         4 | 5 if joints > 0 => {
@@ -296,6 +298,10 @@ fn write_any(g: &mut Generator, s: &Study) -> Option<Line> {
             bits(d.pick(&[f32::INFINITY, f32::MAX, 0.0])),
         ),
         9 | 10 => (Slice::Mark, 0, d.below(2) as u32),
+        11 if joints > 0 => {
+            let at = d.below(joints) * WORDS as u64 + ENABLED as u64;
+            (Slice::Words, at, d.pick(&[0, 0, 1, 2, 3, u32::MAX]))
+        }
         _ if !s.rows.is_empty() => {
             let at = d.below(s.rows.len() as u64);
             (Slice::Rows, at, bits(d.number()))
@@ -436,7 +442,7 @@ fn many(g: &mut Generator, w: &mut Writer) {
     ];
     w.study(s, |w, h| {
         let all = h.lengths.map(|x| x as u32);
-        let [bodies, words] = [128 * BODY as u32 + 9, 128 * WORDS as u32 + 8];
+        let [bodies, words] = [128 * BODY as u32 + 9, 128 * WORDS as u32 + 9];
         let numbers = 128 * JOINT as u32 + 41;
         for handed in [
             all,

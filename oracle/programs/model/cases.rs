@@ -1,7 +1,9 @@
 //! Document 01's cases about the model, on every side that is there.
 
 use crate::library::{Side, same, same_study, sides};
-use crate::model::{Answer, BODY, Call, FINITE, GRANTED, JOINT, NUMBER, ROW, Study, WORDS, WORLD};
+use crate::model::{
+    Answer, BODY, Call, ENABLED, FINITE, GRANTED, JOINT, NUMBER, ROW, Study, WORDS, WORLD,
+};
 use std::process::exit;
 
 const INF: f32 = f32::INFINITY;
@@ -52,7 +54,7 @@ fn study(bodies: usize, joints: &[([u32; 2], [u32; 4])]) -> Study {
     for (ends, masks) in joints {
         s.words.extend(ends);
         s.words.extend(masks);
-        s.words.extend([0; 3]);
+        s.words.extend([0; 4]);
         s.numbers.extend(numbers());
     }
     s.rows = vec![0.5; s.total() * ROW];
@@ -132,7 +134,7 @@ impl Cases {
         part.bodies.extend([f32::NAN; 9]);
         self.granted("128 bodies and nine numbers", &part, load);
         self.refused("a part of a body", &part, &Call::ReadVelocity(128), 11);
-        part.words = vec![0, 128, 0, 0, 0, 0, 0, 0, 0];
+        part.words = vec![0, 128, 0, 0, 0, 0, 0, 0, 0, 0];
         part.numbers = numbers().to_vec();
         self.refused("a joint to a part of a body", &part, load, 4);
 
@@ -497,6 +499,66 @@ impl Cases {
         self.done(&mut s, &Call::Sweep(1));
         self.expect("the world's velocity reads zero", s.rows[ROW] == -1.0);
     }
+
+    /// Joints that are switched off: the first, the middle one, the last, and all of them.
+    fn switched_off(&mut self) {
+        let joints = [
+            ([0, 1], [3, 4, 4, 0]),
+            ([1, 2], [7, 0, 0, 0]),
+            ([2, WORLD], [0, 7, 7, 0]),
+        ];
+        let counts = [4, 3, 6];
+        for off in [&[0][..], &[1], &[2], &[0, 1, 2]] {
+            for word in [1, 2, 3, u32::MAX] {
+                let mut s = study(3, &joints);
+                for j in off {
+                    s.words[j * WORDS + ENABLED] = word;
+                }
+                let count = |j: usize| if off.contains(&j) { 0 } else { counts[j] };
+                let total: usize = (0..3).map(count).sum();
+                s.rows = vec![0.5; total * ROW];
+                self.granted("storage of the rows of enabled joints", &s, &Call::Load);
+                if total > 0 {
+                    let mut short = s.clone();
+                    short.rows.pop();
+                    self.refused("one number less", &short, &Call::Load, 8);
+                }
+                for (at, bad, rule) in [(2, 8, 3), (0, 200, 4)] {
+                    let mut broken = s.clone();
+                    broken.words[off[0] * WORDS + at] = bad;
+                    self.refused("it is still checked", &broken, &Call::Load, rule);
+                }
+                let mut broken = s.clone();
+                broken.words[off[0] * WORDS + 1] = broken.words[off[0] * WORDS];
+                self.refused("it is still checked", &broken, &Call::Load, 5);
+                for k in FINITE.iter().chain(&NUMBER) {
+                    let mut broken = s.clone();
+                    broken.numbers[off[0] * JOINT + k] = f32::NAN;
+                    self.refused("it is still checked", &broken, &Call::Load, 6);
+                }
+
+                let stored = s.numbers.clone();
+                let answer = self.done(&mut s, &build(Some(0.5), 0));
+                self.expect("a total without it", answer.code == GRANTED + total as u64);
+                for call in [
+                    Call::WarmStart,
+                    Call::Sweep(2),
+                    Call::RemoveBias,
+                    Call::WriteBack,
+                ] {
+                    self.done(&mut s, &call);
+                }
+                for j in 0..3 {
+                    let answer = self.done(&mut s, &Call::ReadRows(j as u32));
+                    let told = answer.code == GRANTED + count(j) as u64;
+                    self.expect("a row read keeps the index", told);
+                    let of = |n: &[f32]| n[j * JOINT..][..JOINT].to_vec();
+                    let left = same(&of(&stored), &of(&s.numbers));
+                    self.expect("its stored impulses stay", left == off.contains(&j));
+                }
+            }
+        }
+    }
 }
 
 pub fn cases() {
@@ -510,6 +572,7 @@ pub fn cases() {
         cases.finite();
         cases.calls();
         cases.rows();
+        cases.switched_off();
         println!("{} cases by {name}", cases.count);
     }
 }

@@ -1,7 +1,7 @@
 //! Draws studies of several joints, calls on them, and what a caller may do to them in between.
 
 use crate::draw::Draw;
-use crate::model::{BODY, Call, FINITE, JOINT, NUMBER, ROW, Study, WORDS, WORLD};
+use crate::model::{BODY, Call, ENABLED, FINITE, JOINT, NUMBER, ROW, Study, WORDS, WORLD};
 use crate::rendering;
 use crate::studies;
 
@@ -32,10 +32,11 @@ enum Shape {
     Components(usize),
 }
 
-/// The row count by the masks; bits above 7 are left out.
+/// The row count by the masks of the joints that are enabled; bits above 7 are left out.
 pub fn total(s: &Study) -> usize {
     let joints = s.words.chunks_exact(WORDS).take(s.joint_count());
-    joints.map(|w| rendering::ids(&w[2..6]).len()).sum()
+    let enabled = joints.filter(|w| w[ENABLED] == 0);
+    enabled.map(|w| rendering::ids(&w[2..6]).len()).sum()
 }
 
 pub fn body_of(s: &Study, i: u32) -> [f32; 7] {
@@ -136,15 +137,32 @@ impl Generator {
         }
     }
 
+    /// A word of `JointEnabled`: mostly the one that is.
+    pub fn enabled(&mut self) -> u32 {
+        if self.d.one_in(5) { self.disabled() } else { 0 }
+    }
+
+    /// A word of one of the two kinds that are not.
+    pub fn disabled(&mut self) -> u32 {
+        let any = 1 | self.d.word() as u32;
+        self.d.pick(&[1, 1, 2, 2, 3, u32::MAX, any])
+    }
+
     /// A joint between two bodies that are there.
-    pub fn joint(&mut self, s: &Study, ends: [u32; 2], straight: bool) -> ([u32; 9], [f32; 42]) {
+    pub fn joint(
+        &mut self,
+        s: &Study,
+        ends: [u32; 2],
+        straight: bool,
+    ) -> ([u32; WORDS], [f32; JOINT]) {
         let masks = self.masks();
         let mut words = [0; WORDS];
         words[..2].copy_from_slice(&ends);
         words[2..6].copy_from_slice(&masks);
-        for word in &mut words[6..] {
+        for word in &mut words[6..9] {
             *word = self.motor_model();
         }
+        words[ENABLED] = self.enabled();
         let mut n = studies::joint(&mut self.d, straight);
         let [one, two] = ends.map(|i| body_of(s, i));
         studies::aim(&mut self.d, &one, &two, &mut n, masks[3]);
@@ -549,6 +567,9 @@ impl Generator {
                     if self.d.one_in(2) {
                         s.words[j * WORDS + 2 + k] = self.d.below(8) as u32;
                     }
+                }
+                if self.d.one_in(2) {
+                    s.words[j * WORDS + ENABLED] = self.enabled();
                 }
                 if !self.d.one_in(4) {
                     let whole = total(s) * ROW;

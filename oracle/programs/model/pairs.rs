@@ -4,7 +4,9 @@
 
 use crate::generator::{Generator, STORED, total};
 use crate::library::{ORACLE, RENDERING, Side, same};
-use crate::model::{Answer, BODY, Call, FINITE, JOINT, KINDS, ROW, Study, WORDS, WORLD, refusal};
+use crate::model::{
+    Answer, BODY, Call, ENABLED, FINITE, JOINT, KINDS, ROW, Study, WORDS, WORLD, refusal,
+};
 use crate::run::show_study;
 use std::process::exit;
 
@@ -26,6 +28,9 @@ struct Tally {
     moved_rows: u64,
     /// Numbers of the set's joints that nothing names and that were drawn anew.
     unnamed: u64,
+    /// Joints that are switched off: the set's, and those from the set to a body outside it.
+    off: u64,
+    across: u64,
     swaps: u64,
 }
 
@@ -50,13 +55,13 @@ struct Difference {
     after: [Study; 2],
 }
 
-/// Each body's component, named by one of its bodies. A joint ties its two bodies, the world
-/// nothing.
+/// Each body's component, named by one of its bodies. A joint that is enabled ties its two bodies,
+/// the world nothing.
 fn components(s: &Study) -> Vec<usize> {
     let mut of: Vec<usize> = (0..s.body_count()).collect();
     for j in 0..s.joint_count() {
         let [one, two] = [s.joint(j)[0], s.joint(j)[1]];
-        if one != WORLD && two != WORLD {
+        if one != WORLD && two != WORLD && s.joint(j)[ENABLED] == 0 {
             let (from, to) = (of[one as usize], of[two as usize]);
             for c in &mut of {
                 if *c == from {
@@ -135,6 +140,17 @@ impl Pair {
 
         t.pairs += 1;
         t.nameless += !made as u64;
+        for s in [&one, &two] {
+            for j in (0..s.joint_count()).filter(|j| s.joint(*j)[ENABLED] != 0) {
+                let inside = |b: u32| set.get(b as usize) == Some(&true);
+                let touches = inside(s.joint(j)[0]) || inside(s.joint(j)[1]);
+                if is_own(s, j, &set) {
+                    t.off += 1;
+                } else if touches {
+                    t.across += 1;
+                }
+            }
+        }
         let inside = set.iter().filter(|b| **b).count();
         let whole = one.body_count().max(two.body_count());
         t.sets[(inside > 0) as usize + (inside > 0 && inside == whole) as usize] += 1;
@@ -302,6 +318,9 @@ fn other_study(g: &mut Generator, one: &Study, set: &[bool], own: &[bool]) -> St
         bodies += 1;
     }
     let outside = outside(bodies);
+    let inside: Vec<u32> = (0..bodies as u32)
+        .filter(|i| set.get(*i as usize) == Some(&true))
+        .collect();
 
     let mut two = one.clone();
     two.bodies.clear();
@@ -321,10 +340,17 @@ fn other_study(g: &mut Generator, one: &Study, set: &[bool], own: &[bool]) -> St
             two.numbers.extend(&one.numbers[j * JOINT..][..JOINT]);
         } else {
             let mut ends = [g.d.pick(&outside), g.d.pick(&outside)];
-            if ends[0] == ends[1] {
+            // One that is switched off may reach into the set.
+            let across = !inside.is_empty() && g.d.one_in(4);
+            if across {
+                ends[g.d.below(2) as usize] = g.d.pick(&inside);
+            } else if ends[0] == ends[1] {
                 ends[g.d.below(2) as usize] = WORLD;
             }
-            let (words, numbers) = g.joint(&two, ends, false);
+            let (mut words, numbers) = g.joint(&two, ends, false);
+            if across {
+                words[ENABLED] = g.disabled();
+            }
             two.words.extend(words);
             two.numbers.extend(numbers);
         }
@@ -431,6 +457,10 @@ pub fn pairs(side: Side, by: &str, seed: u64, count: u64) {
     println!(
         "{} rows of sets compared, {} of them at other places; {} unnamed numbers drawn anew; {} storages swapped",
         t.rows, t.moved_rows, t.unnamed, t.swaps
+    );
+    println!(
+        "{} joints of sets switched off, {} switched off from a set to a body outside it",
+        t.off, t.across
     );
     for (kind, (granted, refused)) in KINDS.iter().zip(t.granted.iter().zip(t.refused)) {
         println!("  {kind:13} {granted} granted, {refused} refused");

@@ -4,7 +4,7 @@ use crate::answers;
 use crate::bits::{bits, hex};
 use crate::generator::Generator;
 use crate::library::{ORACLE, RENDERING, Side, same_answer, same_study};
-use crate::model::{Answer, Call, KINDS, ROW, Study, refusal};
+use crate::model::{Answer, Call, ENABLED, KINDS, ROW, Study, WORDS, refusal};
 use crate::model_rendering;
 use crate::pairs;
 use std::process::exit;
@@ -24,6 +24,8 @@ struct Tally {
     sweeps: u64,
     sweeps_with_nan: u64,
     largest: [usize; 3],
+    /// Joints that were built, by their `JointEnabled`.
+    off: [u64; 3],
 }
 
 /// A call on which the sides differ: what was handed over, and what each side answered and left.
@@ -57,6 +59,7 @@ impl Run {
                 sweeps: 0,
                 sweeps_with_nan: 0,
                 largest: [0; 3],
+                off: [0; 3],
             },
             limit,
         }
@@ -96,6 +99,10 @@ impl Run {
                 t.rows_with_nan += rows.filter(|r| r.iter().any(|x| x.is_nan())).count() as u64;
                 for j in 0..s.joint_count() {
                     let w = s.joint(j);
+                    t.off[(w[ENABLED] as usize).min(2)] += 1;
+                    if w[ENABLED] != 0 {
+                        continue;
+                    }
                     t.choices[(w[2] << 9 | w[3] << 6 | w[4] << 3 | w[5]) as usize] = true;
                 }
                 for (most, now) in
@@ -184,7 +191,7 @@ pub fn show_study(s: &Study) {
     for n in s.bodies.chunks(10) {
         println!("  body {}", hex(n));
     }
-    for (j, w) in s.words.chunks(9).enumerate() {
+    for (j, w) in s.words.chunks(WORDS).enumerate() {
         println!("  words {j} {w:?}");
     }
     for (j, n) in s.numbers.chunks(42).enumerate() {
@@ -251,6 +258,8 @@ pub fn compare(other: Side, seed: u64, calls: u64) {
     println!(
         "{covered} of 4096 mask choices built; at most {bodies} bodies, {joints} joints, {rows} rows"
     );
+    let [on, by_body, off] = t.off;
+    println!("joints built: {on} enabled, {by_body} disabled by a body, {off} disabled");
     println!(
         "{} rows built, with a NaN {:.1} %; {} sweeps, with a NaN in a velocity {:.1} %",
         t.rows,

@@ -11,8 +11,9 @@ use crate::math::Real;
 
 /// A body's numbers as in `records`, then its velocity.
 pub const BODY: usize = records::BODY + VEL;
-/// The numbers of a joint's two bodies, u32::MAX for the world, then its words as in `records`.
-pub const WORDS: usize = 2 + JOINT_WORDS;
+/// The numbers of a joint's two bodies, u32::MAX for the world, its words as in `records`, then
+/// its `JointEnabled`.
+pub const WORDS: usize = 2 + JOINT_WORDS + 1;
 
 fn solver_bodies(bodies: &[Real]) -> SolverBodies {
     let mut all = SolverBodies::default();
@@ -30,20 +31,25 @@ fn put_vels(all: &SolverBodies, bodies: &mut [Real]) {
     }
 }
 
-fn edges(words: &[u32], numbers: &[Real]) -> Vec<JointGraphEdge> {
-    let joints = words.chunks_exact(WORDS).zip(numbers.chunks_exact(JOINT));
-    joints
-        .map(|(w, n)| records::joint(&w[2..], n, [w[0], w[1]]))
-        .collect()
+fn edge(w: &[u32], n: &[Real]) -> JointGraphEdge {
+    let mut edge = records::joint(&w[2..], n, [w[0], w[1]]);
+    edge.weight.data.enabled = records::enabled(w[2 + JOINT_WORDS]);
+    edge
 }
 
-/// The ids that `update` gives a joint's rows, 4·kind + axis each.
+fn edges(words: &[u32], numbers: &[Real]) -> Vec<JointGraphEdge> {
+    let joints = words.chunks_exact(WORDS).zip(numbers.chunks_exact(JOINT));
+    joints.map(|(w, n)| edge(w, n)).collect()
+}
+
+/// The ids that `update` gives a joint's rows, 4·kind + axis each. A joint that is not enabled is
+/// not among those that the Rust hands to its solver.
 pub fn row_ids(words: &[u32]) -> Vec<u32> {
-    let (rows, count) = tried(
-        &records::joint(&words[2..], &[0.0; JOINT], [0, 1])
-            .weight
-            .data,
-    );
+    let data = edge(words, &[0.0; JOINT]).weight.data;
+    if !data.is_enabled() {
+        return Vec::new();
+    }
+    let (rows, count) = tried(&data);
     let made = rows[..count].iter();
     made.map(|row| records::id_word(row.writeback_id)).collect()
 }
@@ -88,6 +94,9 @@ pub fn build(
     let mut next_row = 0;
     let joints = words.chunks_exact(WORDS).zip(numbers.chunks_exact(JOINT));
     for (j, (w, n)) in joints.enumerate() {
+        if !joints_all[j].weight.data.is_enabled() {
+            continue;
+        }
         let mut builder = generated(&w[2..], n, [w[0], w[1]], j, &mut next_row);
         builder.update_warmstart_seeds(&joints_all);
         builder.update(
@@ -166,6 +175,7 @@ impl Prepared {
             joints: edges(words, numbers),
             builders: joints
                 .enumerate()
+                .filter(|(_, (w, n))| edge(w, n).weight.data.is_enabled())
                 .map(|(j, (w, n))| generated(&w[2..], n, [w[0], w[1]], j, &mut next_row))
                 .collect(),
             rows: rows.chunks_exact(ROW).map(records::row).collect(),

@@ -4,7 +4,8 @@ use crate::dynamics::solver::joint_constraint::{JointConstraint, WritebackId, bl
 use crate::dynamics::solver::solver_body::{SolverPose, SolverVel};
 use crate::dynamics::{
     GenericJoint, ImpulseJoint, ImpulseJointHandle, IntegrationParameters, JointAxesMask,
-    JointGraphEdge, JointLimits, JointMotor, MotorModel, RigidBodyHandle, SpringCoefficients,
+    JointEnabled, JointGraphEdge, JointLimits, JointMotor, MotorModel, RigidBodyHandle,
+    SpringCoefficients,
 };
 use crate::math::{Pose, Real, Rotation, SpatialVector, Vector};
 
@@ -104,6 +105,15 @@ pub(crate) fn joint(words: &[u32], n: &[Real], bodies: [u32; 2]) -> JointGraphEd
             solver_body_ids: bodies,
             solver_color: 0,
         },
+    }
+}
+
+/// The Rust's `JointEnabled` in the order of its declaration; every other word is `Disabled`.
+pub(crate) fn enabled(word: u32) -> JointEnabled {
+    match word {
+        0 => JointEnabled::Enabled,
+        1 => JointEnabled::DisabledByAttachedBody,
+        _ => JointEnabled::Disabled,
     }
 }
 
