@@ -11,7 +11,7 @@ use Rattle.rows.specs.declared.joint_constraint_builder.Warmstart.the-variants.
 use Rattle.rows.specs.declared.joint_velocity_constraint.SolverVel.{SolverVel}
 use Rattle.rows.specs.declared.joint_velocity_constraint.Rows.{Rows}
 use Rattle.rows.specs.declared.row_ids.RowIds.{RowIds}
-use Rattle.model.specs.Store.{masksAt}
+use Rattle.model.specs.JointRows.{rowMasksAt}
 use Rattle.model.specs.Model.{Model, modelOf}
 use Rattle.model.specs.Calls.{Answer, Outcome, run}
 use Rattle.model.specs.Calls.Answer.{granted, total, rowsRead, velocityRead, refused}
@@ -65,7 +65,7 @@ markedNumber o = marked (o .answer) (o .after .built)
 -- ---- a joint's rows and ids, stored
 
 abbrev pub rowsReadAt : ℕ → Model → List Float → RowsAnswer
-rowsReadAt joint m rows = rowsAnswerOf (masksAt (m .words) joint) (run (readRows joint) m rows .answer)
+rowsReadAt joint m rows = rowsAnswerOf (rowMasksAt (m .words) joint) (run (readRows joint) m rows .answer)
 
 abbrev pub rowsGrantedOr : Plain → ℕ → ℕ
 rowsGrantedOr Plain.Granted n = rowsGranted n

@@ -138,7 +138,7 @@ wordAt w i = getD w i 0
 -- the joint: its stored words would start with its two bodies
 unfoldable pub jointFrom : List ℕ → List Float → ImpulseJoint
 jointFrom w x =
-    jointAt (0 ∷ 0 ∷ wordAt w 0 ∷ wordAt w 1 ∷ wordAt w 2 ∷ wordAt w 3 ∷ wordAt w 4 ∷ wordAt w 5 ∷ wordAt w 6 ∷ []) (take numbersWidth (drop 17 x)) 0
+    jointAt (0 ∷ 0 ∷ wordAt w 0 ∷ wordAt w 1 ∷ wordAt w 2 ∷ wordAt w 3 ∷ wordAt w 4 ∷ wordAt w 5 ∷ wordAt w 6 ∷ 0 ∷ []) (take numbersWidth (drop 17 x)) 0
 
 unfoldable pub warmFrom : List ℕ → List Float → Warmstart
 warmFrom w x = cond (eqb (wordAt w 7) 0) Cold (Warm (at x 59))

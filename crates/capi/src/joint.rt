@@ -344,6 +344,7 @@ fn joint_from(words: &[u32], numbers: &[f32]) -> ImpulseJoint
         words[4],
         words[5],
         words[6],
+        0u32,
     ];
     read_joint(&all, &numbers[17..59], 0)
 }

@@ -87,9 +87,9 @@ fn draw_bodies(bodies: &mut [f32]) {
 // Every joint is between bodies 0 and 1; the first has rows.
 fn draw_words(words: &mut [u32]) {
     let mut i = 1usize;
-    while i < 1161 {
+    while i < 1290 {
         set_word(words, i, 1);
-        i += 9;
+        i += 10;
     }
     set_word(words, 2, 6);
     set_word(words, 3, 1);
@@ -143,14 +143,14 @@ fn counts(bodies: &[f32], words: &[u32], numbers: &[f32], rows: &[f32]) {
     if bodies.len() < 1290 {
         return;
     }
-    if words.len() < 1161 {
+    if words.len() < 1290 {
         return;
     }
     if numbers.len() < 5418 {
         return;
     }
     let few = &bodies[0..1280];
-    let some = &words[0..1152];
+    let some = &words[0..1280];
     loaded(b"128 bodies, 128 joints", h, few, some, numbers, rows);
     loaded(b"129 bodies", h, bodies, words, numbers, rows);
     loaded(b"129 joints", h, few, words, numbers, rows);
@@ -159,11 +159,11 @@ fn counts(bodies: &[f32], words: &[u32], numbers: &[f32], rows: &[f32]) {
 // A mask of the second joint, which keeps 0.
 fn masks(bodies: &[f32], words: &mut [u32], numbers: &[f32], rows: &[f32]) {
     let h = header(0.5, false);
-    set_word(words, 14, 7);
+    set_word(words, 15, 7);
     loaded(b"mask 7", h, bodies, words, numbers, rows);
-    set_word(words, 14, 8);
+    set_word(words, 15, 8);
     loaded(b"mask 8", h, bodies, words, numbers, rows);
-    set_word(words, 14, 0);
+    set_word(words, 15, 0);
 }
 
 fn from_the_world(bodies: &[f32], words: &mut [u32], numbers: &[f32], rows: &[f32]) {
@@ -372,6 +372,44 @@ fn builds(bodies: &[f32], words: &[u32], numbers: &[f32], rows: &mut [f32]) {
     );
 }
 
+// ---- the first joint switched off
+
+fn without_rows(bodies: &[f32], words: &[u32], numbers: &[f32], rows: &mut [f32]) {
+    let h = header(0.5, false);
+    let none = &mut rows[0..0];
+    built(
+        b"rows of a build whose one joint with rows is disabled, in no storage",
+        build(h, bodies, words, numbers, none, Warmstart::Cold, 0),
+    );
+    let asked = read_rows(header(0.5, true), bodies, words, numbers, none, 0);
+    let answer = asked.answer;
+    let made = asked.rows;
+    plain(b"a row read of a disabled joint", answer);
+    number(b"rows of a disabled joint", made.len as u64);
+}
+
+fn still_checked(bodies: &[f32], words: &mut [u32], numbers: &[f32], rows: &[f32]) {
+    set_word(words, 5, 8);
+    loaded(
+        b"mask 8 of a disabled joint",
+        header(0.5, false),
+        bodies,
+        words,
+        numbers,
+        rows,
+    );
+    set_word(words, 5, 0);
+}
+
+fn switched_off(bodies: &[f32], words: &mut [u32], numbers: &[f32], rows: &mut [f32]) {
+    set_word(words, 9, 1);
+    without_rows(bodies, words, numbers, rows);
+    set_word(words, 9, 2);
+    without_rows(bodies, words, numbers, rows);
+    still_checked(bodies, words, numbers, rows);
+    set_word(words, 9, 0);
+}
+
 // ---- a sweep
 
 fn mixed(h: u32, x: u32) -> u32 {
@@ -454,8 +492,14 @@ fn indices(bodies: &mut [f32], words: &[u32], numbers: &[f32], rows: &mut [f32])
     sweeps(bodies, words, numbers, rows);
 }
 
-fn edges(bodies: &mut [f32], words: &mut [u32], numbers: &mut [f32], rows: &mut [f32]) {
+// What a joint's words say.
+fn joints(bodies: &[f32], words: &mut [u32], numbers: &[f32], rows: &mut [f32]) {
     named(bodies, words, numbers, rows);
+    switched_off(bodies, words, numbers, rows);
+}
+
+fn edges(bodies: &mut [f32], words: &mut [u32], numbers: &mut [f32], rows: &mut [f32]) {
+    joints(bodies, words, numbers, rows);
     finite(bodies, words, numbers, rows);
     too_soon(bodies, words, numbers, rows);
     indices(bodies, words, numbers, rows);
@@ -463,7 +507,7 @@ fn edges(bodies: &mut [f32], words: &mut [u32], numbers: &mut [f32], rows: &mut 
 
 pub fn models() {
     let mut bodies = [0.0f32; 1290];
-    let mut words = [0u32; 1161];
+    let mut words = [0u32; 1290];
     let mut numbers = [0.0f32; 5418];
     let mut rows = [0.0f32; 54];
     draw_bodies(&mut bodies);
@@ -472,7 +516,7 @@ pub fn models() {
     counts(&bodies, &words, &numbers, &rows);
     edges(
         &mut bodies[0..20],
-        &mut words[0..1152],
+        &mut words[0..1280],
         &mut numbers,
         &mut rows,
     );

@@ -23,7 +23,7 @@ module _ (set : ℕ → Bool) (m : Model) (mark : Bool) (b n : List Float) (size
 
 -- and a joint that ties its bodies after it tied them before
 ties-before : (q : Model) (t : Bool) (c k : List Float) → length k ≡ length (q .numbers) → (j : ℕ) → Ties (model (q .params) t c (q .words) k) j → Ties q j
-ties-before q t c k size j h = record { there = rw (same-joints (q .words) (q .numbers) k size) at (h .there); body1 = h .body1; body2 = h .body2 }
+ties-before q t c k size j h = record { there = rw (same-joints (q .words) (q .numbers) k size) at (h .there); enabled = h .enabled; body1 = h .body1; body2 = h .body2 }
 
 module _ (set : ℕ → Bool) {named : ℕ → WritebackId → Type 0} (m m′ : Model) (mark mark′ : Bool) (b b′ n n′ : List Float)
     (sizeb : length b ≡ length (m .bodies)) (sizeb′ : length b′ ≡ length (m′ .bodies)) (sizen : length n ≡ length (m .numbers)) (sizen′ : length n′ ≡ length (m′ .numbers)) where

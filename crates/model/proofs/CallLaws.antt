@@ -15,8 +15,7 @@ use Rattle.rows.specs.declared.row_ids.RowIds.{RowIds}
 use Rattle.rows.specs.RowIds.{rowIdsArray}
 use Rattle.rows.specs.Update.{rowsArray}
 use Rattle.rows.proofs.RowArrays.{rowsArray-rows, rowIdsArray-ids}
-use Rattle.model.specs.Store.{masksAt}
-use Rattle.model.specs.JointRows.{jointIds, rowCount, rowsList}
+use Rattle.model.specs.JointRows.{jointIds, rowCount, rowsList, rowMasksAt}
 use Rattle.model.specs.Model.{Model, bodyCount, jointCount, rowsBefore, Sound, Room}
 use Rattle.model.specs.Refusals.{mostRounds, Rule, refusal, modelRules, storageRule, sweepRule, builtRule, readsRows, seedsRule, bodyRule, jointRule}
 use Rattle.model.specs.Calls.{Call, outcome, firstRules, ownRules, rulesOf, grantedOf, run, rowsFrom, rowsOf}
@@ -27,7 +26,8 @@ use Rattle.model.specs.declared.calls.Plain.{Plain}
 use Rattle.model.specs.declared.calls.RowsAnswer.{RowsAnswer}
 use Rattle.model.proofs.JointRowsLaws.{few-rows}
 use Rattle.model.proofs.StoredRows.{rowsFrom-length}
-use Rattle.model.proofs.RefusalLaws.{by-cases, Numbered, rule-holds, rule-fails, granted-append, refused-append, model-numbered, first-numbered, call-numbered, Hold, all-hold, ruleOf, hold-number, sound-of, room-of}
+use Rattle.model.proofs.Tests.{by-cases}
+use Rattle.model.proofs.RefusalLaws.{Numbered, rule-holds, rule-fails, granted-append, refused-append, model-numbered, first-numbered, call-numbered, Hold, all-hold, ruleOf, hold-number, sound-of, room-of}
 
 or-true : (t : Bool) → (t || true) ≡ true
 or-true true = refl
@@ -145,9 +145,9 @@ module _ (rest : List Rule) where
 
 -- ---- a row read's answer: the outcome as every call's, and how its arrays are filled
 
-read-ids : (j : ℕ) (m : Model) → idsList (rowIdsArray (masksAt (m .words) j)) ≡ jointIds (m .words) j
+read-ids : (j : ℕ) (m : Model) → idsList (rowIdsArray (rowMasksAt (m .words) j)) ≡ jointIds (m .words) j
 unfolding jointIds
-read-ids j m = rowIdsArray-ids (masksAt (m .words) j)
+read-ids j m = rowIdsArray-ids (rowMasksAt (m .words) j)
 
 read-rows : (j : ℕ) (m : Model) (rows : List Float) → rowsList (rowsArray (rowsFrom rows (rowsBefore (m .words) j) (rowCount (m .words) j))) ≡ rowsOf (m .words) rows j
 unfolding rowsOf
@@ -158,13 +158,13 @@ read-rows j m rows =
 
 module _ (j : ℕ) (m : Model) (rows : List Float) where
   abbrev Promised : RowsAnswer → Type 0
-  Promised r = (outcome (rowsAnswer r) m rows ≡ run (readRows j) m rows) × (r ≡ rowsAnswerOf (masksAt (m .words) j) (run (readRows j) m rows .answer))
+  Promised r = (outcome (rowsAnswer r) m rows ≡ run (readRows j) m rows) × (r ≡ rowsAnswerOf (rowMasksAt (m .words) j) (run (readRows j) m rows .answer))
 
   pub rows-refused : {k : ℕ} {r : RowsAnswer} → r ≡ noRows (Plain.Refused k) → outcome (refused k) m rows ≡ run (readRows j) m rows → Promised r
   unfolding rowsAnswerOf
-  rows-refused e o = (rw e o, e ∙ ap (λ o. rowsAnswerOf (masksAt (m .words) j) (o .answer)) o)
+  rows-refused e o = (rw e o, e ∙ ap (λ o. rowsAnswerOf (rowMasksAt (m .words) j) (o .answer)) o)
 
-  pub rows-granted : {ids : RowIds} {first count : ℕ} {read : Rows} → ids ≡ rowIdsArray (masksAt (m .words) j)
+  pub rows-granted : {ids : RowIds} {first count : ℕ} {read : Rows} → ids ≡ rowIdsArray (rowMasksAt (m .words) j)
       → first ≡ rowsBefore (m .words) j → count ≡ rowCount (m .words) j → read ≡ rowsArray (rowsFrom rows first count)
       → grantedOf (readRows j) m rows ≡ run (readRows j) m rows → Promised (record { answer = Plain.Granted; ids = ids; rows = read })
   unfolding rowsAnswerOf grantedOf rowsOf
@@ -175,5 +175,5 @@ module _ (j : ℕ) (m : Model) (rows : List Float) where
       let first = ap idsList i ∙ read-ids j m in
       let last = ap rowsList same ∙ read-rows j m rows in (
         ap (λ is. outcome (rowsRead is (rowsList read)) m rows) first ∙ ap (λ rs. outcome (rowsRead (jointIds (m .words) j) rs) m rows) last ∙ o,
-        rw (r, f, c, i) (ap (λ o. rowsAnswerOf (masksAt (m .words) j) (o .answer)) o),
+        rw (r, f, c, i) (ap (λ o. rowsAnswerOf (rowMasksAt (m .words) j) (o .answer)) o),
       )

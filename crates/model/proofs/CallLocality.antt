@@ -14,6 +14,7 @@ use Rattle.floats.specs.Operators.{bits}
 use Rattle.rows.specs.RowIds.{filled}
 use Rattle.rows.specs.Update.{blankRow}
 use Rattle.rows.specs.Builder.{builderUpdateOf}
+use Rattle.rows.specs.GenericJoint.{isEnabled}
 use Rattle.rows.specs.Named.{Names, SameNamed}
 use Rattle.rows.specs.declared.integration_parameters.IntegrationParameters.{IntegrationParameters}
 use Rattle.rows.specs.declared.joint_constraint_builder.SolverPose.{SolverPose}
@@ -24,17 +25,19 @@ use Rattle.rows.proofs.BuilderLaws.{first-reads-no-row, cold}
 use Rattle.rows.specs.declared.joint_velocity_constraint.WritebackId.{WritebackId}
 use Rattle.rows.proofs.NamedRows.{same-named}
 use Rattle.rows.proofs.WritebackNamed.{fewer-named}
-use Rattle.model.specs.Store.{world, rowAt, velAt, solverPoseAt, jointAt, masksAt, body1At, body2At}
-use Rattle.model.specs.JointRows.{State, state, jointIds, rowCount, impulsesAt, buildJoint, sweepRow, warmstartRow}
+use Rattle.model.specs.Store.{world, rowAt, velAt, solverPoseAt, jointAt, masksAt, body1At, body2At, enabledAt}
+use Rattle.model.specs.JointRows.{State, state, jointIds, rowCount, impulsesAt, buildJoint, sweepRow, warmstartRow, builtRows}
 use Rattle.model.specs.Model.{Model, bodyCount, jointCount, rowsBefore, Sound, Room}
 use Rattle.model.specs.Refusals.{readsRows}
 use Rattle.model.specs.Calls.{eachJoint, rounds, buildOne, warmstartOne, removeBiasOne, rowsOf, sweepRound}
 use Rattle.model.specs.Studies.{Inside, OfSet, Agree}
+use Rattle.model.proofs.Tests.{by-cases}
+use Rattle.model.proofs.JointRowsLaws.{masks-enabled}
 use Rattle.model.proofs.StoreLaws.{velAt-world, solverPoseAt-world}
 use Rattle.model.proofs.StoredRows.{rowsFrom-at, rowsFrom-same, impulses-of}
 use Rattle.model.proofs.SameStudies.{RowsSame, VelsSame}
 use Rattle.model.proofs.JointLocality.{Split, Alike, sideOf, joints-alike, rows-alike, rounds-together}
-use Rattle.model.proofs.ClosedSet.{layoutOf, InSet, IsWorld, split}
+use Rattle.model.proofs.ClosedSet.{same-enabled, layoutOf, InSet, IsWorld, split}
 use Rattle.model.proofs.RowWorks.{sweepRows, warmRows, biasRows, warm-all, sweep-all, bias-all, lastOf, six-last, pose1, pose2, madeOf, buildSide, row-made}
 
 -- last impulses count only where the build reads them
@@ -138,19 +141,28 @@ module _ (set : ℕ → Bool) {named : ℕ → WritebackId → Type 0} (m m′ :
 
     -- where every id that the joint's masks give it is named
     module _ (gives : (id : WritebackId) → List·Memᴰ id (jointIds (m .words) j) → named j id) where
-      named-same : SameNamed (Names (jointAt (m .words) (m .numbers) j .«data» .masks)) (jointAt (m .words) (m .numbers) j) (jointAt (m′ .words) (m′ .numbers) j)
+      named-same : isEnabled (enabledAt (m .words) j) ≡ true
+          → SameNamed (Names (jointAt (m .words) (m .numbers) j .«data» .masks)) (jointAt (m .words) (m .numbers) j) (jointAt (m′ .words) (m′ .numbers) j)
       unfolding jointIds jointAt masksAt
-      named-same = fewer-named _ _ gives (agree .contents j t)
+      named-same on = fewer-named _ _ (λ id h. gives id (rw (masks-enabled (m .words) j on) h)) (agree .contents j t)
 
-      made-same : (warm : Warmstart) (substep : ℕ) (s s′ : List Float) → (readsRows warm substep ≡ true → RowByRow m m′ j s s′)
-          → madeOf m warm substep j s ≡ madeOf m′ warm substep j s′
-      made-same warm substep s s′ h =
+      enabled-same : isEnabled (enabledAt (m .words) j) ≡ true → (warm : Warmstart) (substep : ℕ) (s s′ : List Float) → (readsRows warm substep ≡ true → RowByRow m m′ j s s′)
+          → builderUpdateOf (m .params) substep warm (pose1 m j) (pose2 m j) (jointAt (m .words) (m .numbers) j) (lastOf m j s)
+          ≡ builderUpdateOf (m′ .params) substep warm (pose1 m′ j) (pose2 m′ j) (jointAt (m′ .words) (m′ .numbers) j) (lastOf m′ j s′)
+      enabled-same on warm substep s s′ h =
           let e1 : pose1 m j ≡ pose1 m′ j = pose-same (body1At (m .words) j) (t .inside1) ∙ rw (agree .bodies1 j t) in
           let e2 : pose2 m j ≡ pose2 m′ j = pose-same (body2At (m .words) j) (t .inside2) ∙ rw (agree .bodies2 j t) in
           last-impulses (m .params) (pose1 m j) (pose2 m j) (jointAt (m .words) (m .numbers) j) warm substep (lastOf m j s) (lastOf m′ j s′) (six-last m j s) (six-last m′ j s′)
           (λ r. ap (λ l. filled 6 (bits 0) l) (impulses-same s s′ (h r)))
-          ∙ same-named (m .params) (pose1 m j) (pose2 m j) (jointAt (m .words) (m .numbers) j) (jointAt (m′ .words) (m′ .numbers) j) named-same substep warm (lastOf m′ j s′)
+          ∙ same-named (m .params) (pose1 m j) (pose2 m j) (jointAt (m .words) (m .numbers) j) (jointAt (m′ .words) (m′ .numbers) j) (named-same on) substep warm (lastOf m′ j s′)
           ∙ rw (agree .params, e1, e2)
+
+      made-same : (warm : Warmstart) (substep : ℕ) (s s′ : List Float) → (readsRows warm substep ≡ true → RowByRow m m′ j s s′)
+          → madeOf m warm substep j s ≡ madeOf m′ warm substep j s′
+      unfolding builtRows
+      made-same warm substep s s′ h =
+          let same = same-enabled m m′ j (agree .contents j t) in
+          by-cases (isEnabled (enabledAt (m .words) j)) (λ on. rw (on, rw same at on) (enabled-same on warm substep s s′ h)) (λ off. rw (off, rw same at off))
 
   pub build-same : ((j : ℕ) (id : WritebackId) → List·Memᴰ id (jointIds (m .words) j) → named j id) → (warm : Warmstart) (substep : ℕ) → (readsRows warm substep ≡ true → RowsSame set m m′ rows rows′) → RowsSame set m m′
       (eachJoint (buildOne m warm substep) 0 (jointCount (m .words) (m .numbers)) rows)

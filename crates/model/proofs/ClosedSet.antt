@@ -1,5 +1,5 @@
 -- The joints of two models that agree on a closed set: the set's joints are there in both, between the same bodies and with the same ids, and every other joint
--- of either has no body of the set (`split`).
+-- of either has no body of the set or, where it is not enabled, no rows (`split`).
 use Prim.Native.Nat.{ℕ, suc, _+_, _<_}
 use mathlib.Core.Path.{_≡_, refl, sym, _∙_}
 use mathlib.Core.Logic.{_≢_, _⊎_, inl, inr, ⊎-elim, Dec·and}
@@ -7,19 +7,27 @@ use mathlib.Core.Bool.{Bool, true, Bool-discrete}
 use mathlib.Core.List.{List}
 use native.Mathlib.Decide.{ℕ-discrete, decLt, map-dec}
 use native.Mathlib.Omega.{arith}
+use Rattle.rows.specs.GenericJoint.{isEnabled}
 use Rattle.rows.specs.Named.{SameNamed}
 use Rattle.rows.specs.declared.joint_velocity_constraint.WritebackId.{WritebackId}
-use Rattle.model.specs.Store.{world, jointAt, masksAt, body1At, body2At}
-use Rattle.model.specs.JointRows.{jointIds, rowCount}
+use Rattle.model.specs.Store.{world, jointAt, masksAt, body1At, body2At, enabledAt}
+use Rattle.model.specs.JointRows.{jointIds, rowCount, rowMasksAt}
 use Rattle.model.specs.Model.{Model, bodyCount, jointCount, rowsBefore, Sound}
 use Rattle.model.specs.Studies.{Inside, OfSet, Closed, Agree}
+use Rattle.model.proofs.Tests.{by-cases}
+use Rattle.model.proofs.JointRowsLaws.{count-disabled}
 use Rattle.model.proofs.JointLocality.{Layout, Joint, Foreign, Split}
 
 -- joints of equal contents have the same ids
 pub same-ids : {named : WritebackId → Type 0} (m m′ : Model) (j : ℕ) → SameNamed named (jointAt (m .words) (m .numbers) j) (jointAt (m′ .words) (m′ .numbers) j)
     → jointIds (m .words) j ≡ jointIds (m′ .words) j
-unfolding jointIds jointAt masksAt
-same-ids m m′ j s = rw (s .masks)
+unfolding jointIds rowMasksAt jointAt masksAt enabledAt
+same-ids m m′ j s = rw (s .masks, s .enabled)
+
+pub same-enabled : {named : WritebackId → Type 0} (m m′ : Model) (j : ℕ) → SameNamed named (jointAt (m .words) (m .numbers) j) (jointAt (m′ .words) (m′ .numbers) j)
+    → enabledAt (m .words) j ≡ enabledAt (m′ .words) j
+unfolding jointAt enabledAt
+same-enabled m m′ j s = s .enabled
 
 pub next-first : (words : List ℕ) (j : ℕ) → rowsBefore words (suc j) ≡ rowsBefore words j + rowCount words j
 unfolding rowsBefore
@@ -67,17 +75,19 @@ module _ (set : ℕ → Bool) where
     pub no-world : (b : ℕ) → InSet b → b ≢ world
     no-world b s e = omega (arith, present b s, ok .few)
 
-    -- a joint with a body of the set is the set's
+    -- a joint that is enabled and has a body of the set is the set's
     foreign-of : Closed set m → (j : ℕ) → (OfSet set m j → ⊥) → j < jointCount (m .words) (m .numbers) → Foreign (layoutOf m) InSet j
     foreign-of closed j f h b s =
         let b1 : ℕ = body1At (m .words) j in
         let b2 : ℕ = body2At (m .words) j in
-        inl (
+        by-cases (isEnabled (enabledAt (m .words) j))
+        (λ on. inl (
           λ e. let t : InSet b1 = rw (← e) s in
-              f (record { there = h; inside1 = inl t; inside2 = inside-other b1 b2 t (λ w. closed j (record { there = h; body1 = no-world b1 t; body2 = w })) }),
+              f (record { there = h; inside1 = inl t; inside2 = inside-other b1 b2 t (λ w. closed j (record { there = h; enabled = on; body1 = no-world b1 t; body2 = w })) }),
           λ e. let t : InSet b2 = rw (← e) s in
-              f (record { there = h; inside1 = inside-other b2 b1 t (λ w. sym (closed j (record { there = h; body1 = w; body2 = no-world b2 t }))); inside2 = inl t }),
-        )
+              f (record { there = h; inside1 = inside-other b2 b1 t (λ w. sym (closed j (record { there = h; enabled = on; body1 = w; body2 = no-world b2 t }))); inside2 = inl t }),
+        ))
+        (λ off. inr (count-disabled (m .words) j off))
 
   module _ {named : ℕ → WritebackId → Type 0} (m m′ : Model) (agree : Agree set named m m′) (ok : Sound m) (ok′ : Sound m′) where
     joint-of : (j : ℕ) → OfSet set m j → Joint (layoutOf m) (layoutOf m′) InSet IsWorld j

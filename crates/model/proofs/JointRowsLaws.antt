@@ -1,6 +1,7 @@
 -- One joint's rows in storage, one turn of a loop at a time: what is left of the work at a turn is the turn's row and what is left at the next one,
--- and at the end nothing is left. The rows that are made are as many as the joint's masks name, at most six.
+-- and at the end nothing is left. The rows that are made are as many as the joint's masks name, at most six; a joint that is not enabled makes none.
 use mathlib.Core.Path.{_≡_, refl, ap, _∙_}
+use mathlib.Core.Bool.{Bool, true, false}
 use mathlib.Core.List.{List, [], _∷_, _++_}
 use Prim.Native.Nat.{ℕ, zero, suc, _+_, _*_, _-_, _≤_, _<_}
 use native.Mathlib.Nat.{add-assoc, add-zero}
@@ -10,11 +11,14 @@ use lib.ListN.{length, getD, set, take, drop, drop-of-length-le}
 use lib.Seq.{drop-cons, getD-take, length-take-le}
 use lib.Ieee.{Float, nan}
 use Rattle.floats.specs.Operators.{bits}
-use Rattle.rows.specs.RowIds.{filled, rowIdsArray}
+use Rattle.rows.specs.GenericJoint.{isEnabled}
+use Rattle.rows.specs.RowIds.{noMasks, filled, rowIdsArray}
 use Rattle.rows.specs.Update.{rowsArray}
 use Rattle.rows.specs.Builder.{builderUpdateOf}
 use Rattle.rows.specs.Step.{stepOf, removeBiasOf}
 use Rattle.rows.specs.declared.integration_parameters.IntegrationParameters.{IntegrationParameters}
+use Rattle.rows.specs.declared.generic_joint.Masks.{Masks}
+use Rattle.rows.specs.declared.generic_joint.JointEnabled.{JointEnabled}
 use Rattle.rows.specs.declared.joint_constraint_builder.SolverPose.{SolverPose}
 use Rattle.rows.specs.declared.joint_constraint_builder.ImpulseJoint.{ImpulseJoint}
 use Rattle.rows.specs.declared.joint_constraint_builder.Warmstart.{Warmstart}
@@ -28,10 +32,12 @@ use Rattle.rows.specs.declared.row_ids.RowId.{RowId}
 use Rattle.rows.specs.declared.row_ids.RowIds.{RowIds}
 use Rattle.rows.proofs.Filled.{set-filled, length-filled}
 use Rattle.rows.proofs.RowIdsCount.{at-most-six}
+use Rattle.rows.proofs.RowIdsLaws.{no-ids}
 use Rattle.rows.proofs.RowArrays.{rowsArray-len, rowsArray-rows, rowIdsArray-len, rowIdsArray-id, length-builderUpdateOf}
 use Rattle.model.specs.Layout.{rowWidth}
-use Rattle.model.specs.Store.{rowAt, putRow, velAt, putVel, solverPoseAt, jointAt, masksAt, body1At, body2At, putSeed}
-use Rattle.model.specs.JointRows.{State, state, jointIds, rowCount, rowsList, putRows, buildJoint, impulsesAt, sweepRow, sweepJoint, warmstartRow, warmstartJoint, removeBiasJoint, writeBackIds}
+use Rattle.model.specs.Store.{rowAt, putRow, velAt, putVel, solverPoseAt, jointAt, masksAt, body1At, body2At, putSeed, enabledAt}
+use Rattle.model.specs.JointRows.{State, state, jointIds, rowCount, rowsList, putRows, buildJoint, impulsesAt, sweepRow, sweepJoint, warmstartRow, warmstartJoint, removeBiasJoint, writeBackIds, rowMasksAt, builtRows}
+use Rattle.model.proofs.Tests.{by-cases}
 
 pub less : (n i : ℕ) → i < n → n - i ≡ suc (n - (i + 1))
 less n i h = omega arith
@@ -89,21 +95,61 @@ put-done s k i n l g h = rw (drop-of-length-le (take n l) {i = i} (omega (arith,
 
 -- ---- rows made
 
+-- a joint that is enabled has the rows that its own masks give it
+pub masks-enabled : (words : List ℕ) (j : ℕ) → isEnabled (enabledAt words j) ≡ true → rowMasksAt words j ≡ masksAt words j
+unfolding rowMasksAt
+masks-enabled words j on = rw on
+
+-- the masks that count, from what is read in turn
+module _ (words : List ℕ) (j : ℕ) {e : JointEnabled} {b : Bool} (i : e ≡ enabledAt words j) (t : b ≡ isEnabled e) where
+  pub read-enabled : b ≡ true → isEnabled (enabledAt words j) ≡ true
+  read-enabled on = rw (← i, ← t) on
+
+  pub read-disabled : b ≡ false → isEnabled (enabledAt words j) ≡ false
+  read-disabled off = rw (← i, ← t) off
+
+  pub own-masks : {masks : Masks} → b ≡ true → masks ≡ masksAt words j → masks ≡ rowMasksAt words j
+  own-masks {masks} on m = rw (masks-enabled words j (read-enabled on)) m
+
+  pub no-masks : {masks : Masks} → b ≡ false → masks ≡ noMasks → masks ≡ rowMasksAt words j
+  unfolding rowMasksAt
+  no-masks {masks} off m = rw (read-disabled off) m
+
+-- and one that is not has none
+pub ids-disabled : (words : List ℕ) (j : ℕ) → isEnabled (enabledAt words j) ≡ false → jointIds words j ≡ []
+unfolding jointIds rowMasksAt
+ids-disabled words j off = rw off no-ids
+
+pub count-disabled : (words : List ℕ) (j : ℕ) → isEnabled (enabledAt words j) ≡ false → rowCount words j ≡ 0
+unfolding rowCount
+count-disabled words j off = rw (ids-disabled words j off)
+
 pub few-rows : (words : List ℕ) (j : ℕ) {n : ℕ} → n ≡ rowCount words j → n ≤ 6
 unfolding jointIds rowCount
-few-rows words j e = omega (arith, e, at-most-six (masksAt words j))
+few-rows words j e = omega (arith, e, at-most-six (rowMasksAt words j))
 
 pub length-built : (params : IntegrationParameters) (substep : ℕ) (warm : Warmstart) (body1 body2 : SolverPose) (words : List ℕ) (numbers : List Float) (j : ℕ) (prevs : List Float)
-    → length prevs ≡ 6 → length (builderUpdateOf params substep warm body1 body2 (jointAt words numbers j) prevs) ≡ rowCount words j
+    → isEnabled (enabledAt words j) ≡ true → length prevs ≡ 6
+    → length (builderUpdateOf params substep warm body1 body2 (jointAt words numbers j) prevs) ≡ rowCount words j
 unfolding jointIds rowCount jointAt masksAt
-length-built params substep warm body1 body2 words numbers j prevs six = length-builderUpdateOf params substep warm body1 body2 (jointAt words numbers j) prevs six
+length-built params substep warm body1 body2 words numbers j prevs on six =
+    length-builderUpdateOf params substep warm body1 body2 (jointAt words numbers j) prevs six ∙ rw (masks-enabled words j on)
+
+-- as many rows are made as the joint has ids
+pub length-builtRows : (params : IntegrationParameters) (substep : ℕ) (warm : Warmstart) (bodies : List Float) (words : List ℕ) (numbers : List Float) (j : ℕ) (prevs : List Float)
+    → length prevs ≡ 6 → length (builtRows params bodies words numbers j warm substep prevs) ≡ rowCount words j
+unfolding builtRows
+length-builtRows params substep warm bodies words numbers j prevs six =
+    by-cases (isEnabled (enabledAt words j))
+    (λ on. rw on (length-built params substep warm (solverPoseAt bodies (body1At words j)) (solverPoseAt bodies (body2At words j)) words numbers j prevs on six))
+    (λ off. rw (off, count-disabled words j off))
 
 module _ (params : IntegrationParameters) (substep : ℕ) (warm : Warmstart) (body1 body2 : SolverPose) (words : List ℕ) (numbers : List Float) (j : ℕ)
     (rows : List Float) (first n : ℕ) {joint : ImpulseJoint} {prevs : List Float} {made : Rows}
-    (e : joint ≡ jointAt words numbers j) (p : prevs ≡ filled 6 (bits 0) (impulsesAt rows first n))
+    (on : isEnabled (enabledAt words j) ≡ true) (e : joint ≡ jointAt words numbers j) (p : prevs ≡ filled 6 (bits 0) (impulsesAt rows first n))
     (m : made ≡ rowsArray (builderUpdateOf params substep warm body1 body2 joint prevs)) where
   count : length (builderUpdateOf params substep warm body1 body2 joint prevs) ≡ rowCount words j
-  count = rw e (length-built params substep warm body1 body2 words numbers j prevs (rw p (length-filled (bits 0) 6 (impulsesAt rows first n))))
+  count = rw e (length-built params substep warm body1 body2 words numbers j prevs on (rw p (length-filled (bits 0) 6 (impulsesAt rows first n))))
 
   -- the array of the rows that are made: their number, and the rows themselves
   pub built-len : made .len ≡ rowCount words j
@@ -115,13 +161,19 @@ module _ (params : IntegrationParameters) (substep : ℕ) (warm : Warmstart) (bo
 -- a joint's rows made anew, from what is read and stored in turn
 pub build-steps : (params : IntegrationParameters) (substep : ℕ) (warm : Warmstart) (bodies : List Float) (words : List ℕ) (numbers : List Float) (j : ℕ)
     (rows : List Float) (first : ℕ) {n i1 i2 : ℕ} {body1 body2 : SolverPose} {joint : ImpulseJoint} {prevs : List Float} {made : Rows} {rows′ : List Float}
-    → n ≡ rowCount words j → prevs ≡ filled 6 (bits 0) (impulsesAt rows first n) → joint ≡ jointAt words numbers j
+    → isEnabled (enabledAt words j) ≡ true → n ≡ rowCount words j → prevs ≡ filled 6 (bits 0) (impulsesAt rows first n) → joint ≡ jointAt words numbers j
     → i1 ≡ body1At words j → body1 ≡ solverPoseAt bodies i1 → i2 ≡ body2At words j → body2 ≡ solverPoseAt bodies i2
     → made ≡ rowsArray (builderUpdateOf params substep warm body1 body2 joint prevs) → rows′ ≡ putRows rows first (rowsList made)
     → rows′ ≡ buildJoint params bodies words numbers j first warm substep rows
-unfolding buildJoint
-build-steps params substep warm bodies words numbers j rows first {n} {body1 = body1} {body2 = body2} c p e i1 b1 i2 b2 m s =
-    s ∙ rw (built-rows params substep warm body1 body2 words numbers j rows first n e p m, b1, i1, b2, i2, p, e, c)
+unfolding buildJoint builtRows
+build-steps params substep warm bodies words numbers j rows first {n} {body1 = body1} {body2 = body2} on c p e i1 b1 i2 b2 m s =
+    s ∙ rw (built-rows params substep warm body1 body2 words numbers j rows first n on e p m, b1, i1, b2, i2, p, e, c, on)
+
+-- where it is not enabled, nothing is stored
+pub build-disabled : (params : IntegrationParameters) (substep : ℕ) (warm : Warmstart) (bodies : List Float) (words : List ℕ) (numbers : List Float) (j first : ℕ)
+    (rows : List Float) → isEnabled (enabledAt words j) ≡ false → rows ≡ buildJoint params bodies words numbers j first warm substep rows
+unfolding buildJoint builtRows putRows
+build-disabled params substep warm bodies words numbers j first rows off = rw off
 
 -- ---- rows at work
 
@@ -163,18 +215,18 @@ bias-done n i k rows h = rw (none n i h)
 
 -- ---- impulses written back
 
-pub ids-len : (words : List ℕ) (j : ℕ) {ids : RowIds} → ids ≡ rowIdsArray (masksAt words j) → ids .len ≡ rowCount words j
+pub ids-len : (words : List ℕ) (j : ℕ) {ids : RowIds} → ids ≡ rowIdsArray (rowMasksAt words j) → ids .len ≡ rowCount words j
 unfolding jointIds rowCount
-ids-len words j e = ap (λ m. m .len) e ∙ rowIdsArray-len (masksAt words j)
+ids-len words j e = ap (λ m. m .len) e ∙ rowIdsArray-len (rowMasksAt words j)
 
 -- the ids left at turn i, once the turn's impulse is stored
 pub back-turn : (rows : List Float) (words : List ℕ) (k j i : ℕ) (numbers : List Float) (d : RowId) {ids : RowIds} {numbers′ : List Float}
-    → i < rowCount words j → ids ≡ rowIdsArray (masksAt words j) → numbers′ ≡ putSeed numbers j (getD (ids .ids) i d .id) (getD rows ((k + i) * rowWidth) nan)
+    → i < rowCount words j → ids ≡ rowIdsArray (rowMasksAt words j) → numbers′ ≡ putSeed numbers j (getD (ids .ids) i d .id) (getD rows ((k + i) * rowWidth) nan)
     → writeBackIds rows (k + (i + 1)) j (drop (i + 1) (jointIds words j)) numbers′ ≡ writeBackIds rows (k + i) j (drop i (jointIds words j)) numbers
 unfolding writeBackIds jointIds rowCount
 back-turn rows words k j i numbers d {ids} h e g =
     let is : List WritebackId = jointIds words j in
-    let r : getD (ids .ids) i d .id ≡ getD is i (Dof 0) = ap (λ m. getD (m .ids) i d .id) e ∙ rowIdsArray-id (masksAt words j) i d (Dof 0) h in
+    let r : getD (ids .ids) i d .id ≡ getD is i (Dof 0) = ap (λ m. getD (m .ids) i d .id) e ∙ rowIdsArray-id (rowMasksAt words j) i d (Dof 0) h in
     rw (drop-cons is i (Dof 0) h, g, r, ← impulse-read rows (k + i), ← add-assoc k i 1, add-one i)
 
 pub back-done : (rows : List Float) (words : List ℕ) (k j i : ℕ) (numbers : List Float) {n : ℕ} → n ≡ rowCount words j → n ≤ i

@@ -29,7 +29,8 @@ use Rattle.model.specs.Calls.Answer.{refused}
 use Rattle.model.specs.Calls.{Call, Outcome, outcome, rulesOf, grantedOf, run, eachJoint, rounds, buildOne, warmstartOne, sweepOne, sweepRound, removeBiasOne, writeBackOne}
 use Rattle.model.proofs.Strided.{length-puts, num-beside, num-other, num-stored}
 use Rattle.model.proofs.CallLaws.{run-granted, run-refused}
-use Rattle.model.proofs.RefusalLaws.{by-cases, both, Numbered, Hold, all-hold, refused-append, all-at, all-below, all-cong, all-intro, RulesHold, arguments-finite, rules-rest}
+use Rattle.model.proofs.Tests.{by-cases}
+use Rattle.model.proofs.RefusalLaws.{both, Numbered, Hold, all-hold, refused-append, all-at, all-below, all-cong, all-intro, RulesHold, arguments-finite, rules-rest}
 use Rattle.model.proofs.CountLaws.{body-there}
 use Rattle.model.proofs.StoreLaws.{length-putRow, length-putPose, length-putSeed, num-putSeed-kept, num-putSeed-other, putSeed-past}
 

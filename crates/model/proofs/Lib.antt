@@ -1,3 +1,4 @@
+pub mod Tests
 pub mod Strided
 pub mod StoreLaws
 pub mod WritebackLaws

@@ -8,18 +8,17 @@ use lib.Seq.{drop-set-lt}
 use lib.Ieee.{Float}
 use Rattle.floats.specs.Operators.{bits}
 use Rattle.rows.specs.RowIds.{filled}
-use Rattle.rows.specs.Builder.{builderUpdateOf}
 use Rattle.rows.specs.declared.joint_constraint_builder.Warmstart.{Warmstart}
 use Rattle.rows.specs.declared.joint_velocity_constraint.JointConstraint.{JointConstraint}
 use Rattle.rows.proofs.Filled.{length-filled}
 use Rattle.model.specs.Layout.{rowWidth}
 use Rattle.model.specs.Records.{puts}
-use Rattle.model.specs.Store.{rowNumbers, putRow, solverPoseAt, jointAt, body1At, body2At}
-use Rattle.model.specs.JointRows.{State, state, rowCount, putRows, impulsesAt, buildJoint, sweepRow, sweepJoint, removeBiasJoint}
+use Rattle.model.specs.Store.{rowNumbers, putRow, body1At, body2At}
+use Rattle.model.specs.JointRows.{State, state, rowCount, putRows, impulsesAt, buildJoint, sweepRow, sweepJoint, removeBiasJoint, builtRows}
 use Rattle.model.specs.Model.{Model, jointCount, rowsBefore, totalRows}
 use Rattle.model.specs.Calls.{Call, Outcome, eachJoint, rounds, buildOne, sweepOne, sweepRound, removeBiasOne, grantedOf, run}
 use Rattle.model.specs.Calls.Call.{load, place, build, warmStart, sweep, removeBias, writeBack, readRows, readVelocity}
-use Rattle.model.proofs.JointRowsLaws.{length-built}
+use Rattle.model.proofs.JointRowsLaws.{length-builtRows}
 use Rattle.model.proofs.CountLaws.{rowsBefore-mono}
 use Rattle.model.proofs.Keeps.{run-cases}
 
@@ -79,12 +78,10 @@ module _ (m : Model) (rows : List Float) where
   build-past : (warm : Warmstart) (substep j : ℕ) (s : List Float) → j < jointCount (m .words) (m .numbers) → Past total s (buildOne m warm substep j s)
   unfolding buildOne buildJoint
   build-past warm substep j s h =
-      let body1 = solverPoseAt (m .bodies) (body1At (m .words) j) in
-      let body2 = solverPoseAt (m .bodies) (body2At (m .words) j) in
       let last = impulsesAt s (rowsBefore (m .words) j) (rowCount (m .words) j) in
       let prevs = filled 6 (bits 0) last in
-      rows-past total (builderUpdateOf (m .params) substep warm body1 body2 (jointAt (m .words) (m .numbers) j) prevs) s (rowsBefore (m .words) j)
-      (rw (length-built (m .params) substep warm body1 body2 (m .words) (m .numbers) j prevs (length-filled (bits 0) 6 last)) (ends j h))
+      rows-past total (builtRows (m .params) (m .bodies) (m .words) (m .numbers) j warm substep prevs) s (rowsBefore (m .words) j)
+      (rw (length-builtRows (m .params) substep warm (m .bodies) (m .words) (m .numbers) j prevs (length-filled (bits 0) 6 last)) (ends j h))
 
   sweep-past : (j : ℕ) (st : State) → j < jointCount (m .words) (m .numbers) → Past total (st .rows) (sweepOne (m .words) j st .rows)
   unfolding sweepOne

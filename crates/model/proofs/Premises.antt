@@ -7,20 +7,22 @@ use Prim.Native.Nat.{ℕ}
 use mathlib.Core.Path.{_≡_, refl, sym, ap, _∙_}
 use mathlib.Core.Logic.{_≢_, ⊎-elim}
 use mathlib.Core.Bool.{Bool, true, false, false≢true}
-use mathlib.Core.List.{List, [], _∷_}
+use mathlib.Core.List.{List, [], _∷_, List·Memᴰ, List·Memᴰ·not-nil}
 use borrow.Author.Tests.{lt-ltb, ltb-true}
 use lib.Dec.{ltb}
 use lib.Ieee.{Float}
+use Rattle.rows.specs.GenericJoint.{isEnabled}
 use Rattle.rows.specs.Named.{SameNamed}
 use Rattle.rows.specs.declared.joint_constraint_builder.ImpulseJoint.{ImpulseJoint}
 use Rattle.rows.specs.declared.joint_velocity_constraint.WritebackId.{WritebackId}
-use Rattle.model.specs.Store.{world, Present, body1At, body2At}
+use Rattle.model.specs.Store.{world, Present, body1At, body2At, enabledAt}
 use Rattle.model.specs.Model.{Model, bodyCount, Sound, Room}
 use Rattle.model.specs.Calls.{Call, Answer, Outcome, outcome, table, grantedOf, run, refusalOf}
 use Rattle.model.specs.Calls.Call.{load}
 use Rattle.model.specs.Calls.Answer.{granted, total, rowsRead, velocityRead, refused}
 use Rattle.model.specs.Traces.{Study, Position, left, handed, AtEach, Returned}
-use Rattle.model.specs.Studies.{planar, Loaded, Enough, Ties, Agree, MakesRows, NamesAt, Names, withoutTotal, Compared}
+use Rattle.model.specs.Studies.{planar, Loaded, Enough, Ties, Agree, MakesRows, NamesAt, Names, withoutTotal, Compared, HasRow}
+use Rattle.model.proofs.JointRowsLaws.{ids-disabled}
 use Rattle.model.proofs.CountLaws.{there-body}
 use Rattle.model.proofs.RefusalLaws.{sound-held}
 use Rattle.model.proofs.CallLaws.{run-granted}
@@ -97,6 +99,14 @@ whole-answer (rowsRead ids rows) h = refl
 whole-answer (velocityRead v) h = refl
 whole-answer (refused k) h = refl
 
+-- a joint that is not enabled ties nothing: bodies between which there is no other may be in separate sets
+pub disabled-ties-nothing : (m : Model) (j : ℕ) → isEnabled (enabledAt (m .words) j) ≡ false → Ties m j → ⊥
+disabled-ties-nothing m j off t = false≢true (sym off ∙ t .enabled)
+
+-- and names nothing
+pub disabled-no-row : (m : Model) (j : ℕ) (id : WritebackId) → isEnabled (enabledAt (m .words) j) ≡ false → HasRow m j id → ⊥
+disabled-no-row m j id off h = List·Memᴰ·not-nil (rw (ids-disabled (m .words) j off) at h)
+
 -- ---- a study and itself
 
 same-named-self : (named : WritebackId → Type 0) (j : ImpulseJoint) → SameNamed named j j
@@ -105,6 +115,7 @@ same-named-self named j = record {
   frame2 = refl;
   masks = refl;
   softness = refl;
+  enabled = refl;
   motor = λ i n. refl;
   limits = λ i n. refl;
   center = λ n. refl;

@@ -18,14 +18,10 @@ use Rattle.model.specs.Refusals.{Rule, rule, refusal, all, atMost, masks
 use Rattle.model.specs.Calls.{Call, Asked, Own, ownRule, table, handedRules, askedRules, firstRules, ownRules, rulesOf}
 use Rattle.model.specs.Calls.Own.{fewRounds, afterBuild, rowsToRead}
 use Rattle.model.specs.Calls.Asked.{nothing, body, joint}
+use Rattle.model.proofs.Tests.{by-cases}
 use Rattle.model.proofs.CountLaws.{body-there}
 
 -- ---- tests
-
--- by cases on a test, each with its equation
-pub by-cases : {P : Type 0} (t : Bool) → (t ≡ true → P) → (t ≡ false → P) → P
-by-cases true f g = f refl
-by-cases false f g = g refl
 
 -- the test behind a flag that the code negates
 pub holds : {t a : Bool} → t ≡ a → not t ≡ false → a ≡ true

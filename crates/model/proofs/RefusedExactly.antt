@@ -14,7 +14,8 @@ use Rattle.model.specs.Refusals.{refusal}
 use Rattle.model.specs.Calls.{Call, Answer, Outcome, outcome, refusalOf, rulesOf, grantedOf, run}
 use Rattle.model.specs.Calls.Call.{load, place, build, warmStart, sweep, removeBias, writeBack, readRows, readVelocity}
 use Rattle.model.specs.Calls.Answer.{granted, total, rowsRead, velocityRead, refused}
-use Rattle.model.proofs.RefusalLaws.{by-cases, First, Hold, refused-first, first-refused, all-hold, hold-granted, call-numbered}
+use Rattle.model.proofs.Tests.{by-cases}
+use Rattle.model.proofs.RefusalLaws.{First, Hold, refused-first, first-refused, all-hold, hold-granted, call-numbered}
 use Rattle.model.proofs.CallLaws.{run-granted, run-refused}
 
 -- an answer is a refusal

@@ -20,11 +20,11 @@ use Rattle.rows.specs.declared.joint_velocity_constraint.SolverVel.{SolverVel}
 use Rattle.rows.proofs.Filled.{length-filled}
 use Rattle.model.specs.Layout.{rowWidth, bodyWidth}
 use Rattle.model.specs.Store.{world, rowAt, putRow, velAt, putVel, solverPoseAt, jointAt, body1At, body2At}
-use Rattle.model.specs.JointRows.{State, rowCount, impulsesAt, buildJoint, sweepRow, sweepJoint, warmstartRow, warmstartJoint, removeBiasJoint}
+use Rattle.model.specs.JointRows.{State, rowCount, impulsesAt, buildJoint, sweepRow, sweepJoint, warmstartRow, warmstartJoint, removeBiasJoint, builtRows}
 use Rattle.model.specs.Model.{Model, bodyCount, jointCount, rowCapacity, rowsBefore, Sound, Room}
 use Rattle.model.specs.Calls.{eachJoint, buildOne, warmstartOne, sweepOne, removeBiasOne, sweepRound}
 use Rattle.model.proofs.StoreLaws.{length-putRow, rowAt-putRow, rowAt-putRow-other, length-putVel, velAt-putVel, velAt-putVel-other}
-use Rattle.model.proofs.JointRowsLaws.{length-built}
+use Rattle.model.proofs.JointRowsLaws.{length-builtRows}
 use Rattle.model.proofs.StoredRows.{length-putRows, putRows-other, putRows-at}
 use Rattle.model.proofs.JointLocality.{before-later, not-among, Side, Acted, RowWork, jointWork}
 use Rattle.model.proofs.ClosedSet.{layoutOf, InSet, no-world}
@@ -170,10 +170,10 @@ pose2 m j = solverPoseAt (m .bodies) (body2At (m .words) j)
 module _ (m : Model) (warm : Warmstart) (substep : ℕ) where
   -- joint j's rows as a build makes them
   abbrev pub madeOf : ℕ → List Float → List JointConstraint
-  madeOf j s = builderUpdateOf (m .params) substep warm (pose1 m j) (pose2 m j) (jointAt (m .words) (m .numbers) j) (lastOf m j s)
+  madeOf j s = builtRows (m .params) (m .bodies) (m .words) (m .numbers) j warm substep (lastOf m j s)
 
   pub length-made : (j : ℕ) (s : List Float) → length (madeOf j s) ≡ rowCount (m .words) j
-  length-made j s = length-built (m .params) substep warm (pose1 m j) (pose2 m j) (m .words) (m .numbers) j (lastOf m j s) (six-last m j s)
+  length-made j s = length-builtRows (m .params) substep warm (m .bodies) (m .words) (m .numbers) j (lastOf m j s) (six-last m j s)
 
   module _ (rows : List Float) (room : Room m rows) where
     unfoldable pub buildSide : Side (List Float) JointConstraint (Unit {0}) (layoutOf m)

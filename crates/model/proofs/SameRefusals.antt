@@ -14,7 +14,8 @@ use Rattle.model.specs.Calls.{Call, Asked, Own, ownRule, table, handedRu
 use Rattle.model.specs.Calls.Own.{fewRounds, afterBuild, rowsToRead}
 use Rattle.model.specs.Calls.Asked.{nothing, body, joint}
 use Rattle.model.specs.Studies.{Agree, AboutSet, SameAsked}
-use Rattle.model.proofs.RefusalLaws.{by-cases, rule-holds, RulesHold, rules-rest, rules-arguments}
+use Rattle.model.proofs.Tests.{by-cases}
+use Rattle.model.proofs.RefusalLaws.{rule-holds, RulesHold, rules-rest, rules-arguments}
 
 storage-holds : (m : Model) (rows : List Float) (rest : List Rule) → Room m rows → refusal (storageRule m rows ∷ rest) ≡ refusal rest
 unfolding storageRule

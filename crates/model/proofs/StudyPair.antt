@@ -20,8 +20,8 @@ use Rattle.rows.specs.declared.integration_parameters.IntegrationParameters.{In
 use Rattle.rows.specs.declared.joint_constraint_builder.Warmstart.the-variants.{Cold}
 use Rattle.rows.specs.declared.joint_velocity_constraint.WritebackId.{WritebackId}
 use Rattle.rows.specs.declared.joint_velocity_constraint.WritebackId.the-variants.{Dof, Limit, Motor}
-use Rattle.model.specs.Store.{world, solverPoseAt, velAt, jointAt, masksAt, body1At, body2At}
-use Rattle.model.specs.JointRows.{jointIds, rowCount}
+use Rattle.model.specs.Store.{world, solverPoseAt, velAt, jointAt, masksAt, body1At, body2At, enabledAt}
+use Rattle.model.specs.JointRows.{jointIds, rowCount, rowMasksAt}
 use Rattle.model.specs.Model.{Model, model, bodyCount, jointCount, rowCapacity, rowsBefore}
 use Rattle.model.specs.Refusals.{refusal, all, masksFit, presentOrWorld, bodiesPresent, bodiesApart, finiteFrom, noNanFrom, finiteParams, finiteWarm, finiteBody, finiteMotor, finiteJoint, modelRules, storageRule, seedsRule, readsRows}
 use Rattle.model.specs.Calls.{rulesOf, grantedOf}
@@ -55,9 +55,9 @@ bodyAt x = one ∷ o ∷ x ∷ o ∷ one ∷ one ∷ one ∷ o ∷ o ∷ o ∷ [
 abbrev jointWith : Float → List Float
 jointWith v = one ∷ o ∷ o ∷ o ∷ one ∷ o ∷ o ∷ o ∷ (replicate 9 o ++ (v ∷ replicate 24 o))
 
--- the words of a joint between two bodies that locks some axes
+-- the words of a joint between two bodies, enabled, that locks some axes
 abbrev locking : ℕ → ℕ → ℕ → List ℕ
-locking b1 b2 axes = b1 ∷ b2 ∷ axes ∷ replicate 6 0
+locking b1 b2 axes = b1 ∷ b2 ∷ axes ∷ replicate 7 0
 
 -- where body 2 stands, what its joint locks, and the target velocity of joint 0's first motor
 abbrev pub example : Float → ℕ → Float → Model
@@ -92,7 +92,7 @@ abbrev Granted : Model → Type 0
 Granted n = (refusal (rulesOf load n storage) ≡ 0) × (refusal (rulesOf (build Cold 0) n storage) ≡ 0)
 
 both-granted : Granted m × Granted m′
-unfolding rulesOf refusal all modelRules storageRule seedsRule readsRows masksFit presentOrWorld bodiesPresent bodiesApart finiteFrom noNanFrom finiteParams finiteWarm finiteBody finiteMotor finiteJoint isFinite isNan lt ofBits bodyCount jointCount rowCapacity rowsBefore rowCount jointIds masksAt body1At body2At hasAxis rowIds
+unfolding rulesOf refusal all modelRules storageRule seedsRule readsRows masksFit presentOrWorld bodiesPresent bodiesApart finiteFrom noNanFrom finiteParams finiteWarm finiteBody finiteMotor finiteJoint isFinite isNan lt ofBits bodyCount jointCount rowCapacity rowsBefore rowCount jointIds rowMasksAt enabledAt masksAt body1At body2At hasAxis rowIds
 both-granted = ((refl, refl), (refl, refl))
 
 granted : Granted m
@@ -110,7 +110,7 @@ unfolding grantedOf
 loaded′ = record { handedOver = m′; left = sym (run-granted load m′ storage (granted′ .0)) }
 
 enough : AtEach Enough (recorded ts s s′) s s′
-unfolding AtEach recorded jointCount rowCapacity rowsBefore rowCount jointIds masksAt hasAxis rowIds
+unfolding AtEach recorded jointCount rowCapacity rowsBefore rowCount jointIds rowMasksAt enabledAt masksAt hasAxis rowIds
 enough = (λ e. (lit≤ tt, lit≤ tt), tt)
 
 -- ---- they agree
@@ -153,7 +153,7 @@ module _ (x v : Float) (axes : ℕ) where
 
   -- which has no motor row
   ids : jointIds (q .words) 0 ≡ Dof 0 ∷ Dof 1 ∷ []
-  unfolding jointIds masksAt hasAxis rowIds
+  unfolding jointIds rowMasksAt enabledAt masksAt hasAxis rowIds
   ids = refl
 
   no-motor : (i : ℕ) → HasRow q 0 (Motor i) → ⊥
@@ -173,6 +173,7 @@ contents = record {
   frame2 = refl;
   masks = refl;
   softness = refl;
+  enabled = refl;
   motor = λ i n. absurd (unnamed i n);
   limits = λ i n. refl;
   center = λ n. refl;

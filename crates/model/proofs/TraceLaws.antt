@@ -6,7 +6,7 @@ use mathlib.Core.Logic.{inl, inr}
 use mathlib.Core.Bool.{true, false}
 use mathlib.Core.List.{List, [], _∷_}
 use Rattle.model.specs.Traces.{Machine, Study, Position, left, handed, AtEach, AtSome, after, after′, Returned}
-use Rattle.model.proofs.RefusalLaws.{by-cases}
+use Rattle.model.proofs.Tests.{by-cases}
 
 -- what may hold at a position
 abbrev pub Claim : Machine → Type 1

@@ -33,7 +33,8 @@ use Rattle.model.specs.Traces.{Study, Position, left, handed, AtEach, af
 use Rattle.model.specs.Studies.{planar, Loaded, Enough, Agree, MakesRows, NamesAt, Names, RefusedAlike, withoutTotal, AboutSet, SameAnswer, Shared, Compared, SameNumbers, TwoStudies, SameAsked, RefusedWhereAsked}
 use Rattle.model.proofs.StoreLaws.{withPose, solverPoseAt-cong, solverPoseAt-putPose, solverPoseAt-putPose-other, velAt-putPose, length-putPose}
 use Rattle.model.proofs.CountLaws.{body-there}
-use Rattle.model.proofs.RefusalLaws.{by-cases, RulesHold, rules-hold, sound-held}
+use Rattle.model.proofs.Tests.{by-cases}
+use Rattle.model.proofs.RefusalLaws.{RulesHold, rules-hold, sound-held}
 use Rattle.model.proofs.CallLaws.{run-granted, run-refused, own-rule}
 use Rattle.model.proofs.RefusedExactly.{told}
 use Rattle.model.proofs.Keeps.{SamePoses, warm-keeps, sweep-keeps, back-keeps, granted-front, run-cases, run-holds, run-counts}

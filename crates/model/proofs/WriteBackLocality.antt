@@ -24,7 +24,7 @@ use Rattle.model.specs.Studies.{Agree}
 use Rattle.model.proofs.StoreLaws.{length-putSeed, jointAt-putSeed-other}
 use Rattle.model.proofs.WritebackLaws.{jointAt-putSeed-writeback}
 use Rattle.model.proofs.CountLaws.{joint-numbers}
-use Rattle.model.proofs.RefusalLaws.{by-cases}
+use Rattle.model.proofs.Tests.{by-cases}
 use Rattle.model.proofs.Keeps.{back-ids, back-keeps, same-but-seeds}
 use Rattle.model.proofs.SameStudies.{RowsSame}
 use Rattle.model.proofs.ClosedSet.{same-ids}

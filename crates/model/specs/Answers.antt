@@ -3,7 +3,7 @@ use mathlib.Core.Path.{_≡_}
 use mathlib.Core.List.{List, [], map}
 use lib.ListN.{take}
 use lib.Ieee.{Float}
-use Rattle.rows.specs.RowIds.{rowIdsArray}
+use Rattle.rows.specs.RowIds.{rowIdsArray, noMasks}
 use Rattle.rows.specs.Update.{rowsArray}
 use Rattle.rows.specs.declared.generic_joint.Masks.{Masks}
 use Rattle.rows.specs.declared.row_ids.RowId.{RowId}
@@ -61,9 +61,6 @@ abbrev pub rowsAnswer : RowsAnswer → Answer
 rowsAnswer r = readAnswer (r .answer) (r .ids) (r .rows)
 
 -- Past their counts the arrays are filled up, and beside a refusal they hold nothing. The first argument is the joint's masks.
-abbrev pub noMasks : Masks
-noMasks = record { «locked_axes» = 0; «limit_axes» = 0; «motor_axes» = 0; «coupled_axes» = 0 }
-
 abbrev pub noRows : Plain → RowsAnswer
 noRows a = record { answer = a; ids = rowIdsArray noMasks; rows = rowsArray [] }
 

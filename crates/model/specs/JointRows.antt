@@ -1,18 +1,21 @@
 -- One joint's rows in storage: made, stepped, warm started, freed of their bias, written back. A joint's rows stand one after the other, from row `first` on.
 use Prim.Native.Nat.{ℕ, zero, suc, _+_}
+use mathlib.Core.Bool.{cond}
 use mathlib.Core.List.{List, [], _∷_}
 use lib.ListN.{length, take}
 use lib.Ieee.{Float}
 use Rattle.floats.specs.Operators.{bits}
-use Rattle.rows.specs.RowIds.{rowIds, filled}
+use Rattle.rows.specs.RowIds.{noMasks, rowIds, filled}
 use Rattle.rows.specs.Step.{stepOf, warmstartOf, removeBiasOf}
+use Rattle.rows.specs.GenericJoint.{isEnabled}
 use Rattle.rows.specs.Builder.{builderUpdateOf}
 use Rattle.rows.specs.declared.integration_parameters.IntegrationParameters.{IntegrationParameters}
 use Rattle.rows.specs.declared.joint_constraint_builder.Warmstart.{Warmstart}
+use Rattle.rows.specs.declared.generic_joint.Masks.{Masks}
 use Rattle.rows.specs.declared.joint_velocity_constraint.JointConstraint.{JointConstraint}
 use Rattle.rows.specs.declared.joint_velocity_constraint.WritebackId.{WritebackId}
 use Rattle.rows.specs.declared.joint_velocity_constraint.Rows.{Rows}
-use Rattle.model.specs.Store.{rowAt, putRow, velAt, putVel, solverPoseAt, jointAt, masksAt, body1At, body2At, putSeed}
+use Rattle.model.specs.Store.{rowAt, putRow, velAt, putVel, solverPoseAt, jointAt, masksAt, enabledAt, body1At, body2At, putSeed}
 
 -- the storage of all rows and of all bodies
 pub record State : Type 0 where
@@ -22,9 +25,13 @@ pub record State : Type 0 where
 abbrev pub state : List Float → List Float → State
 state r b = record { rows = r; bodies = b }
 
+-- the masks that give joint j its rows: its own where it is enabled, and none where it is not
+unfoldable pub rowMasksAt : List ℕ → ℕ → Masks
+rowMasksAt words j = cond (isEnabled (enabledAt words j)) (masksAt words j) noMasks
+
 -- the ids of joint j's rows, in order: these rows it has, reads and writes back
 unfoldable pub jointIds : List ℕ → ℕ → List WritebackId
-jointIds words j = rowIds 2 1 (masksAt words j)
+jointIds words j = rowIds 2 1 (rowMasksAt words j)
 
 -- and their number
 unfoldable pub rowCount : List ℕ → ℕ → ℕ
@@ -42,12 +49,16 @@ unfoldable pub impulsesAt : List Float → ℕ → ℕ → List Float
 impulsesAt s k zero = []
 impulsesAt s k (suc n) = rowAt s k .impulse ∷ impulsesAt s (k + 1) n
 
+-- what joint j makes from its last impulses `prevs`: a joint that is not enabled makes no row
+unfoldable pub builtRows : IntegrationParameters → List Float → List ℕ → List Float → ℕ → Warmstart → ℕ → List Float → List JointConstraint
+builtRows params bodies words numbers j warm substep prevs =
+    cond (isEnabled (enabledAt words j))
+    (builderUpdateOf params substep warm (solverPoseAt bodies (body1At words j)) (solverPoseAt bodies (body2At words j)) (jointAt words numbers j) prevs) []
+
 -- joint j's rows made anew, from their last impulses, and stored
 unfoldable pub buildJoint : IntegrationParameters → List Float → List ℕ → List Float → ℕ → ℕ → Warmstart → ℕ → List Float → List Float
 buildJoint params bodies words numbers j first warm substep rows =
-    putRows rows first
-    (builderUpdateOf params substep warm (solverPoseAt bodies (body1At words j)) (solverPoseAt bodies (body2At words j)) (jointAt words numbers j)
-    (filled 6 (bits 0) (impulsesAt rows first (rowCount words j))))
+    putRows rows first (builtRows params bodies words numbers j warm substep (filled 6 (bits 0) (impulsesAt rows first (rowCount words j))))
 
 -- ---- rows at work
 

@@ -23,10 +23,10 @@ massPlace = 5
 abbrev pub velocityPlace : ℕ
 velocityPlace = 7
 
--- ---- a joint's words: two bodies, four masks, three motor models
+-- ---- a joint's words: two bodies, four masks, three motor models, `JointEnabled`
 
 abbrev pub wordsWidth : ℕ
-wordsWidth = 9
+wordsWidth = 10
 
 abbrev pub body1Place : ℕ
 body1Place = 0
@@ -39,6 +39,9 @@ masksPlace = 2
 
 abbrev pub modelsPlace : ℕ
 modelsPlace = 6
+
+abbrev pub enabledPlace : ℕ
+enabledPlace = 9
 
 -- ---- a joint's numbers: two frames, three limits (min, max, impulse), three motors, softness (natural frequency, damping ratio), three Dof impulses, centre
 

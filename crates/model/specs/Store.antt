@@ -16,6 +16,8 @@ use Rattle.rows.specs.declared.integration_parameters.SpringCoefficients.{Sprin
 use Rattle.rows.specs.declared.generic_joint.JointLimits.{JointLimits}
 use Rattle.rows.specs.declared.generic_joint.JointMotor.{JointMotor}
 use Rattle.rows.specs.declared.generic_joint.Masks.{Masks}
+use Rattle.rows.specs.declared.generic_joint.JointEnabled.{JointEnabled}
+use Rattle.rows.specs.declared.generic_joint.JointEnabled.the-variants.{Enabled, DisabledByAttachedBody, Disabled}
 use Rattle.rows.specs.declared.generic_joint.GenericJoint.{GenericJoint}
 use Rattle.rows.specs.declared.joint_constraint_builder.SolverPose.{SolverPose}
 use Rattle.rows.specs.declared.joint_constraint_builder.ImpulseJoint.{ImpulseJoint}
@@ -23,7 +25,7 @@ use Rattle.rows.specs.declared.joint_velocity_constraint.SolverVel.{SolverVel}
 use Rattle.rows.specs.declared.joint_velocity_constraint.JointConstraint.{JointConstraint}
 use Rattle.rows.specs.declared.joint_velocity_constraint.WritebackId.{WritebackId}
 use Rattle.rows.specs.declared.joint_velocity_constraint.WritebackId.the-variants.{Dof, Limit, Motor}
-use Rattle.model.specs.Layout.{rowWidth, bodyWidth, posePlace, inertiaPlace, massPlace, velocityPlace, wordsWidth, body1Place, body2Place, masksPlace, modelsPlace, numbersWidth, frame1Place, frame2Place, limitsPlace, limitsWidth, motorsPlace, motorWidth, softnessPlace, dofsPlace, centerPlace, limitSeed, motorSeed}
+use Rattle.model.specs.Layout.{rowWidth, bodyWidth, posePlace, inertiaPlace, massPlace, velocityPlace, wordsWidth, body1Place, body2Place, masksPlace, modelsPlace, numbersWidth, frame1Place, frame2Place, limitsPlace, limitsWidth, motorsPlace, motorWidth, softnessPlace, dofsPlace, centerPlace, limitSeed, motorSeed, enabledPlace}
 use Rattle.model.specs.Records.{num, word, puts}
 
 -- ---- rows
@@ -123,6 +125,10 @@ limitsOf f o = record { min = f o; max = f (o + 1); impulse = f (o + 2) }
 abbrev pub modelOf : ℕ → MotorModel
 modelOf m = cond (eqb m 0) AccelerationBased ForceBased
 
+-- the Rust's kinds in the order of its declaration; every other number is `Disabled`
+abbrev pub enabledOf : ℕ → JointEnabled
+enabledOf e = cond (eqb e 0) Enabled (cond (eqb e 1) DisabledByAttachedBody Disabled)
+
 abbrev pub motorOf : (ℕ → Float) → ℕ → ℕ → JointMotor
 motorOf f o m = record {
   «target_vel» = f o;
@@ -163,6 +169,7 @@ dataOf f g = record {
   limits = allLimitsOf f;
   motors = allMotorsOf f g;
   softness = record { «natural_frequency» = f softnessPlace; «damping_ratio» = f (softnessPlace + 1) };
+  enabled = enabledOf (g enabledPlace);
 }
 
 abbrev pub jointOf : (ℕ → Float) → (ℕ → ℕ) → ImpulseJoint
@@ -179,6 +186,10 @@ jointAt words numbers j = jointOf (num numbersWidth numbers j) (word wordsWidth 
 -- its masks
 unfoldable pub masksAt : List ℕ → ℕ → Masks
 masksAt words j = masksOf (word wordsWidth words j)
+
+-- whether it is enabled
+unfoldable pub enabledAt : List ℕ → ℕ → JointEnabled
+enabledAt words j = enabledOf (word wordsWidth words j enabledPlace)
 
 -- its two bodies
 unfoldable pub body1At : List ℕ → ℕ → ℕ

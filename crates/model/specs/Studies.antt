@@ -6,10 +6,11 @@ use mathlib.Core.Bool.{Bool, true}
 use mathlib.Core.List.{List, List·Memᴰ}
 use lib.Dec.{ltb}
 use lib.Ieee.{Float}
+use Rattle.rows.specs.GenericJoint.{isEnabled}
 use Rattle.rows.specs.Named.{SameNamed}
 use Rattle.rows.specs.Builder.{seedOf}
 use Rattle.rows.specs.declared.joint_velocity_constraint.WritebackId.{WritebackId}
-use Rattle.model.specs.Store.{world, solverPoseAt, velAt, jointAt, body1At, body2At}
+use Rattle.model.specs.Store.{world, solverPoseAt, velAt, jointAt, enabledAt, body1At, body2At}
 use Rattle.model.specs.JointRows.{jointIds}
 use Rattle.model.specs.Model.{Model, bodyCount, jointCount, Room}
 use Rattle.model.specs.Calls.{Call, Answer, Outcome, Asked, outcome, table, run, refusalOf, rowsOf}
@@ -44,9 +45,10 @@ Enough p s s′ = table (p .call) .rowStorage ≡ true → Room (s .model) (hand
 
 -- ---- a closed set of bodies
 
--- joint j ties its two bodies, whatever its masks, unless one is the world
+-- joint j, if it is enabled, ties its two bodies, whatever its masks, unless one is the world
 pub record Ties (m : Model) (j : ℕ) : Type 0 where
   pub there : j < jointCount (m .words) (m .numbers)
+  pub enabled : isEnabled (enabledAt (m .words) j) ≡ true
   pub body1 : body1At (m .words) j ≢ world
   pub body2 : body2At (m .words) j ≢ world
 

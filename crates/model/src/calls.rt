@@ -4,7 +4,7 @@ ghost use mathlib.Core.Path.{_≡_};
 ghost use Rattle.model.specs.Model.{modelOf};
 ghost use Rattle.model.specs.Calls.{outcome, run};
 ghost use Rattle.model.specs.Calls.Call.{load, place, build, warmStart, sweep, removeBias, writeBack, readRows, readVelocity};
-ghost use Rattle.model.specs.Store.{masksAt};
+ghost use Rattle.model.specs.JointRows.{rowMasksAt};
 ghost use Rattle.model.specs.Refusals.{readsRows};
 ghost use Rattle.model.specs.Answers.{WithoutRows, loadAnswer, loadHeader, plainAnswer, buildAnswer, buildHeader, rowsAnswer, noRows, rowsAnswerOf, velocityAnswer};
 use crate::all_joints::blank_row;
@@ -20,6 +20,7 @@ use crate::counts::rows_before;
 use crate::header::Header;
 use crate::joint_rows::count_at;
 use crate::joint_rows::ids_at;
+use crate::joint_rows::no_masks;
 use crate::refusals::finite_pose;
 use crate::refusals::finite_warm;
 use crate::refusals::model_refusal;
@@ -27,7 +28,6 @@ use crate::refusals::storage_refusal;
 use crate::store::put_pose;
 use crate::store::vel_at;
 use floats::pose::Pose;
-use rows::generic_joint::Masks;
 use rows::joint_constraint_builder::Warmstart;
 use rows::joint_velocity_constraint::Rows;
 use rows::joint_velocity_constraint::SolverVel;
@@ -245,12 +245,7 @@ fn reads_rows(warmstart: Warmstart, substep_id: u32) -> bool
 fn no_rows(k: u32) -> RowsAnswer
     ensures { λ r. ⌜ r ≡ noRows (Plain.Refused k) ⌝ }
 {
-    let none = Masks {
-        locked_axes: 0,
-        limit_axes: 0,
-        motor_axes: 0,
-        coupled_axes: 0,
-    };
+    let none = no_masks();
     let blank = blank_row();
     let rows = [blank; 6];
     RowsAnswer {
@@ -270,7 +265,7 @@ pub fn read_rows(
     joint: u32,
 ) -> RowsAnswer
     ensures { λ r. ⌜ outcome (rowsAnswer r) (modelOf header (now (bodies .entry)) (now (words .entry)) (now (numbers .entry))) (now (rows .entry)) ≡ run (readRows joint) (modelOf header (now (bodies .entry)) (now (words .entry)) (now (numbers .entry))) (now (rows .entry)) ⌝ }
-    ensures { λ r. ⌜ r ≡ rowsAnswerOf (masksAt (now (words .entry)) joint) (run (readRows joint) (modelOf header (now (bodies .entry)) (now (words .entry)) (now (numbers .entry))) (now (rows .entry)) .answer) ⌝ }
+    ensures { λ r. ⌜ r ≡ rowsAnswerOf (rowMasksAt (now (words .entry)) joint) (run (readRows joint) (modelOf header (now (bodies .entry)) (now (words .entry)) (now (numbers .entry))) (now (rows .entry)) .answer) ⌝ }
 {
     let k = storage_refusal(header, bodies, words, numbers, rows, true);
     if k != 0 {

@@ -1,15 +1,18 @@
 // One joint's rows in storage: made, stepped, warm started, freed of their bias, written back.
 ghost use mathlib.Core.Path.{_≡_};
+ghost use mathlib.Core.Bool.{true};
 ghost use Prim.Native.Nat.{_+_, _*_, _≤_};
 ghost use lib.ListN.{length};
 ghost use Rattle.floats.specs.Operators.{bits};
-ghost use Rattle.rows.specs.RowIds.{filled, rowIdsArray};
+ghost use Rattle.rows.specs.GenericJoint.{isEnabled};
+ghost use Rattle.rows.specs.RowIds.{noMasks, filled, rowIdsArray};
 ghost use Rattle.model.specs.Layout.{rowWidth, wordsWidth, numbersWidth};
-ghost use Rattle.model.specs.Store.{Present, masksAt, body1At, body2At};
-ghost use Rattle.model.specs.JointRows.{state, rowCount, rowsList, putRows, impulsesAt, buildJoint, sweepRow, sweepJoint, warmstartRow, warmstartJoint, removeBiasJoint, writeBackJoint};
+ghost use Rattle.model.specs.Store.{Present, enabledAt, body1At, body2At};
+ghost use Rattle.model.specs.JointRows.{state, rowMasksAt, rowCount, rowsList, putRows, impulsesAt, buildJoint, sweepRow, sweepJoint, warmstartRow, warmstartJoint, removeBiasJoint, writeBackJoint};
 use crate::layout::ROW_WIDTH;
 use crate::store::body1_at;
 use crate::store::body2_at;
+use crate::store::enabled_at;
 use crate::store::joint_at;
 use crate::store::masks_at;
 use crate::store::put_row;
@@ -18,6 +21,7 @@ use crate::store::put_vel;
 use crate::store::row_at;
 use crate::store::solver_pose_at;
 use crate::store::vel_at;
+use rows::generic_joint::Masks;
 use rows::integration_parameters::IntegrationParameters;
 use rows::joint_constraint_builder::Warmstart;
 use rows::joint_constraint_builder::update;
@@ -27,12 +31,36 @@ use rows::row_ids::RowIds;
 use rows::row_ids::row_count;
 use rows::row_ids::row_ids;
 
+// No axis is locked, limited, driven or coupled.
+pub fn no_masks() -> Masks
+    ensures { λ r. ⌜ r ≡ noMasks ⌝ }
+{
+    Masks {
+        locked_axes: 0,
+        limit_axes: 0,
+        motor_axes: 0,
+        coupled_axes: 0,
+    }
+}
+
+// The masks that give joint j its rows: its own where it is enabled, and none where it is not.
+pub fn row_masks_at(words: &[u32], j: usize) -> Masks
+    requires { ⌜ j * wordsWidth + wordsWidth ≤ length (now words) ⌝ }
+    ensures { λ r. ⌜ r ≡ rowMasksAt (now (words .entry)) j ⌝ }
+{
+    let enabled = enabled_at(words, j);
+    if enabled.is_enabled() {
+        return masks_at(words, j);
+    }
+    no_masks()
+}
+
 // The ids of joint j's rows, in order.
 pub fn ids_at(words: &[u32], j: usize) -> RowIds
     requires { ⌜ j * wordsWidth + wordsWidth ≤ length (now words) ⌝ }
-    ensures { λ r. ⌜ r ≡ rowIdsArray (masksAt (now (words .entry)) j) ⌝ }
+    ensures { λ r. ⌜ r ≡ rowIdsArray (rowMasksAt (now (words .entry)) j) ⌝ }
 {
-    row_ids(masks_at(words, j))
+    row_ids(row_masks_at(words, j))
 }
 
 // Their number.
@@ -40,7 +68,7 @@ pub fn count_at(words: &[u32], j: usize) -> usize
     requires { ⌜ j * wordsWidth + wordsWidth ≤ length (now words) ⌝ }
     ensures { λ r. ⌜ r ≡ rowCount (now (words .entry)) j ⌝ }
 {
-    row_count(masks_at(words, j))
+    row_count(row_masks_at(words, j))
 }
 
 // The impulses of n rows from row k on, at most six.
@@ -73,7 +101,37 @@ pub fn put_rows(rows: &mut [f32], k: usize, made: Rows)
     }
 }
 
-// Joint j's rows made anew and stored from row `first` on; their number comes back.
+// The rows of joint j, which is enabled, made anew and stored from row `first` on; their number comes back.
+fn build_enabled(
+    params: IntegrationParameters,
+    bodies: &[f32],
+    words: &[u32],
+    numbers: &[f32],
+    j: usize,
+    rows: &mut [f32],
+    first: usize,
+    warmstart: Warmstart,
+    substep_id: u32,
+) -> usize
+    requires { ⌜ j * wordsWidth + wordsWidth ≤ length (now words) ⌝ }
+    requires { ⌜ j * numbersWidth + numbersWidth ≤ length (now numbers) ⌝ }
+    requires { ⌜ Present (now bodies) (body1At (now words) j) ⌝ }
+    requires { ⌜ Present (now bodies) (body2At (now words) j) ⌝ }
+    requires { ⌜ (first + rowCount (now words) j) * rowWidth ≤ length (now rows) ⌝ }
+    requires { ⌜ isEnabled (enabledAt (now words) j) ≡ true ⌝ }
+    ensures { λ r. ⌜ (r ≡ rowCount (now (words .entry)) j) × (now (rows .exit) ≡ buildJoint params (now (bodies .entry)) (now (words .entry)) (now (numbers .entry)) j first warmstart «substep_id» (now (rows .entry))) ⌝ }
+{
+    let n = count_at(words, j);
+    let prevs = impulses_at(rows, first, n);
+    let joint = joint_at(words, numbers, j);
+    let body1 = solver_pose_at(bodies, body1_at(words, j));
+    let body2 = solver_pose_at(bodies, body2_at(words, j));
+    let made = update(params, substep_id, warmstart, body1, body2, joint, prevs);
+    put_rows(rows, first, made);
+    n
+}
+
+// Joint j's rows made anew likewise; none where it is not enabled.
 pub fn build_joint(
     params: IntegrationParameters,
     bodies: &[f32],
@@ -92,14 +150,21 @@ pub fn build_joint(
     requires { ⌜ (first + rowCount (now words) j) * rowWidth ≤ length (now rows) ⌝ }
     ensures { λ r. ⌜ (r ≡ rowCount (now (words .entry)) j) × (now (rows .exit) ≡ buildJoint params (now (bodies .entry)) (now (words .entry)) (now (numbers .entry)) j first warmstart «substep_id» (now (rows .entry))) ⌝ }
 {
-    let n = count_at(words, j);
-    let prevs = impulses_at(rows, first, n);
-    let joint = joint_at(words, numbers, j);
-    let body1 = solver_pose_at(bodies, body1_at(words, j));
-    let body2 = solver_pose_at(bodies, body2_at(words, j));
-    let made = update(params, substep_id, warmstart, body1, body2, joint, prevs);
-    put_rows(rows, first, made);
-    n
+    let enabled = enabled_at(words, j);
+    if enabled.is_enabled() {
+        return build_enabled(
+            params,
+            bodies,
+            words,
+            numbers,
+            j,
+            rows,
+            first,
+            warmstart,
+            substep_id,
+        );
+    }
+    0
 }
 
 // Row k's step, between bodies b1 and b2.

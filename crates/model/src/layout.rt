@@ -23,8 +23,8 @@ pub const VELOCITY_Y: usize = 8;
 
 pub const VELOCITY_ANGULAR: usize = 9;
 
-// A joint's words: two bodies, four masks, three motor models.
-pub const WORDS_WIDTH: usize = 9;
+// A joint's words: two bodies, four masks, three motor models, `JointEnabled`.
+pub const WORDS_WIDTH: usize = 10;
 
 pub const BODY1: usize = 0;
 
@@ -43,6 +43,8 @@ pub const MODEL_X: usize = 6;
 pub const MODEL_Y: usize = 7;
 
 pub const MODEL_ANGULAR: usize = 8;
+
+pub const ENABLED: usize = 9;
 
 // A joint's numbers: two frames, three limits (min, max, impulse), three motors (target velocity and
 // position, stiffness, damping, maximum force, impulse), softness, three Dof impulses, centre.

@@ -14,6 +14,7 @@ use floats::pose::Pose;
 use floats::rotation_ops::Rotation;
 use floats::vector::Vector;
 use rows::generic_joint::GenericJoint;
+use rows::generic_joint::JointEnabled;
 use rows::generic_joint::JointLimits;
 use rows::generic_joint::JointMotor;
 use rows::generic_joint::Masks;
@@ -40,7 +41,7 @@ pub fn write_row(rows: &mut [f32], k: usize, row: JointConstraint)
     }
 }
 
-// A joint of zeros, its motors acceleration based.
+// A joint of zeros, enabled, its motors acceleration based.
 fn blank_joint() -> ImpulseJoint
     ensures { λ r. ⌜ r ≡ blankJoint ⌝ }
 {
@@ -78,6 +79,7 @@ fn blank_joint() -> ImpulseJoint
             natural_frequency: 0.0,
             damping_ratio: 0.0,
         },
+        enabled: JointEnabled::Enabled,
     };
     ImpulseJoint {
         data: data,

@@ -5,7 +5,7 @@ ghost use Prim.Native.Nat.{_+_, _*_, _≤_, _<_};
 ghost use lib.ListN.{length};
 ghost use Rattle.model.specs.Layout.{rowWidth, bodyWidth, wordsWidth, numbersWidth};
 ghost use Rattle.model.specs.Records.{numFrom, num, sixOf, word, puts};
-ghost use Rattle.model.specs.Store.{rowAt, putRow, Present, poseOf, solverPoseAt, velAt, putVel, putPose, body1At, body2At, masksAt, limitsOf, allLimitsOf, modelOf, motorOf, allMotorsOf, dataOf, jointAt, axisOf, seedIndex, putSeed};
+ghost use Rattle.model.specs.Store.{rowAt, putRow, Present, poseOf, solverPoseAt, velAt, putVel, putPose, body1At, body2At, masksAt, limitsOf, allLimitsOf, modelOf, motorOf, allMotorsOf, dataOf, jointAt, axisOf, seedIndex, putSeed, enabledOf, enabledAt};
 use crate::layout::BODY_WIDTH;
 use crate::layout::BODY1;
 use crate::layout::BODY2;
@@ -16,6 +16,7 @@ use crate::layout::DAMPING_RATIO;
 use crate::layout::DOF_ANGULAR;
 use crate::layout::DOF_X;
 use crate::layout::DOF_Y;
+use crate::layout::ENABLED;
 use crate::layout::FRAME1;
 use crate::layout::FRAME2;
 use crate::layout::INERTIA;
@@ -50,6 +51,7 @@ use floats::pose::Pose;
 use floats::rotation_ops::Rotation;
 use floats::vector::Vector;
 use rows::generic_joint::GenericJoint;
+use rows::generic_joint::JointEnabled;
 use rows::generic_joint::JointLimits;
 use rows::generic_joint::JointMotor;
 use rows::generic_joint::Masks;
@@ -315,6 +317,27 @@ fn model_of(m: u32) -> MotorModel
     MotorModel::ForceBased
 }
 
+// The Rust's kinds in the order of its declaration; every other number is `Disabled`.
+fn enabled_of(e: u32) -> JointEnabled
+    ensures { λ r. ⌜ r ≡ enabledOf e ⌝ }
+{
+    if e == 0 {
+        return JointEnabled::Enabled;
+    }
+    if e == 1 {
+        return JointEnabled::DisabledByAttachedBody;
+    }
+    JointEnabled::Disabled
+}
+
+// Whether joint j is enabled.
+pub fn enabled_at(words: &[u32], j: usize) -> JointEnabled
+    requires { ⌜ j * wordsWidth + wordsWidth ≤ length (now words) ⌝ }
+    ensures { λ r. ⌜ r ≡ enabledAt (now (words .entry)) j ⌝ }
+{
+    enabled_of(words[j * WORDS_WIDTH + ENABLED])
+}
+
 // An axis's motor, in six numbers likewise, and the number of its model.
 fn motor_at(s: &[f32], o: usize, c: usize, m: u32) -> JointMotor
     requires { ⌜ o + c + 6 ≤ length (now s) ⌝ }
@@ -374,6 +397,7 @@ fn data_at(words: &[u32], numbers: &[f32], j: usize) -> GenericJoint
             natural_frequency: numbers[o + NATURAL_FREQUENCY],
             damping_ratio: numbers[o + DAMPING_RATIO],
         },
+        enabled: enabled_at(words, j),
     }
 }
 

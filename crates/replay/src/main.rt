@@ -655,7 +655,7 @@ fn study(bodies: &mut [f32], words: &mut [u32], numbers: &mut [f32], rows: &mut 
 
 fn main() {
     let mut bodies = [0.0f32; 1300];
-    let mut words = [0u32; 1200];
+    let mut words = [0u32; 1500];
     let mut numbers = [0.0f32; 5500];
     let mut rows = [0.0f32; 1000];
     let studies = how_many();

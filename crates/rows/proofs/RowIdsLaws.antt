@@ -1,5 +1,5 @@
 -- A joint's ids, whatever the numbers nl of linear and na of angular axes: those of group one are motors, those of group two locks and limits; each
--- is of an axis below nl + na; and none stands twice. Assumes nothing.
+-- is of an axis below nl + na; and none stands twice. Without masks there is none (`no-ids`).
 use Prim.Native.Nat.{ℕ, zero, suc, _+_, _≤_, _<_}
 use native.Mathlib.Omega.{arith}
 use mathlib.Core.Path.{_≡_, refl}
@@ -8,7 +8,7 @@ use mathlib.Core.List.{List, [], _∷_, _++_, map}
 use Rattle.rows.specs.declared.generic_joint.Masks.{Masks}
 use Rattle.rows.specs.declared.joint_velocity_constraint.WritebackId.{WritebackId}
 use Rattle.rows.specs.declared.joint_velocity_constraint.WritebackId.the-variants.{Dof, Limit, Motor}
-use Rattle.rows.specs.RowIds.{isLocked, isMotor, isLimit, isCoupled, axes, keep, lowest, firstCoupled, inOrder, sharesLinear, groupOne, lockIds, limitIds, groupTwo, rowIds}
+use Rattle.rows.specs.RowIds.{isLocked, isMotor, isLimit, isCoupled, axes, keep, lowest, firstCoupled, inOrder, sharesLinear, groupOne, lockIds, limitIds, groupTwo, rowIds, noMasks, hasAxis}
 
 -- ---- lists
 
@@ -254,3 +254,7 @@ module _ (nl na : ℕ) (k : Masks) where
   pub distinct : Distinct (rowIds nl na k)
   unfolding rowIds
   distinct = distinct-append IsMotor IsRest (groupOne nl na k) (groupTwo nl na k) motor-not-rest distinct-one distinct-two group-one group-two
+
+pub no-ids : rowIds 2 1 noMasks ≡ []
+unfolding rowIds hasAxis
+no-ids = refl

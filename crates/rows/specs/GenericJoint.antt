@@ -2,7 +2,7 @@
 -- A limit's ends and a motor's target position are in metres along a linear axis and in radians about the angular one, its target velocity in m/s and rad/s, and its
 -- maximum force in N and N·m; a motor is a spring of that stiffness and damping towards its targets.
 use Prim.Native.Nat.{ℕ}
-use mathlib.Core.Bool.{cond}
+use mathlib.Core.Bool.{Bool, true, false, cond}
 use lib.ListN.{getD}
 use lib.Ieee.{Float, nan, eq}
 use Rattle.floats.specs.Operators.{bits, _⊗_}
@@ -12,6 +12,8 @@ use Rattle.rows.specs.declared.generic_joint.JointLimits.{JointLimits}
 use Rattle.rows.specs.declared.generic_joint.JointMotor.{JointMotor}
 use Rattle.rows.specs.declared.joint_velocity_constraint.MotorParameters.{MotorParameters}
 use Rattle.rows.specs.declared.generic_joint.GenericJoint.{GenericJoint}
+use Rattle.rows.specs.declared.generic_joint.JointEnabled.{JointEnabled}
+use Rattle.rows.specs.declared.generic_joint.JointEnabled.the-variants.{Enabled, DisabledByAttachedBody, Disabled}
 
 -- `JointMotor::max_impulse`, force times dt: zero where dt is zero, whatever the force
 unfoldable pub maxImpulseOf : Float → Float → Float
@@ -29,6 +31,12 @@ motorParamsOf m dt =
       «target_vel» = m .«target_vel»;
       «max_impulse» = maxImpulseOf (m .«max_force») dt;
     }
+
+-- `is_enabled`: a joint of neither disabled kind
+abbrev pub isEnabled : JointEnabled → Bool
+isEnabled Enabled = true
+isEnabled DisabledByAttachedBody = false
+isEnabled Disabled = false
 
 -- what stands past the last axis, where no row reads
 abbrev noLimits : JointLimits

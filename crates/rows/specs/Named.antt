@@ -22,6 +22,7 @@ pub record SameNamed (named : WritebackId → Type 0) (j k : ImpulseJoint) : Typ
   pub frame2 : j .«data» .«local_frame2» ≡ k .«data» .«local_frame2»
   pub masks : j .«data» .masks ≡ k .«data» .masks
   pub softness : j .«data» .softness ≡ k .«data» .softness
+  pub enabled : j .«data» .enabled ≡ k .«data» .enabled
   pub motor : (i : ℕ) → named (Motor i) → motorAt (j .«data») i ≡ motorAt (k .«data») i
   pub limits : (i : ℕ) → named (Limit i) → limitsAt (j .«data») i ≡ limitsAt (k .«data») i
   pub center : named (Limit 2) → j .center ≡ k .center

@@ -31,6 +31,10 @@ isLimit k i = hasAxis (k .«limit_axes») i && not (isLocked k i)
 abbrev pub isCoupled : Masks → ℕ → Bool
 isCoupled k i = hasAxis (k .«coupled_axes») i
 
+-- no axis is locked, limited, driven or coupled
+abbrev pub noMasks : Masks
+noMasks = record { «locked_axes» = 0; «limit_axes» = 0; «motor_axes» = 0; «coupled_axes» = 0 }
+
 -- n axes from axis i on
 abbrev pub axes : ℕ → ℕ → List ℕ
 axes i zero = []

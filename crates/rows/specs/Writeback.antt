@@ -34,6 +34,7 @@ dataWith j limits motors = record {
   limits = limits;
   motors = motors;
   softness = j .softness;
+  enabled = j .enabled;
 }
 
 -- a joint with other contents and other Dof impulses; its centre stays

@@ -1,6 +1,6 @@
 // The Rust's dynamics/joint/generic_joint.rs: a joint's contents, as far as its rows read them.
 ghost use mathlib.Core.Path.{_≡_};
-ghost use Rattle.rows.specs.GenericJoint.{motorParamsOf, maxImpulseOf, limitsAt, motorAt};
+ghost use Rattle.rows.specs.GenericJoint.{motorParamsOf, maxImpulseOf, limitsAt, motorAt, isEnabled};
 ghost use Rattle.rows.specs.RowIds.{hasAxis};
 use crate::integration_parameters::SpringCoefficients;
 use crate::joint_velocity_constraint::MotorParameters;
@@ -31,6 +31,26 @@ pub struct Masks {
     pub coupled_axes: u32,
 }
 
+// Whether a joint is enabled.
+pub enum JointEnabled {
+    Enabled,
+    DisabledByAttachedBody,
+    Disabled,
+}
+
+impl JointEnabled {
+    // The Rust has it of a `GenericJoint`.
+    pub fn is_enabled(self) -> bool
+        ensures { λ r. ⌜ r ≡ isEnabled self ⌝ }
+    {
+        match self {
+            JointEnabled::Enabled => true,
+            JointEnabled::DisabledByAttachedBody => false,
+            JointEnabled::Disabled => false,
+        }
+    }
+}
+
 // Limits and motors are by axis. The frames are relative to each body's centre of mass.
 pub struct GenericJoint {
     pub local_frame1: Pose,
@@ -39,6 +59,7 @@ pub struct GenericJoint {
     pub limits: [JointLimits; 3],
     pub motors: [JointMotor; 3],
     pub softness: SpringCoefficients,
+    pub enabled: JointEnabled,
 }
 
 impl JointMotor {

@@ -1,75 +1,32 @@
--- `build_joint` meets its contract, by those of its parts: as many rows are made as the joint has, at most six.
-use native.Mathlib.Omega.{arith}
-use Rattle.model.proofs.JointRowsLaws.{few-rows, built-len, build-steps}
+-- `build_joint` meets its contract: by that of `build_enabled`, and a joint that is not enabled makes no row.
+use mathlib.Core.Path.{sym}
 use borrow.Author.Needs.{needs}
+use Rattle.model.proofs.JointRowsLaws.{read-enabled, read-disabled, count-disabled, build-disabled}
 use Rattle.model.proofs.joint_rows.build_joint.Statement.{statement}
 use Rattle.model.proofs.joint_rows.build_joint.Tie as tie
 
-count-at-requires : tie.Need-count-at-requires
-count-at-requires c κs = search needs
+enabled-at-requires : tie.Need-enabled-at-requires
+enabled-at-requires c κs = search needs
 
-impulses-at-requires : tie.Need-impulses-at-requires
-impulses-at-requires c κs =
-    let e = c .before .count-at .ensures in
-    (few-rows _ _ e, omega (arith, e, c .before .before .before .before .before .before .pre .1 .1 .1 .1))
+is-enabled-requires : tie.Need-is-enabled-requires
+is-enabled-requires c κs = search needs
 
-joint-at-requires : tie.Need-joint-at-requires
-joint-at-requires c κs = search needs
-
-body1-at-requires : tie.Need-body1-at-requires
-body1-at-requires c κs = search needs
-
-solver-pose-at-requires : tie.Need-solver-pose-at-requires
-solver-pose-at-requires c κs = rw (c .body1-at .ensures) (c .before .before .before .before .before .before .before .before .before .pre .1 .1 .0)
-
-body2-at-requires : tie.Need-body2-at-requires
-body2-at-requires c κs = search needs
-
-solver-pose-at-requires-2 : tie.Need-solver-pose-at-requires-2
-solver-pose-at-requires-2 c κs = rw (c .body2-at .ensures) (c .before .before .before .before .before .before .before .before .before .before .before .pre .1 .1 .1 .0)
-
-update-requires : tie.Need-update-requires
-update-requires c κs = search needs
-
-put-rows-requires : tie.Need-put-rows-requires
-put-rows-requires c κs =
-    let up = c .before in
-    let ja = up .before .before .before .before .before in
-    let ia = ja .before in
-    let e = built-len _ _ _ _ _ _ _ _ _ _ _ (ja .joint-at .ensures) (ia .impulses-at .ensures) (up .update .ensures) in
-    (few-rows _ _ e, omega (arith, e, ia .before .before .before .before .before .before .before .pre .1 .1 .1 .1))
+build-enabled-requires : tie.Need-build-enabled-requires
+build-enabled-requires c κs =
+    let e = c .before in
+    let pre = e .before .before .before .before .before .before .before .pre in
+    (pre .0, (pre .1 .0, (pre .1 .1 .0, (pre .1 .1 .1 .0, (pre .1 .1 .1 .1, read-enabled _ _ (e .before .before .enabled-at .ensures) (e .before .is-enabled .ensures) (e .if1 .taken))))))
 
 same-length : tie.Need-same-length
 same-length c = search needs
 
 returns : tie.Need-returns
-returns c =
-    let pr = c .before .before in
-    let up = pr .before .before in
-    let sp2 = up .before in
-    let b2 = sp2 .before in
-    let sp1 = b2 .before in
-    let b1 = sp1 .before in
-    let ja = b1 .before in
-    let ia = ja .before in
-    let ca = ia .before .before in (
-      ca .count-at .ensures,
-      build-steps _ _ _ _ _ _ _ _ _ (ca .count-at .ensures) (ia .impulses-at .ensures) (ja .joint-at .ensures) (b1 .body1-at .ensures) (sp1 .solver-pose-at .ensures) (b2 .body2-at .ensures)
-          (sp2 .solver-pose-at2 .ensures) (up .update .ensures) (pr .put-rows .ensures),
-    )
+returns c = c .before .before .build-enabled .ensures
+
+returns-2 : tie.Need-returns-2
+returns-2 c =
+    let off = read-disabled _ _ (c .before .before .enabled-at .ensures) (c .before .is-enabled .ensures) (c .if1 .left) in
+    (sym (count-disabled _ _ off), build-disabled _ _ _ _ _ _ _ _ _ off)
 
 pub build-joint-spec : {M : Type 1} → statement M
-build-joint-spec =
-    tie.close
-    (tie.spec
-    count-at-requires
-    impulses-at-requires
-    joint-at-requires
-    body1-at-requires
-    solver-pose-at-requires
-    body2-at-requires
-    solver-pose-at-requires-2
-    update-requires
-    put-rows-requires
-    same-length
-    returns)
+build-joint-spec = tie.close (tie.spec enabled-at-requires is-enabled-requires build-enabled-requires same-length returns returns-2)

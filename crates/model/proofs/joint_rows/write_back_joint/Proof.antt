@@ -6,8 +6,7 @@ use native.Mathlib.Omega.{arith}
 use lib.ListN.{length, drop}
 use Rattle.rows.specs.RowIds.{rowIdsArray}
 use Rattle.model.specs.Layout.{rowWidth}
-use Rattle.model.specs.Store.{masksAt}
-use Rattle.model.specs.JointRows.{jointIds, rowCount, writeBackIds, writeBackJoint}
+use Rattle.model.specs.JointRows.{jointIds, rowCount, writeBackIds, writeBackJoint, rowMasksAt}
 use Rattle.model.proofs.JointRowsLaws.{ids-len, few-rows, back-turn, back-done}
 use borrow.Author.Needs.{needs}
 use Rattle.model.proofs.joint_rows.write_back_joint.Statement.{statement}
@@ -15,7 +14,7 @@ use Rattle.model.proofs.joint_rows.write_back_joint.Tie as tie
 
 abbrev Inv-loop : tie.InvT-loop
 Inv-loop rows words k j numbers₀ ids n i₀ numbers i =
-    (i ≤ n) × (n ≤ 6) × (n ≡ rowCount words j) × ((k + n) * rowWidth ≤ length rows) × (length numbers ≡ length numbers₀) × (ids ≡ rowIdsArray (masksAt words j))
+    (i ≤ n) × (n ≤ 6) × (n ≡ rowCount words j) × ((k + n) * rowWidth ≤ length rows) × (length numbers ≡ length numbers₀) × (ids ≡ rowIdsArray (rowMasksAt words j))
     × (writeBackIds rows (k + i) j (drop i (jointIds words j)) numbers ≡ writeBackIds rows k j (jointIds words j) numbers₀)
 
 abbrev μ-loop : tie.MeasureT-loop

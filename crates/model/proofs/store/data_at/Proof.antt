@@ -1,5 +1,5 @@
 use borrow.Author.Needs.{needs}
-use Rattle.model.specs.Store.{masksAt}
+use Rattle.model.specs.Store.{masksAt, enabledAt}
 use Rattle.model.proofs.store.data_at.Statement.{statement}
 use Rattle.model.proofs.store.data_at.Tie as tie
 
@@ -39,9 +39,14 @@ mul-t15 c = search needs
 shared-slice-read-t17 : tie.Need-shared-slice-read-t17
 shared-slice-read-t17 c = search needs
 
+enabled-at-requires : tie.Need-enabled-at-requires
+enabled-at-requires c κs = search needs
+
 returns : tie.Need-returns
-unfolding masksAt
-returns c = simp (c .before .before .all-motors-at .ensures, c .before .before .before .all-limits-at .ensures, c .before .before .before .before .masks-at .ensures, c .before .before .before .before .before .pose-at2 .ensures, c .before .before .before .before .before .before .pose-at .ensures)
+unfolding masksAt enabledAt
+returns c =
+    let d = c .before .before .before in
+    simp (c .enabled-at .ensures, d .all-motors-at .ensures, d .before .all-limits-at .ensures, d .before .before .masks-at .ensures, d .before .before .before .pose-at2 .ensures, d .before .before .before .before .pose-at .ensures)
 
 pub data-at-spec : {M : Type 1} → statement M
 data-at-spec =
@@ -59,4 +64,5 @@ data-at-spec =
     add-t14
     mul-t15
     shared-slice-read-t17
+    enabled-at-requires
     returns)
