@@ -141,16 +141,19 @@ impl Draw {
         }
     }
 
-    /// An impulse for the report: odd 128ths, where the half is met, the edge of Over, anything.
+    /// An impulse for the report: odd 128ths, which are all the numbers whose millionths end in a
+    /// half, their neighbours, the edge of Over, anything.
     pub fn impulse(&mut self) -> f32 {
-        match self.below(5) {
-            0 => (2 * self.below(1 << 18) + 1) as f32 / 128.0 * self.pick(&[1.0, -1.0]),
-            1 => {
+        let half = (2 * self.below(1 << 17) + 1) as f32 / 128.0 * self.pick(&[1.0, -1.0]);
+        match self.below(6) {
+            0 => half,
+            1 => self.near(half.to_bits(), 2),
+            2 => {
                 let edge = 2147.4836f32.to_bits() | self.sign();
                 self.near(edge, 3)
             }
-            2 => self.ordinary(),
-            3 => self.ordinary() * 1.0e-5,
+            3 => self.ordinary(),
+            4 => self.ordinary() * 1.0e-5,
             _ => self.number(),
         }
     }

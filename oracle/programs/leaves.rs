@@ -100,9 +100,12 @@ fn cases() {
 
     let over = 1 << 32;
     for (x, want) in [
-        (1.0 / 128.0, 7813),
-        (-1.0 / 128.0, -7813),
+        (1.0 / 128.0, 7812),
+        (-1.0 / 128.0, -7812),
         (3.0 / 128.0, 23438),
+        (-3.0 / 128.0, -23438),
+        (f32::from_bits((1.0f32 / 128.0).to_bits() + 1), 7813),
+        (f32::from_bits((3.0f32 / 128.0).to_bits() - 1), 23437),
         (0.0, 0),
         (-0.0, 0),
         (1.0, 1_000_000),
@@ -147,15 +150,15 @@ fn host(seed: u64, count: u64) {
         if bits(ours::signum(x)) != bits(x.signum()) {
             fail("signum", &[x], hex(&[ours::signum(x)]), hex(&[x.signum()]))
         }
-        // f64 holds the 44 bits of an f32's millionths, and f64::round is half away from zero.
+        // f64 holds the 44 bits of an f32's millionths.
         let x = d.impulse();
-        let millionths = x as f64 * 1.0e6;
+        let millionths = (x as f64 * 1.0e6).round_ties_even();
         let want = if x.is_nan() {
             1 << 33
-        } else if millionths.round().abs() >= 2147483648.0 {
+        } else if millionths.abs() >= 2147483648.0 {
             1 << 32
         } else {
-            millionths.round() as i64
+            millionths as i64
         };
         if ours::micro_report(x) != want {
             fail(
@@ -407,9 +410,10 @@ mod rattle {
             |x| [unsafe { katydidzinc_angle(x[0], x[1]) }],
         );
 
-        let (mut nans, mut over, mut zeros) = (0, 0, 0);
+        let (mut nans, mut over, mut zeros, mut halves) = (0, 0, 0, 0);
         for _ in 0..count {
             let x = d.impulse();
+            halves += ((x as f64 * 1.0e6).abs().fract() == 0.5) as u64;
             let (left, right) = (ours::micro_report(x), unsafe {
                 katydidzinc_micro_report(x)
             });
@@ -421,6 +425,7 @@ mod rattle {
             zeros += (left == 0) as u64;
         }
         tally("micro_report (infinite: Over)", count, nans, over, zeros);
+        println!("micro_report: {halves} halves among them");
 
         // Half the inputs are ordinary throughout, so that most results are numbers; in the other
         // half each number is hostile or related to the one before it.

@@ -220,6 +220,8 @@ fn reports() {
     report(b"1/128", 0.0078125);
     report(b"-1/128", -0.0078125);
     report(b"3/128", 0.0234375);
+    report(b"3c000001", from_bits(0x3c00_0001));
+    report(b"3cbfffff", from_bits(0x3cbf_ffff));
     report(b"-0", from_bits(NEG_ZERO));
     report(b"1", 1.0);
     report(b"450637bd", from_bits(0x4506_37bd));

@@ -17,5 +17,6 @@ pub mod ScaledRound
 pub mod UnitInterval
 pub mod WholeUnits
 pub mod AngleCases
+pub mod HalfEven
 pub mod MicroReportLaws
 pub mod MicroReportCases

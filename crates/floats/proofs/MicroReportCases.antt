@@ -1,17 +1,21 @@
--- Document 01's cases of the micro report and its edges, computed over the definition: 1/128 is 7812.5 millionths, exactly half way, and reports 7813; -1/128 reports -7813. Assumes nothing.
+-- The cases of the micro report and its edges, computed over the definition: 1/128 is 7812.5 millionths, exactly half way, and reports the even 7812; 3/128 is 23437.5 and reports 23438. Assumes nothing.
 use mathlib.Core.Path.{_≡_, refl}
 use lib.IntN.{pos, negℤ}
 use lib.Ieee.{binary32, ofBits}
 use Rattle.floats.specs.MicroReport.{microReportOf}
 use Rattle.floats.specs.declared.micro_report.MicroReport.the-variants.{Whole, Over, Nan}
 
-pub half-up : microReportOf (ofBits binary32 0x3C00_0000) ≡ Whole (pos 7813)
+pub half-down : microReportOf (ofBits binary32 0x3C00_0000) ≡ Whole (pos 7812)
+unfolding microReportOf ofBits
+half-down = refl
+
+pub half-up : microReportOf (ofBits binary32 0x3CC0_0000) ≡ Whole (pos 23438)
 unfolding microReportOf ofBits
 half-up = refl
 
-pub half-down : microReportOf (ofBits binary32 0xBC00_0000) ≡ Whole (negℤ (pos 7813))
+pub half-negative : microReportOf (ofBits binary32 0xBC00_0000) ≡ Whole (negℤ (pos 7812))
 unfolding microReportOf ofBits
-half-down = refl
+half-negative = refl
 
 -- -0 and -2 ^ -149 are a plain 0
 pub negative-zero : microReportOf (ofBits binary32 0x8000_0000) ≡ Whole (pos 0)

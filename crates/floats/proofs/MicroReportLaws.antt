@@ -1,9 +1,9 @@
--- The micro report from the parts of a number. Rounding half away from zero gives equal fractions one result (`half-same`). So a finite number's report is that of the millionths of its
+-- The micro report from the parts of a number. Rounding half to even gives equal fractions one result (`half-same`). So a finite number's report is that of the millionths of its
 -- d · 2 ^ k units of 2 ^ -149 (`report-finite`). From k = 138 on, that is from 4096 on, it is Over (`report-large`); up to k = 101 it is 0 millionths (`tiny`), and between them the rounding
 -- of a fraction of two small numbers (`scaled`). Assumes nothing.
 use mathlib.Core.Path.{_≡_, refl, sym, ap, _∙_, subst}
-use Prim.Native.Nat.{ℕ, zero, suc, _+_, _-_, _*_, _%_, _^_, _≤_, _<_}
-use native.Mathlib.Nat.{add-mul, mul-comm, mul-assoc, mul-left-comm, mul-right-comm, mul-pos, mul-le-mul, one-mul, le-refl, le-trans, le-of-lt, lt-of-le-of-lt, div-eq-of-lt, le-div-iff-mul-le, mod-eq-of-lt}
+use Prim.Native.Nat.{ℕ, zero, suc, _-_, _*_, _/_, _%_, _^_, _≤_, _<_, compare}
+use native.Mathlib.Nat.{mul-comm, mul-assoc, mul-right-comm, mul-le-mul, one-mul, le-refl, le-trans, le-of-lt, lt-of-le-of-lt, div-eq-of-lt, le-div-iff-mul-le, mod-eq-of-lt}
 use native.Mathlib.Omega.{arith}
 use mathlib.Core.Bool.{Bool, cond}
 use lib.IntN.{pos, negℤ, _-ℤ_, +ℤ-idl}
@@ -13,39 +13,30 @@ use lib.Ieee.{Float, nan, inf, fin, up, down}
 use lib.Ieee.Digits.{back}
 use lib.Ieee.Fits.{down-pos}
 use lib.Ieee.Bits.{is-true}
-use lib.Ieee.Nearest.{div-same}
+use lib.Ieee.Nearest.{nearest-ge, closest-same}
 use mir.Syntax.{w32}
 use mir.Val.{SFits}
 use Rattle.floats.specs.Bits.{partsOf}
-use Rattle.floats.specs.MicroReport.{halfAway, wholeOrOver, microReportOf}
+use Rattle.floats.specs.MicroReport.{halfEven, wholeOrOver, microReportOf}
 use Rattle.floats.specs.declared.bits.Parts.the-variants as parts
 use Rattle.floats.specs.declared.micro_report.MicroReport.the-variants.{Whole, Over, Nan}
 use Rattle.floats.proofs.BitsLaws.{Finite-parts, differ}
+use Rattle.floats.proofs.HalfEven.{below-half}
 
--- ---- rounding half away from zero
+-- ---- rounding half to even
 
-cross : (a b d : ℕ) → (2 * a + b) * (2 * d) ≡ 4 * (a * d) + 2 * (b * d)
-cross a b d = add-mul (2 * a) b (2 * d) ∙ collect (2 * a * (2 * d)) (b * (2 * d)) (a * d) (b * d) (simp (mul-assoc, mul-left-comm)) (mul-left-comm b 2 d)
-  where
-    collect : (x y p q : ℕ) → x ≡ 2 * (2 * p) → y ≡ 2 * q → x + y ≡ 4 * p + 2 * q
-    collect x y p q h k = omega arith
+pub half-same : (a b c d : ℕ) → 0 < b → 0 < d → a * d ≡ c * b → halfEven a b ≡ halfEven c d
+unfolding halfEven
+half-same = closest-same
 
-pub half-same : (a b c d : ℕ) → 0 < b → 0 < d → a * d ≡ c * b → halfAway a b ≡ halfAway c d
-half-same a b c d B D h =
-    div-same (2 * a + b) (2 * b) (2 * c + d) (2 * d) (mul-pos (lit< tt) B) (mul-pos (lit< tt) D)
-    (cross a b d ∙ ap (λ (x : ℕ). 4 * x + 2 * (b * d)) h ∙ ap (λ (x : ℕ). 4 * (c * b) + 2 * x) (mul-comm b d) ∙ sym (cross c d b))
+half-zero : (num den : ℕ) → num * 2 < den → halfEven num den ≡ 0
+half-zero num den h =
+    let l : num < den = omega arith in
+    below-half num den (rw (mod-eq-of-lt l) h) ∙ div-eq-of-lt l
 
-half-zero : (num den : ℕ) → 2 * num < den → halfAway num den ≡ 0
-half-zero num den h = div-eq-of-lt (below num den h)
-  where
-    below : (n d : ℕ) → 2 * n < d → 2 * n + d < 2 * d
-    below n d l = omega arith
-
-half-reaches : (num den q : ℕ) → 0 < den → q * den ≤ num → q ≤ halfAway num den
-half-reaches num den q D h = le-div-iff-mul-le (mul-pos (lit< tt) D) .1 (doubled (q * (2 * den)) (q * den) num den (mul-left-comm q 2 den) h)
-  where
-    doubled : (x p n d : ℕ) → x ≡ 2 * p → p ≤ n → x ≤ 2 * n + d
-    doubled x p n d e l = omega arith
+half-reaches : (num den q : ℕ) → 0 < den → q * den ≤ num → q ≤ halfEven num den
+unfolding halfEven
+half-reaches num den q D h = le-trans (le-div-iff-mul-le D .1 h) (nearest-ge (num / den) (compare (num % den * 2) den))
 
 -- ---- the millionths of d · 2 ^ k units
 
@@ -59,25 +50,25 @@ one-pos s h = subst (λ (x : ℕ). 0 < x) (sym (one-shifted s h)) (pow-pos s)
 pub one-small : (s : ℕ) → s < 48 → 1 * 2 ^ s % 2 ^ 64 ≤ 2 ^ 48
 one-small s h = subst (λ (x : ℕ). x ≤ 2 ^ 48) (sym (one-shifted s h)) (pow-mono (le-of-lt h))
 
-pub tiny : (d k : ℕ) → d < 2 ^ 24 → k ≤ 101 → halfAway (d * 2 ^ k * 10 ^ 6) (2 ^ 149) ≡ 0
-tiny d k D K = half-zero (d * 2 ^ k * 10 ^ 6) (2 ^ 149) (lt-of-le-of-lt (mul-le-mul (le-refl 2) (mul-le-mul (mul-le-mul (le-of-lt D) (pow-mono K)) (le-refl (10 ^ 6)))) (lit< tt))
+pub tiny : (d k : ℕ) → d < 2 ^ 24 → k ≤ 101 → halfEven (d * 2 ^ k * 10 ^ 6) (2 ^ 149) ≡ 0
+tiny d k D K = half-zero (d * 2 ^ k * 10 ^ 6) (2 ^ 149) (lt-of-le-of-lt (mul-le-mul (mul-le-mul (mul-le-mul (le-of-lt D) (pow-mono K)) (le-refl (10 ^ 6))) (le-refl 2)) (lit< tt))
 
-pub scaled : (d k : ℕ) → 149 - k < 48 → k < 138 → halfAway (d * 10 ^ 6) (1 * 2 ^ (149 - k) % 2 ^ 64) ≡ halfAway (d * 2 ^ k * 10 ^ 6) (2 ^ 149)
+pub scaled : (d k : ℕ) → 149 - k < 48 → k < 138 → halfEven (d * 10 ^ 6) (1 * 2 ^ (149 - k) % 2 ^ 64) ≡ halfEven (d * 2 ^ k * 10 ^ 6) (2 ^ 149)
 scaled d k L U =
     let s = 149 - k in
-    ap (λ (x : ℕ). halfAway (d * 10 ^ 6) x) (one-shifted s L)
+    ap (λ (x : ℕ). halfEven (d * 10 ^ 6) x) (one-shifted s L)
     ∙ half-same (d * 10 ^ 6) (2 ^ s) (d * 2 ^ k * 10 ^ 6) (2 ^ 149) (pow-pos s) (pow-pos 149)
     (ap (λ (x : ℕ). d * 10 ^ 6 * x) (ap (λ (x : ℕ). 2 ^ x) (sym (back 149 k (under k U))) ∙ pow-add 2 s k) ∙ simp (mul-assoc, mul-comm))
   where
     under : (j : ℕ) → j < 138 → j ≤ 149
     under j h = omega arith
 
-large : (d k : ℕ) → 2 ^ 23 ≤ d → 138 ≤ k → 2 ^ 31 ≤ halfAway (d * 2 ^ k * 10 ^ 6) (2 ^ 149)
+large : (d k : ℕ) → 2 ^ 23 ≤ d → 138 ≤ k → 2 ^ 31 ≤ halfEven (d * 2 ^ k * 10 ^ 6) (2 ^ 149)
 large d k D K = half-reaches (d * 2 ^ k * 10 ^ 6) (2 ^ 149) (2 ^ 31) (pow-pos 149) (le-trans (lit≤ tt) (mul-le-mul (mul-le-mul D (pow-mono K)) (le-refl (10 ^ 6))))
 
 -- ---- the report
 
-pub report-finite : {x : Float} {s : Bool} {d k : ℕ} → Finite-parts x s d k → microReportOf x ≡ wholeOrOver s (halfAway (d * 2 ^ k * 10 ^ 6) (2 ^ 149))
+pub report-finite : {x : Float} {s : Bool} {d k : ℕ} → Finite-parts x s d k → microReportOf x ≡ wholeOrOver s (halfEven (d * 2 ^ k * 10 ^ 6) (2 ^ 149))
 unfolding microReportOf
 report-finite {x} {s} {d} {k} p =
     let m = p .significand in
@@ -94,7 +85,7 @@ unfolding wholeOrOver
 over s q h = ap (λ (b : Bool). cond b Over (Whole (cond s (negℤ (pos q)) (pos q)))) (is-true (leb (2 ^ 31) q) (le→leb (2 ^ 31) q h))
 
 pub report-large : {x : Float} {s : Bool} {d k : ℕ} → Finite-parts x s d k → 138 ≤ k → Over ≡ microReportOf x
-report-large {x} {s} {d} {k} p h = sym (report-finite p ∙ over s (halfAway (d * 2 ^ k * 10 ^ 6) (2 ^ 149)) (large d k (p .normal (some k h)) h))
+report-large {x} {s} {d} {k} p h = sym (report-finite p ∙ over s (halfEven (d * 2 ^ k * 10 ^ 6) (2 ^ 149)) (large d k (p .normal (some k h)) h))
   where
     some : (j : ℕ) → 138 ≤ j → 0 < j
     some j l = omega arith

@@ -26,7 +26,7 @@ Holds (masks locked limit motor coupled ids) =
 Holds (angle re im r) = angleOf (bits re) (bits im) ≡ bits r
 Holds (report x r) = microReportOf (bits x) ≡ r
 
--- document 01's table
+-- document 01's table; the reports are request R-3's
 abbrev pub table : List Case
 table =
     masks 3 4 4 0 (Motor 2 ∷ Dof 0 ∷ Dof 1 ∷ Limit 2 ∷ [])
@@ -40,8 +40,9 @@ table =
     ∷ angle 0 0x3F80_0000 0x3FC9_0FDB
     ∷ angle 0x3F80_0000 0x3F80_0000 0x3F49_0FDB
     ∷ angle 0xBF80_0000 0 0x4049_0FDB
-    ∷ report 0x3C00_0000 (Whole (pos 7813))
-    ∷ report 0xBC00_0000 (Whole (negℤ (pos 7813)))
+    ∷ report 0x3C00_0000 (Whole (pos 7812))
+    ∷ report 0x3CC0_0000 (Whole (pos 23438))
+    ∷ report 0xBC00_0000 (Whole (negℤ (pos 7812)))
     ∷ []
 
 infixr 4 _and_

@@ -177,7 +177,7 @@ pub fn angle(re: f32, im: f32) -> f32 {
     f32::from_bits(nearest(a as u128, -30, false).to_bits() | im.to_bits() & SIGN)
 }
 
-/// Millionths of x, half away from zero, as one number: the whole number, `OVER` or
+/// Millionths of x, half to even (request R-3), as one number: the whole number, `OVER` or
 /// `NOT_A_NUMBER`.
 pub fn micro_report(x: f32) -> i64 {
     if is_nan(x) {
@@ -195,7 +195,8 @@ pub fn micro_report(x: f32) -> i64 {
     } else if e >= 0 {
         n << e
     } else if e > -46 {
-        (2 * n + (1 << -e)) >> (1 - e)
+        let (low, rest, half) = (n >> -e, n & ((1 << -e) - 1), 1 << (-e - 1));
+        low + (rest > half || rest == half && low & 1 == 1) as u128
     } else {
         0
     };

@@ -15,20 +15,20 @@ returns c =
     let k : c .before .args .k ≤ 101 = omega arith in
     sym (tiny (c .before .args .d) (c .before .args .k) (c .before .pre .0) k)
 
-mul-half-away : tie.Need-mul-half-away
-mul-half-away c = search needs
+mul-half-even : tie.Need-mul-half-even
+mul-half-even c = search needs
 
-cast-half-away : tie.Need-cast-half-away
-cast-half-away c = search needs
+cast-half-even : tie.Need-cast-half-even
+cast-half-even c = search needs
 
-shl-half-away : tie.Need-shl-half-away
-shl-half-away c = search needs
+shl-half-even : tie.Need-shl-half-even
+shl-half-even c = search needs
 
-half-away-requires : tie.Need-half-away-requires
-half-away-requires c κs = (omega arith, omega (arith, one-small (149 - c .before .args .k) (c .if1 .left)), one-pos (149 - c .before .args .k) (c .if1 .left))
+half-even-requires : tie.Need-half-even-requires
+half-even-requires c κs = (omega arith, omega (arith, one-small (149 - c .before .args .k) (c .if1 .left)), one-pos (149 - c .before .args .k) (c .if1 .left))
 
 returns-2 : tie.Need-returns-2
-returns-2 c = c .half-away .ensures ∙ scaled (c .before .before .args .d) (c .before .before .args .k) (c .before .if1 .left) (c .before .before .pre .1)
+returns-2 c = c .half-even .ensures ∙ scaled (c .before .before .args .d) (c .before .before .args .k) (c .before .if1 .left) (c .before .before .pre .1)
 
 pub millionths-spec : {M : Type 1} → statement M
-millionths-spec = tie.close (tie.spec sub-s returns mul-half-away cast-half-away shl-half-away half-away-requires returns-2)
+millionths-spec = tie.close (tie.spec sub-s returns mul-half-even cast-half-even shl-half-even half-even-requires returns-2)
