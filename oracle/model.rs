@@ -1,12 +1,16 @@
 //! The model of several joints from document 01: the refusals and the calls here, the rows by the
 //! unchanged Rust.
 
+use crate::sines;
 use rapier2d::pipeline::model as rust;
 
 pub const BODY: usize = 10;
-pub const WORDS: usize = 10;
+pub const WORDS: usize = 11;
 /// Place of a joint's `JointEnabled` in its words.
 pub const ENABLED: usize = 9;
+/// Place of the word that says how the centre is typed: 0 by cosine and sine (numbers 40 and 41),
+/// every other word by an angle (number 40).
+pub const CHOICE: usize = 10;
 pub const JOINT: usize = 42;
 pub const ROW: usize = 18;
 pub const WORLD: u32 = u32::MAX;
@@ -15,7 +19,7 @@ pub const MOST_ROUNDS: u32 = 64;
 
 /// Places in a joint's numbers that rule 6 looks at: frames, softness, centre and the motors'
 /// first four must be finite; limit ends and maximum forces may be infinite. The other nine are
-/// the stored impulses.
+/// the stored impulses. Where the centre is typed as an angle, 41 is nobody's.
 pub const FINITE: [usize; 24] = [
     0, 1, 2, 3, 4, 5, 6, 7, 17, 18, 19, 20, 23, 24, 25, 26, 29, 30, 31, 32, 35, 36, 40, 41,
 ];
@@ -34,7 +38,7 @@ pub struct Study {
     /// Pose re, im, x, y; inverse inertia; inverse mass x, y; velocity x, y, angular.
     pub bodies: Vec<f32>,
     /// Body 1, body 2; locked, limit, motor and coupled mask; motor models of axes 0, 1, 2;
-    /// `JointEnabled`.
+    /// `JointEnabled`; how the centre is typed.
     pub words: Vec<u32>,
     pub numbers: Vec<f32>,
     pub rows: Vec<f32>,
@@ -166,7 +170,24 @@ impl Study {
     }
 }
 
-/// Rules 1 to 8, one on the whole model before the next.
+/// Whether rule 6 and the rows read number i of a joint with these words.
+pub fn has_number(w: &[u32], i: usize) -> bool {
+    i != 41 || w[CHOICE] == 0
+}
+
+/// The joints' numbers with the pair of each typed angle in its place, as the Rust gets them.
+fn paired(words: &[u32], numbers: &[f32]) -> Vec<f32> {
+    let mut all = numbers.to_vec();
+    for (w, n) in words.chunks_exact(WORDS).zip(all.chunks_exact_mut(JOINT)) {
+        if w[CHOICE] != 0 {
+            let pair = sines::pair(n[40]);
+            n[40..].copy_from_slice(&pair);
+        }
+    }
+    all
+}
+
+/// Rules 1 to 8 and 12, one on the whole model before the next.
 fn model_refusal(s: &Study, call: &Call) -> u64 {
     let bodies = s.body_count();
     if bodies > 128 {
@@ -189,8 +210,10 @@ fn model_refusal(s: &Study, call: &Call) -> u64 {
     }
     let all_finite = |n: &[f32]| n.iter().all(|x| x.is_finite());
     let body_ok = |n: &[f32]| all_finite(&n[..7]);
-    let joint_ok = |n: &[f32]| {
-        FINITE.iter().all(|i| n[*i].is_finite()) && NUMBER.iter().all(|i| !n[*i].is_nan())
+    let joint_ok = |w: &[u32], n: &[f32]| {
+        let own = |i: &&usize| has_number(w, **i);
+        FINITE.iter().filter(own).all(|i| n[*i].is_finite())
+            && NUMBER.iter().all(|i| !n[*i].is_nan())
     };
     let argument_ok = match call {
         Call::Place { pose, .. } => all_finite(pose),
@@ -203,10 +226,15 @@ fn model_refusal(s: &Study, call: &Call) -> u64 {
     };
     if !(all_finite(&s.settings)
         && s.bodies.chunks_exact(BODY).all(body_ok)
-        && s.joints().all(|(_, n)| joint_ok(n))
+        && s.joints().all(|(w, n)| joint_ok(w, n))
         && argument_ok)
     {
         return 6;
+    }
+    if s.joints()
+        .any(|(w, n)| w[CHOICE] != 0 && sines::too_large(n[40]))
+    {
+        return 12;
     }
     if s.settings[0] < 0.0 {
         return 7;
@@ -269,7 +297,7 @@ pub fn call(s: &mut Study, call: &Call) -> Answer {
                 &s.settings,
                 &s.bodies[..bodies],
                 &s.words[..words],
-                &s.numbers[..numbers],
+                &paired(&s.words[..words], &s.numbers[..numbers]),
                 &mut s.rows,
                 warm.then_some(coefficient),
                 substep,

@@ -3,6 +3,7 @@
 
 use crate::model::{Answer, Call, GRANTED, Study};
 use crate::rendering;
+use crate::sines;
 use std::sync::atomic::{AtomicU32, Ordering};
 
 static FAULT: AtomicU32 = AtomicU32::new(0);
@@ -13,7 +14,7 @@ pub fn carry(number: u32) {
 }
 
 /// Fault k is entry k − 1.
-pub const FAULTS: [&str; 93] = [
+pub const FAULTS: [&str; 104] = [
     // The order of the rules.
     "rules 1 and 2 exchanged",
     "rules 2 and 3 exchanged",
@@ -116,6 +117,18 @@ pub const FAULTS: [&str; 93] = [
     "a joint that is switched off is not looked at by rules 3 to 6",
     "write-back clears what a joint that is switched off has stored",
     "a row read of a joint that is switched off is refused",
+    // Typed angles.
+    "12 is tried before 6",
+    "12 is tried after 7",
+    "a typed angle of 1024 is refused",
+    "a typed angle above 1024 is not refused",
+    "a typed angle below −1024 is not refused",
+    "the number beside a typed angle is looked at",
+    "a typed angle is taken as a cosine",
+    "only the word 1 says that an angle is typed",
+    "12 looks at typed cosines",
+    "12 looks only at joints with an angular limit row",
+    "a velocity read passes over 12",
 ];
 
 fn fault(number: u32) -> bool {
@@ -132,7 +145,7 @@ const LIMITS: [usize; 3] = [8, 11, 14];
 
 /// A joint as the model has it.
 struct Joint {
-    words: [u32; 10],
+    words: [u32; 11],
     numbers: [f32; 42],
     ids: Vec<u32>,
     /// Whether it is switched off.
@@ -146,7 +159,7 @@ struct Joint {
 fn joints(s: &Study) -> Vec<Joint> {
     let mut next = 0;
     let mut all = Vec::new();
-    for (w, n) in s.words.chunks_exact(10).zip(s.numbers.chunks_exact(42)) {
+    for (w, n) in s.words.chunks_exact(11).zip(s.numbers.chunks_exact(42)) {
         let named = rendering::ids(&w[2..6]);
         let off = match w[9] {
             0 => false,
@@ -185,6 +198,21 @@ fn strange(n: &[f32]) -> bool {
     n.iter().any(|x| x.is_nan())
 }
 
+/// Whether the joint's centre is a typed angle.
+fn typed_angle(joint: &Joint) -> bool {
+    or!(101, joint.words[10] != 0, joint.words[10] == 1)
+}
+
+/// Whether rule 12 refuses it.
+fn angle_large(joint: &Joint) -> bool {
+    let angle = joint.numbers[40];
+    (typed_angle(joint) || fault(102))
+        && (!fault(103) || joint.ids.contains(&6))
+        && (angle > 1024.0 && !fault(97)
+            || angle < -1024.0 && !fault(98)
+            || angle.abs() == 1024.0 && fault(96))
+}
+
 /// Whether rule 6 refuses a joint's numbers.
 fn joint_wild(joint: &Joint) -> bool {
     let n = &joint.numbers;
@@ -210,7 +238,7 @@ fn joint_wild(joint: &Joint) -> bool {
         || (0..3).any(motor)
         || wild(&n[35..37]) && !fault(36)
         || fault(29) && wild(&n[37..40])
-        || wild(&n[40..]) && !fault(35)
+        || wild(&n[40..or!(99, 42 - typed_angle(joint) as usize, 42)]) && !fault(35)
 }
 
 /// The rules in checking order, and whether each refuses.
@@ -221,7 +249,7 @@ fn rules(s: &Study, call: &Call) -> Vec<(u64, bool)> {
     let bodies = parts as u64;
 
     let too_many = bodies > or!(13, or!(12, 128, 127), 129);
-    let counted = or!(17, all.len(), s.words.len() / 10);
+    let counted = or!(17, all.len(), s.words.len() / 11);
     let too_jointed = counted > or!(15, or!(14, 128, 127), 129);
     let mask_bad = |j: &Joint| {
         let masks = &j.words[2..or!(20, 6, 5)];
@@ -323,19 +351,32 @@ fn rules(s: &Study, call: &Call) -> Vec<(u64, bool)> {
             }
         }
     }
+    let large = all.iter().any(angle_large)
+        && !(fault(104) && matches!(call, Call::ReadVelocity(_)));
     let mut order = vec![(1, too_many), (2, too_jointed)];
     order.extend(of_joints);
     order.extend([
+        (12, large),
         (7, backwards),
         (8, short),
         (9, too_long),
         (10, unbuilt),
         (11, absent),
     ]);
+    let mut exchange = |one: u64, two: u64| {
+        let [one, two] = [one, two].map(|k| order.iter().position(|rule| rule.0 == k).unwrap());
+        order.swap(one, two);
+    };
     for k in 1..11 {
         if fault(k as u32) {
-            order.swap(k - 1, k);
+            exchange(k, k + 1);
         }
+    }
+    if fault(94) {
+        exchange(6, 12);
+    }
+    if fault(95) {
+        exchange(12, 7);
     }
     order
 }
@@ -366,7 +407,12 @@ fn build(s: &mut Study, all: &[Joint], warm: Option<f32>, substep: u32) -> usize
         let mut n = s.settings.to_vec();
         n.extend(&body(s, joint.words[0])[..7]);
         n.extend(&body(s, joint.words[1])[..7]);
-        n.extend(joint.numbers);
+        let mut own = joint.numbers;
+        if typed_angle(joint) && !fault(100) {
+            let pair = sines::pair(own[40]);
+            own[40..].copy_from_slice(&pair);
+        }
+        n.extend(own);
         n.push(warm.unwrap_or(0.0));
         if fault(71) {
             for k in [10, 13, 16, 22, 28, 34, 37, 38, 39] {

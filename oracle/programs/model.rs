@@ -37,6 +37,8 @@ mod model_rendering;
 mod pairs;
 #[path = "../rendering.rs"]
 mod rendering;
+#[path = "../sines.rs"]
+mod sines;
 #[path = "model/run.rs"]
 mod run;
 mod studies;

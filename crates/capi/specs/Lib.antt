@@ -1,3 +1,4 @@
 pub mod CallExports
 pub mod Exports
 pub mod JointExports
+pub mod SinCosExports

@@ -328,7 +328,8 @@ fn body_at(numbers: &[f32], i: usize) -> SolverPose
     }
 }
 
-// The joint: its stored words would start with its two bodies.
+// The joint: its stored words would start with its two bodies, and end with two that say that it is
+// enabled and that its centre is typed as cosine and sine.
 fn joint_from(words: &[u32], numbers: &[f32]) -> ImpulseJoint
     requires { ⌜ 9 ≤ length (now words) ⌝ }
     requires { ⌜ 60 ≤ length (now numbers) ⌝ }
@@ -344,6 +345,7 @@ fn joint_from(words: &[u32], numbers: &[f32]) -> ImpulseJoint
         words[4],
         words[5],
         words[6],
+        0u32,
         0u32,
     ];
     read_joint(&all, &numbers[17..59], 0)

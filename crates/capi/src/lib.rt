@@ -30,6 +30,7 @@ use floats::vector::Vector;
 
 pub mod calls;
 pub mod joint;
+pub mod sin_cos;
 
 #[no_mangle]
 pub extern "C" fn katydidzinc_inv(val: f32) -> f32

@@ -87,9 +87,9 @@ fn draw_bodies(bodies: &mut [f32]) {
 // Every joint is between bodies 0 and 1; the first has rows.
 fn draw_words(words: &mut [u32]) {
     let mut i = 1usize;
-    while i < 1290 {
+    while i < 1419 {
         set_word(words, i, 1);
-        i += 10;
+        i += 11;
     }
     set_word(words, 2, 6);
     set_word(words, 3, 1);
@@ -143,14 +143,14 @@ fn counts(bodies: &[f32], words: &[u32], numbers: &[f32], rows: &[f32]) {
     if bodies.len() < 1290 {
         return;
     }
-    if words.len() < 1290 {
+    if words.len() < 1419 {
         return;
     }
     if numbers.len() < 5418 {
         return;
     }
     let few = &bodies[0..1280];
-    let some = &words[0..1280];
+    let some = &words[0..1408];
     loaded(b"128 bodies, 128 joints", h, few, some, numbers, rows);
     loaded(b"129 bodies", h, bodies, words, numbers, rows);
     loaded(b"129 joints", h, few, words, numbers, rows);
@@ -159,11 +159,11 @@ fn counts(bodies: &[f32], words: &[u32], numbers: &[f32], rows: &[f32]) {
 // A mask of the second joint, which keeps 0.
 fn masks(bodies: &[f32], words: &mut [u32], numbers: &[f32], rows: &[f32]) {
     let h = header(0.5, false);
-    set_word(words, 15, 7);
+    set_word(words, 16, 7);
     loaded(b"mask 7", h, bodies, words, numbers, rows);
-    set_word(words, 15, 8);
+    set_word(words, 16, 8);
     loaded(b"mask 8", h, bodies, words, numbers, rows);
-    set_word(words, 15, 0);
+    set_word(words, 16, 0);
 }
 
 fn from_the_world(bodies: &[f32], words: &mut [u32], numbers: &[f32], rows: &[f32]) {
@@ -245,6 +245,63 @@ fn times(bodies: &[f32], words: &[u32], numbers: &[f32], rows: &[f32]) {
         rows,
     );
     loaded(b"dt -1", header(-1.0, false), bodies, words, numbers, rows);
+}
+
+// Joint 0's centre as a typed angle, or the first number of a typed pair.
+fn centre(name: &[u8], x: f32, bodies: &[f32], words: &[u32], numbers: &mut [f32], rows: &[f32]) {
+    set(numbers, 40, x);
+    loaded(name, header(0.5, false), bodies, words, numbers, rows);
+}
+
+fn typed_angles(bodies: &[f32], words: &[u32], numbers: &mut [f32], rows: &[f32]) {
+    centre(
+        b"a typed angle of 1024",
+        1024.0,
+        bodies,
+        words,
+        numbers,
+        rows,
+    );
+    centre(
+        b"a typed angle of 1025",
+        1025.0,
+        bodies,
+        words,
+        numbers,
+        rows,
+    );
+    let nan = from_bits(NAN);
+    centre(b"a typed angle of nan", nan, bodies, words, numbers, rows);
+    set(numbers, 40, -0.5);
+    beside(bodies, words, numbers, rows);
+}
+
+fn angles(bodies: &[f32], words: &mut [u32], numbers: &mut [f32], rows: &[f32]) {
+    set_word(words, 10, 1);
+    typed_angles(bodies, words, numbers, rows);
+    set_word(words, 10, 0);
+    centre(
+        b"a typed cosine of 1025",
+        1025.0,
+        bodies,
+        words,
+        numbers,
+        rows,
+    );
+    set(numbers, 40, 1.0);
+}
+
+fn beside(bodies: &[f32], words: &[u32], numbers: &mut [f32], rows: &[f32]) {
+    set(numbers, 41, from_bits(NAN));
+    loaded(
+        b"nan beside a typed angle",
+        header(0.5, false),
+        bodies,
+        words,
+        numbers,
+        rows,
+    );
+    set(numbers, 41, 0.0);
 }
 
 // The three rows of the model are 54 numbers.
@@ -498,16 +555,22 @@ fn joints(bodies: &[f32], words: &mut [u32], numbers: &[f32], rows: &mut [f32]) 
     switched_off(bodies, words, numbers, rows);
 }
 
-fn edges(bodies: &mut [f32], words: &mut [u32], numbers: &mut [f32], rows: &mut [f32]) {
+// Rules 1 to 8, and 12.
+fn models_checked(bodies: &mut [f32], words: &mut [u32], numbers: &mut [f32], rows: &mut [f32]) {
     joints(bodies, words, numbers, rows);
     finite(bodies, words, numbers, rows);
+    angles(bodies, words, numbers, rows);
+}
+
+fn edges(bodies: &mut [f32], words: &mut [u32], numbers: &mut [f32], rows: &mut [f32]) {
+    models_checked(bodies, words, numbers, rows);
     too_soon(bodies, words, numbers, rows);
     indices(bodies, words, numbers, rows);
 }
 
 pub fn models() {
     let mut bodies = [0.0f32; 1290];
-    let mut words = [0u32; 1290];
+    let mut words = [0u32; 1419];
     let mut numbers = [0.0f32; 5418];
     let mut rows = [0.0f32; 54];
     draw_bodies(&mut bodies);
@@ -516,7 +579,7 @@ pub fn models() {
     counts(&bodies, &words, &numbers, &rows);
     edges(
         &mut bodies[0..20],
-        &mut words[0..1280],
+        &mut words[0..1408],
         &mut numbers,
         &mut rows,
     );

@@ -18,5 +18,8 @@ pub mod UnitInterval
 pub mod WholeUnits
 pub mod AngleCases
 pub mod HalfEven
+pub mod SinesLaws
+pub mod TurnLaws
+pub mod SinCosCases
 pub mod MicroReportLaws
 pub mod MicroReportCases

@@ -10,4 +10,6 @@ pub mod CorrectlyRounded
 pub mod Rotation
 pub mod Pose
 pub mod Angle
+pub mod Sines
+pub mod SinCos
 pub mod MicroReport

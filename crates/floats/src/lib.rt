@@ -8,6 +8,8 @@ pub mod pose;
 pub mod rotation_ops;
 pub mod scalar;
 pub mod sign;
+pub mod sin_cos;
+pub mod sines;
 pub mod sqrt;
 pub mod utils;
 pub mod vector;

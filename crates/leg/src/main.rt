@@ -77,7 +77,7 @@ fn joint(words: &mut [u32], j: usize, body1: u32, body2: u32, limit: u32, motor:
     if j > 2 {
         return;
     }
-    let o = j * 10;
+    let o = j * 11;
     set_word(words, o, body1);
     set_word(words, o + 1, body2);
     set_word(words, o + 2, 3);
@@ -324,7 +324,7 @@ fn run(bodies: &mut [f32], words: &[u32], numbers: &mut [f32], rows: &mut [f32])
 
 fn main() {
     let mut bodies = [0.0f32; 30];
-    let mut words = [0u32; 30];
+    let mut words = [0u32; 33];
     let mut numbers = [0.0f32; 126];
     let mut rows = [0.0f32; 180];
     bodies_of(&mut bodies);

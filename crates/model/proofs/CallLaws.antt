@@ -35,7 +35,7 @@ or-true false = refl
 
 -- ---- the rules that a call tries
 
--- rules 1 to 7, and rule 8
+-- rules 1 to 7 and 12, and rule 8
 abbrev pub storageRules : Model → Bool → List Float → List Rule
 storageRules m arguments rows = modelRules m arguments ++ (storageRule m rows ∷ [])
 

@@ -1,5 +1,5 @@
 -- What each call keeps of one model. Warm start and sweep change velocities alone, place one body's pose, write-back stored impulses alone; build, sweep and
--- bias removal keep the length of the row storage. So rules 1 to 7 hold after a call where they held before it (`run-holds`), and a call changes no count (`run-counts`).
+-- bias removal keep the length of the row storage. So rules 1 to 7 and 12 hold after a call where they held before it (`run-holds`), and a call changes no count (`run-counts`).
 use Prim.Native.Nat.{ℕ, zero, suc, _+_, _*_, _-_, _≤_, _<_}
 use mathlib.Core.Path.{_≡_, refl, sym, ap, _∙_}
 use mathlib.Core.Logic.{_≢_, inl, inr}
@@ -18,12 +18,12 @@ use Rattle.rows.specs.declared.joint_velocity_constraint.JointConstraint.{Joint
 use Rattle.rows.specs.declared.joint_velocity_constraint.WritebackId.{WritebackId}
 use Rattle.rows.specs.declared.joint_velocity_constraint.WritebackId.the-variants.{Dof, Limit, Motor}
 use Rattle.rows.specs.declared.joint_constraint_builder.Warmstart.{Warmstart}
-use Rattle.model.specs.Layout.{bodyWidth, velocityPlace, numbersWidth}
+use Rattle.model.specs.Layout.{bodyWidth, velocityPlace, numbersWidth, centerPlace}
 use Rattle.model.specs.Records.{num, puts}
-use Rattle.model.specs.Store.{world, putVel, putPose, putRow, putSeed, seedIndex, axisOf}
+use Rattle.model.specs.Store.{world, putVel, putPose, putRow, putSeed, seedIndex, axisOf, centerAt}
 use Rattle.model.specs.JointRows.{State, state, putRows, buildJoint, sweepRow, sweepJoint, warmstartRow, warmstartJoint, removeBiasJoint, writeBackIds, writeBackJoint}
 use Rattle.model.specs.Model.{Model, model, withMark, withBodies, withNumbers, bodyCount, jointCount, rowsBefore, totalRows}
-use Rattle.model.specs.Refusals.{Rule, refusal, all, bodyRule, finiteFrom, noNanFrom, finitePose, finiteBody, finiteMotor, finiteJoint, presentOrWorld, bodiesPresent, modelRules}
+use Rattle.model.specs.Refusals.{Rule, refusal, all, bodyRule, finiteFrom, noNanFrom, finitePose, finiteBody, finiteMotor, finiteJoint, centerFits, presentOrWorld, bodiesPresent, modelRules}
 use Rattle.model.specs.Calls.Call.{load, place, build, warmStart, sweep, removeBias, writeBack, readRows, readVelocity}
 use Rattle.model.specs.Calls.Answer.{refused}
 use Rattle.model.specs.Calls.{Call, Outcome, outcome, rulesOf, grantedOf, run, eachJoint, rounds, buildOne, warmstartOne, sweepOne, sweepRound, removeBiasOne, writeBackOne}
@@ -218,9 +218,21 @@ module _ (s s′ : List Float) (same : SameButSeeds s s′) (j : ℕ) where
   unfolding finiteMotor
   motor-range a l free free′ = rw (add-assoc (j * numbersWidth) a 4, finite-range a 4 (omega arith) free, nan-range (a + 4) 1 (omega arith) free′)
 
-  pub finiteJoint-kept : finiteJoint s′ j ≡ finiteJoint s j
+  center-number : (c : ℕ) → centerPlace ≤ c → c < numbersWidth → num numbersWidth s′ j c ≡ num numbersWidth s j c
+  unfolding all
+  center-number c l h = same .numbers j c h (fixed centerPlace 2 refl c l h)
+
+  center-kept : (words : List ℕ) → centerAt words s′ j ≡ centerAt words s j
+  unfolding centerAt
+  center-kept words = rw (center-number 40 (lit≤ tt) (lit≤ tt), center-number 41 (lit≤ tt) (lit≤ tt))
+
+  pub centerFits-kept : (words : List ℕ) → centerFits words s′ j ≡ centerFits words s j
+  unfolding centerFits
+  centerFits-kept words = rw (center-kept words)
+
+  pub finiteJoint-kept : (words : List ℕ) → finiteJoint words s′ j ≡ finiteJoint words s j
   unfolding finiteJoint all
-  finiteJoint-kept =
+  finiteJoint-kept words =
       cc (
         rw add-zero at (finite-range 0 8 (lit≤ tt) refl),
         nan-range 8 2 (lit≤ tt) refl,
@@ -230,7 +242,7 @@ module _ (s s′ : List Float) (same : SameButSeeds s s′) (j : ℕ) where
         motor-range 23 (lit≤ tt) refl refl,
         motor-range 29 (lit≤ tt) refl refl,
         finite-range 35 2 (lit≤ tt) refl,
-        finite-range 40 2 (lit≤ tt) refl,
+        center-kept words,
       )
 
 -- ---- bodies: a pose that is placed
@@ -287,7 +299,7 @@ module _ (p : Pose) (f : finitePose p ≡ true) where
       (λ t. rw (eqb-true i′ i t) (placed-finite b i room was))
       (λ t. finiteBody-kept b (putPose b i p) i′ (λ c h. num-other bodyWidth b (poseNumbers p) i i′ 0 c (eqb-false i′ i t) (lit≤ tt) (omega arith)) ∙ was′)
 
--- ---- rules 1 to 7
+-- ---- rules 1 to 7 and 12
 
 pub same-bodies : (b b′ : List Float) → length b′ ≡ length b → bodyCount b′ ≡ bodyCount b
 unfolding bodyCount
@@ -309,9 +321,10 @@ module _ (m : Model) (mark : Bool) (b n : List Float) (sizeb : length b ≡ leng
   unfolding bodiesPresent presentOrWorld
   same-present j = rw bodies-same
 
-  pub held-with : RulesHold m → ((i : ℕ) → i < bodyCount (m .bodies) → finiteBody b i ≡ true) → ((j : ℕ) → j < jointCount (m .words) (m .numbers) → finiteJoint n j ≡ true)
+  pub held-with : RulesHold m → ((i : ℕ) → i < bodyCount (m .bodies) → finiteBody b i ≡ true) → ((j : ℕ) → j < jointCount (m .words) (m .numbers) → finiteJoint (m .words) n j ≡ true)
+      → ((j : ℕ) → j < jointCount (m .words) (m .numbers) → centerFits (m .words) n j ≡ true)
       → RulesHold (model (m .params) mark b (m .words) n)
-  held-with h fb fj = record {
+  held-with h fb fj af = record {
     bodies = rw bodies-same (h .bodies);
     joints = rw joints-same (h .joints);
     masks = rw joints-same (h .masks);
@@ -319,7 +332,8 @@ module _ (m : Model) (mark : Bool) (b n : List Float) (sizeb : length b ≡ leng
     apart = rw joints-same (h .apart);
     finite-params = h .finite-params;
     finite-bodies = rw bodies-same (all-intro (finiteBody b) 0 (bodyCount (m .bodies)) (λ i _ l. fb i (omega arith)));
-    finite-joints = rw joints-same (all-intro (finiteJoint n) 0 (jointCount (m .words) (m .numbers)) (λ j _ l. fj j (omega arith)));
+    finite-joints = rw joints-same (all-intro (finiteJoint (m .words) n) 0 (jointCount (m .words) (m .numbers)) (λ j _ l. fj j (omega arith)));
+    angles = rw joints-same (all-intro (centerFits (m .words) n) 0 (jointCount (m .words) (m .numbers)) (λ j _ l. af j (omega arith)));
     dt = h .dt;
   }
 
@@ -327,25 +341,29 @@ module _ (m : Model) (h : RulesHold m) where
   bodies-finite : (i : ℕ) → i < bodyCount (m .bodies) → finiteBody (m .bodies) i ≡ true
   bodies-finite = all-below (finiteBody (m .bodies)) (bodyCount (m .bodies)) (h .finite-bodies)
 
-  joints-finite : (j : ℕ) → j < jointCount (m .words) (m .numbers) → finiteJoint (m .numbers) j ≡ true
-  joints-finite = all-below (finiteJoint (m .numbers)) (jointCount (m .words) (m .numbers)) (h .finite-joints)
+  joints-finite : (j : ℕ) → j < jointCount (m .words) (m .numbers) → finiteJoint (m .words) (m .numbers) j ≡ true
+  joints-finite = all-below (finiteJoint (m .words) (m .numbers)) (jointCount (m .words) (m .numbers)) (h .finite-joints)
+
+  angles-fit : (j : ℕ) → j < jointCount (m .words) (m .numbers) → centerFits (m .words) (m .numbers) j ≡ true
+  angles-fit = all-below (centerFits (m .words) (m .numbers)) (jointCount (m .words) (m .numbers)) (h .angles)
 
   -- another mark; other velocities; another pose; other stored impulses
   mark-holds : (mark : Bool) → RulesHold (withMark m mark)
-  mark-holds mark = held-with m mark (m .bodies) (m .numbers) refl refl h bodies-finite joints-finite
+  mark-holds mark = held-with m mark (m .bodies) (m .numbers) refl refl h bodies-finite joints-finite angles-fit
 
   poses-hold : (b : List Float) → SamePoses (m .bodies) b → RulesHold (withBodies m b)
   poses-hold b s =
-      held-with m (m .built) b (m .numbers) (s .size) refl h (λ i l. finiteBody-kept (m .bodies) b i (s .numbers i) ∙ bodies-finite i l) joints-finite
+      held-with m (m .built) b (m .numbers) (s .size) refl h (λ i l. finiteBody-kept (m .bodies) b i (s .numbers i) ∙ bodies-finite i l) joints-finite angles-fit
 
   place-holds : (i : ℕ) (p : Pose) → finitePose p ≡ true → i < bodyCount (m .bodies) → RulesHold (withBodies m (putPose (m .bodies) i p))
   place-holds i p f l =
       held-with m (m .built) (putPose (m .bodies) i p) (m .numbers) (length-putPose (m .bodies) i p) refl h
-      (λ i′ l′. place-finite p f (m .bodies) i (body-there (m .bodies) i l) i′ (bodies-finite i l) (bodies-finite i′ l′)) joints-finite
+      (λ i′ l′. place-finite p f (m .bodies) i (body-there (m .bodies) i l) i′ (bodies-finite i l) (bodies-finite i′ l′)) joints-finite angles-fit
 
   seeds-hold : (n : List Float) → SameButSeeds (m .numbers) n → RulesHold (withNumbers m n)
   seeds-hold n s =
-      held-with m (m .built) (m .bodies) n refl (s .size) h bodies-finite (λ j l. finiteJoint-kept (m .numbers) n s j ∙ joints-finite j l)
+      held-with m (m .built) (m .bodies) n refl (s .size) h bodies-finite (λ j l. finiteJoint-kept (m .numbers) n s j (m .words) ∙ joints-finite j l)
+      (λ j l. centerFits-kept (m .numbers) n s j (m .words) ∙ angles-fit j l)
 
 -- ---- the calls
 
@@ -354,7 +372,7 @@ pub granted-front : (qs rs : List Rule) → refusal (qs ++ rs) ≡ 0 → refusal
 granted-front qs rs e =
     by-cases (eqb (refusal qs) 0) (λ t. eqb-true (refusal qs) 0 t) (λ t. sym (refused-append qs rs (eqb-false (refusal qs) 0 t)) ∙ e)
 
--- and so do those after rules 1 to 7, and its own numbers are finite
+-- and so do those after rules 1 to 7 and 12, and its own numbers are finite
 pub granted-own : (m : Model) (arguments : Bool) (rest : List Rule) → RulesHold m → Numbered rest → refusal (modelRules m arguments ++ rest) ≡ 0 → (arguments ≡ true) × Hold rest
 granted-own m arguments rest h n e =
     let f = arguments-finite m arguments (granted-front (modelRules m arguments) rest e) in
@@ -386,7 +404,7 @@ granted-holds writeBack m rows h e = seeds-hold m h _ (back-keeps (m .numbers) r
 granted-holds (readRows j) m rows h e = h
 granted-holds (readVelocity i) m rows h e = h
 
--- rules 1 to 7 hold after a call where they held before it, granted or refused
+-- rules 1 to 7 and 12 hold after a call where they held before it, granted or refused
 pub run-holds : (c : Call) (m : Model) (rows : List Float) → RulesHold m → RulesHold (run c m rows .after)
 run-holds c m rows h = run-cases c m rows (λ o. RulesHold (o .after)) (granted-holds c m rows h) h
 

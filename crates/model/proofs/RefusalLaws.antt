@@ -1,6 +1,6 @@
 -- Refusals. Of any list of rules whose numbers are not 0: the call is granted exactly where every rule holds, and refused with k exactly where the rule of number
 -- k fails and every rule before it holds. Rules that hold may be dropped from the front, and what follows a rule that fails is never reached. The rules of each
--- call are such a list. Where rules 1 to 7 hold, the model is sound; where rule 8 holds, the row storage has room for the total.
+-- call are such a list. Where rules 1 to 7 and 12 hold, the model is sound; where rule 8 holds, the row storage has room for the total.
 use Prim.Native.Nat.{ℕ, zero, suc, _+_, _-_, _≤_, _<_}
 use mathlib.Core.Path.{_≡_, refl, sym, ap, _∙_}
 use mathlib.Core.Bool.{Bool, true, false, not, cond, _&&_, false≢true}
@@ -14,7 +14,7 @@ use lib.Ieee.{Float, lt}
 use Rattle.floats.specs.Operators.{bits}
 use Rattle.model.specs.Store.{world, Present, body1At, body2At}
 use Rattle.model.specs.Model.{mostBodies, mostJoints, Model, bodyCount, jointCount, rowCapacity, totalRows, Sound, Room}
-use Rattle.model.specs.Refusals.{Rule, rule, refusal, all, atMost, masksFit, presentOrWorld, bodiesPresent, bodiesApart, finiteParams, finiteBody, finiteJoint, modelRules, storageRule, sweepRule, builtRule, seedsRule, bodyRule, jointRule}
+use Rattle.model.specs.Refusals.{Rule, rule, refusal, all, atMost, masksFit, presentOrWorld, bodiesPresent, bodiesApart, finiteParams, finiteBody, finiteJoint, centerFits, modelRules, storageRule, sweepRule, builtRule, seedsRule, bodyRule, jointRule}
 use Rattle.model.specs.Calls.{Call, Asked, Own, ownRule, table, handedRules, askedRules, firstRules, ownRules, rulesOf}
 use Rattle.model.specs.Calls.Own.{fewRounds, afterBuild, rowsToRead}
 use Rattle.model.specs.Calls.Asked.{nothing, body, joint}
@@ -192,6 +192,11 @@ all-intro p i n e = all-cong p (λ k. true) i n e ∙ all-true i n
 
 -- ---- the rules of the calls
 
+-- document 01's order, with 12 right after 6
+checking-order : (m : Model) (arguments : Bool) → map (λ (r : Rule). r .number) (modelRules m arguments) ≡ 1 ∷ 2 ∷ 3 ∷ 4 ∷ 5 ∷ 6 ∷ 12 ∷ 7 ∷ []
+unfolding modelRules
+checking-order m arguments = refl
+
 pub model-numbered : (m : Model) (arguments : Bool) → Numbered (modelRules m arguments)
 unfolding modelRules
 model-numbered m arguments = omega arith
@@ -231,7 +236,7 @@ module _ (m : Model) where
       numbered-append (firstRules c m rows) (ownRules c m) (first-numbered c rows)
       (numbered-append (map (ownRule m) (table c .own)) (askedRules m (table c .asked)) (all-numbered (table c .own)) (asked-numbered (table c .asked)))
 
--- ---- rules 1 to 7
+-- ---- rules 1 to 7 and 12
 
 -- what they ask of the model; beside it rule 6 asks that the call's own numbers are finite
 pub record RulesHold (m : Model) : Type 0 where
@@ -242,23 +247,24 @@ pub record RulesHold (m : Model) : Type 0 where
   pub apart : all 0 (jointCount (m .words) (m .numbers)) (bodiesApart (m .words)) ≡ true
   pub finite-params : finiteParams (m .params) ≡ true
   pub finite-bodies : all 0 (bodyCount (m .bodies)) (finiteBody (m .bodies)) ≡ true
-  pub finite-joints : all 0 (jointCount (m .words) (m .numbers)) (finiteJoint (m .numbers)) ≡ true
+  pub finite-joints : all 0 (jointCount (m .words) (m .numbers)) (finiteJoint (m .words) (m .numbers)) ≡ true
+  pub angles : all 0 (jointCount (m .words) (m .numbers)) (centerFits (m .words) (m .numbers)) ≡ true
   pub dt : not (lt (m .params .dt) (bits 0)) ≡ true
 
 module _ (m : Model) (arguments : Bool) where
-  -- granted by rules 1 to 7 exactly where these facts hold and the call's own numbers are finite
+  -- granted by these rules exactly where these facts hold and the call's own numbers are finite
   module _ (e : refusal (modelRules m arguments) ≡ 0) where
     held : (k : ℕ) → ruleOf k (modelRules m arguments) ≡ true
     held k = hold-number k (modelRules m arguments) (all-hold (modelRules m arguments) (model-numbered m arguments) e)
 
     -- rule 6, taken apart
     finite : (finiteParams (m .params) ≡ true) × (all 0 (bodyCount (m .bodies)) (finiteBody (m .bodies)) ≡ true)
-        × (all 0 (jointCount (m .words) (m .numbers)) (finiteJoint (m .numbers)) ≡ true) × (arguments ≡ true)
+        × (all 0 (jointCount (m .words) (m .numbers)) (finiteJoint (m .words) (m .numbers)) ≡ true) × (arguments ≡ true)
     unfolding modelRules
     finite =
         let s = both (finiteParams (m .params)) _ (held 6) in
         let b = both (all 0 (bodyCount (m .bodies)) (finiteBody (m .bodies))) _ (s .1) in
-        let j = both (all 0 (jointCount (m .words) (m .numbers)) (finiteJoint (m .numbers))) arguments (b .1) in
+        let j = both (all 0 (jointCount (m .words) (m .numbers)) (finiteJoint (m .words) (m .numbers))) arguments (b .1) in
         (s .0, b .0, j .0, j .1)
 
     pub rules-hold : RulesHold m
@@ -272,6 +278,7 @@ module _ (m : Model) (arguments : Bool) where
       finite-params = finite .0;
       finite-bodies = finite .1;
       finite-joints = finite .2;
+      angles = held 12;
       dt = held 7;
     }
 
@@ -280,7 +287,7 @@ module _ (m : Model) (arguments : Bool) where
 
   pub rules-granted : RulesHold m → arguments ≡ true → refusal (modelRules m arguments) ≡ 0
   unfolding modelRules refusal
-  rules-granted h e = rw (h .bodies, h .joints, h .masks, h .present, h .apart, h .finite-params, h .finite-bodies, h .finite-joints, e, h .dt)
+  rules-granted h e = rw (h .bodies, h .joints, h .masks, h .present, h .apart, h .finite-params, h .finite-bodies, h .finite-joints, e, h .angles, h .dt)
 
   -- the rules after them then decide
   pub rules-rest : RulesHold m → arguments ≡ true → (rest : List Rule) → refusal (modelRules m arguments ++ rest) ≡ refusal rest

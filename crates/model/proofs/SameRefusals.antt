@@ -1,4 +1,4 @@
--- Two studies are refused alike (`same-refusal`): where rules 1 to 7 hold of both models, their marks are equal and row storage that is handed over has room, a
+-- Two studies are refused alike (`same-refusal`): where rules 1 to 7 and 12 hold of both models, their marks are equal and row storage that is handed over has room, a
 -- call that asks by index for nothing that only one of them has is refused with the same number in both, or in neither. Where they agree on a set, a call that
 -- asks for a body or a joint of the set is such a call (`about-asked`).
 use Prim.Native.Nat.{ℕ}
@@ -24,7 +24,7 @@ storage-holds m rows rest room = rule-holds (storageRule m rows) rest (rw (le-lt
 -- ---- two models
 
 module _ (m m′ : Model) (held : RulesHold m) (held′ : RulesHold m′) where
-  -- rules 1 to 7 hold of both models, so that the call's own numbers and the rules after them decide
+  -- rules 1 to 7 and 12 hold of both models, so that the call's own numbers and the rules after them decide
   same-rest : (arguments : Bool) (rest rest′ : List Rule) → refusal rest ≡ refusal rest′ → refusal (modelRules m arguments ++ rest) ≡ refusal (modelRules m′ arguments ++ rest′)
   same-rest arguments rest rest′ e = by-cases arguments
       (λ t. rules-rest m arguments held t rest ∙ e ∙ sym (rules-rest m′ arguments held′ t rest′))

@@ -1,6 +1,7 @@
 -- Two studies that differ and meet every premise of demand 3 (`compared`): bodies 0 and 1 are the set, with a joint between them that locks both linear axes;
 -- body 2 hangs on the world by a joint that locks two axes in the one study and three in the other, and stands elsewhere in each. The set's joint has another
--- target velocity of its first motor in each, which it does not name (`motors-differ`). The list is a build, granted in both (`builds`). All of it is computed.
+-- target velocity of its first motor in each (`motors-differ`), and its centre is typed as cosine and sine in the one and as an angle in the other
+-- (`centers-differ`): it names neither. The list is a build, granted in both (`builds`). All of it is computed.
 use Prim.Native.Nat.{ℕ, zero, suc}
 use mathlib.Core.Path.{_≡_, refl, sym, ap, _∙_}
 use mathlib.Core.Logic.{_≢_, inl, ⊎-elim}
@@ -13,6 +14,8 @@ use lib.IntN.{pos}
 use lib.ListN.{replicate}
 use lib.Ieee.{Float, fin, lt, eq, isNan, ofBits}
 use Rattle.floats.specs.Scalar.{isFinite}
+use Rattle.floats.specs.Sign.{absOf}
+use Rattle.floats.specs.SinCos.{angleTooLarge}
 use Rattle.rows.specs.Named.{SameNamed}
 use Rattle.rows.specs.RowIds.{hasAxis, rowIds}
 use Rattle.rows.specs.GenericJoint.{motorAt}
@@ -20,10 +23,12 @@ use Rattle.rows.specs.declared.integration_parameters.IntegrationParameters.{In
 use Rattle.rows.specs.declared.joint_constraint_builder.Warmstart.the-variants.{Cold}
 use Rattle.rows.specs.declared.joint_velocity_constraint.WritebackId.{WritebackId}
 use Rattle.rows.specs.declared.joint_velocity_constraint.WritebackId.the-variants.{Dof, Limit, Motor}
-use Rattle.model.specs.Store.{world, solverPoseAt, velAt, jointAt, masksAt, body1At, body2At, enabledAt}
+use Rattle.model.specs.declared.store.LimitCenter.{LimitCenter}
+use Rattle.model.specs.declared.store.LimitCenter.the-variants.{CosineSine, Angle}
+use Rattle.model.specs.Store.{world, solverPoseAt, velAt, jointAt, masksAt, body1At, body2At, enabledAt, centerAt}
 use Rattle.model.specs.JointRows.{jointIds, rowCount, rowMasksAt}
 use Rattle.model.specs.Model.{Model, model, bodyCount, jointCount, rowCapacity, rowsBefore}
-use Rattle.model.specs.Refusals.{refusal, all, masksFit, presentOrWorld, bodiesPresent, bodiesApart, finiteFrom, noNanFrom, finiteParams, finiteWarm, finiteBody, finiteMotor, finiteJoint, modelRules, storageRule, seedsRule, readsRows}
+use Rattle.model.specs.Refusals.{refusal, all, masksFit, presentOrWorld, bodiesPresent, bodiesApart, finiteFrom, noNanFrom, finiteParams, finiteWarm, finiteBody, finiteMotor, finiteCenter, finiteJoint, angleFits, centerFits, modelRules, storageRule, seedsRule, readsRows}
 use Rattle.model.specs.Calls.{rulesOf, grantedOf}
 use Rattle.model.specs.Calls.Call.{load, build}
 use Rattle.model.specs.Traces.{Study, AtEach, AtSome}
@@ -55,19 +60,20 @@ bodyAt x = one ∷ o ∷ x ∷ o ∷ one ∷ one ∷ one ∷ o ∷ o ∷ o ∷ [
 abbrev jointWith : Float → List Float
 jointWith v = one ∷ o ∷ o ∷ o ∷ one ∷ o ∷ o ∷ o ∷ (replicate 9 o ++ (v ∷ replicate 24 o))
 
--- the words of a joint between two bodies, enabled, that locks some axes
-abbrev locking : ℕ → ℕ → ℕ → List ℕ
-locking b1 b2 axes = b1 ∷ b2 ∷ axes ∷ replicate 7 0
+-- the words of a joint between two bodies, enabled, that locks some axes, and how its centre is typed
+abbrev locking : ℕ → ℕ → ℕ → ℕ → List ℕ
+locking b1 b2 axes choice = b1 ∷ b2 ∷ axes ∷ (replicate 7 0 ++ (choice ∷ []))
 
--- where body 2 stands, what its joint locks, and the target velocity of joint 0's first motor
-abbrev pub example : Float → ℕ → Float → Model
-example x axes v = model params false (bodyAt o ++ (bodyAt one ++ bodyAt x)) (locking 0 1 3 ++ locking 2 world axes) (jointWith v ++ jointWith o)
+-- where body 2 stands, what its joint locks, the target velocity of joint 0's first motor, and how joint 0's centre is typed
+abbrev pub example : Float → ℕ → Float → ℕ → Model
+example x axes v choice =
+    model params false (bodyAt o ++ (bodyAt one ++ bodyAt x)) (locking 0 1 3 choice ++ locking 2 world axes 0) (jointWith v ++ jointWith o)
 
 abbrev pub m : Model
-m = example two 7 one
+m = example two 7 one 0
 
 abbrev pub m′ : Model
-m′ = example o 3 two
+m′ = example o 3 two 1
 
 -- row storage of six rows
 abbrev pub storage : List Float
@@ -92,7 +98,7 @@ abbrev Granted : Model → Type 0
 Granted n = (refusal (rulesOf load n storage) ≡ 0) × (refusal (rulesOf (build Cold 0) n storage) ≡ 0)
 
 both-granted : Granted m × Granted m′
-unfolding rulesOf refusal all modelRules storageRule seedsRule readsRows masksFit presentOrWorld bodiesPresent bodiesApart finiteFrom noNanFrom finiteParams finiteWarm finiteBody finiteMotor finiteJoint isFinite isNan lt ofBits bodyCount jointCount rowCapacity rowsBefore rowCount jointIds rowMasksAt enabledAt masksAt body1At body2At hasAxis rowIds
+unfolding rulesOf refusal all modelRules storageRule seedsRule readsRows masksFit presentOrWorld bodiesPresent bodiesApart finiteFrom noNanFrom finiteParams finiteWarm finiteBody finiteMotor finiteCenter finiteJoint angleFits centerFits centerAt angleTooLarge absOf isFinite isNan lt ofBits bodyCount jointCount rowCapacity rowsBefore rowCount jointIds rowMasksAt enabledAt masksAt body1At body2At hasAxis rowIds
 both-granted = ((refl, refl), (refl, refl))
 
 granted : Granted m
@@ -122,49 +128,55 @@ body-cases P a b (suc zero) e = b
 body-cases P a b (suc (suc i)) e = absurd (omega (arith, ltb-true (suc (suc i)) 2 e))
 
 -- either model has two joints
-two-joints : (x v : Float) (axes : ℕ) → jointCount (example x axes v .words) (example x axes v .numbers) ≡ 2
+two-joints : (x v : Float) (axes choice : ℕ) → jointCount (example x axes v choice .words) (example x axes v choice .numbers) ≡ 2
 unfolding jointCount
-two-joints x v axes = refl
+two-joints x v axes choice = refl
 
-three-bodies : (x v : Float) (axes : ℕ) → bodyCount (example x axes v .bodies) ≡ 3
+three-bodies : (x v : Float) (axes choice : ℕ) → bodyCount (example x axes v choice .bodies) ≡ 3
 unfolding bodyCount
-three-bodies x v axes = refl
+three-bodies x v axes choice = refl
 
-module _ (x v : Float) (axes : ℕ) where
+-- an id of a lock
+abbrev isDof : WritebackId → Bool
+isDof (Dof k) = true
+isDof (Limit k) = false
+isDof (Motor k) = false
+
+module _ (x v : Float) (axes choice : ℕ) where
   abbrev q : Model
-  q = example x axes v
+  q = example x axes v choice
 
   closed : Closed set q
   unfolding body1At body2At
   closed zero t = refl
   closed (suc zero) t = absurd (t .body2 refl)
-  closed (suc (suc j)) t = absurd (omega (arith, t .there, two-joints x v axes))
+  closed (suc (suc j)) t = absurd (omega (arith, t .there, two-joints x v axes choice))
 
   -- the set's joint is joint 0
   joint-zero : OfSet set q 0
   unfolding body1At body2At
-  joint-zero = record { there = omega (arith, two-joints x v axes); inside1 = inl refl; inside2 = inl refl }
+  joint-zero = record { there = omega (arith, two-joints x v axes choice); inside1 = inl refl; inside2 = inl refl }
 
   joint-cases : (P : ℕ → Type 0) → P 0 → (j : ℕ) → OfSet set q j → P j
   unfolding body1At body2At
   joint-cases P a zero t = a
   joint-cases P a (suc zero) t = absurd (⊎-elim (λ e. omega (arith, ltb-true 2 2 e)) (λ e. omega (arith, e)) (t .inside1))
-  joint-cases P a (suc (suc j)) t = absurd (omega (arith, t .there, two-joints x v axes))
+  joint-cases P a (suc (suc j)) t = absurd (omega (arith, t .there, two-joints x v axes choice))
 
-  -- which has no motor row
+  -- which has no row but its locks'
   ids : jointIds (q .words) 0 ≡ Dof 0 ∷ Dof 1 ∷ []
   unfolding jointIds rowMasksAt enabledAt masksAt hasAxis rowIds
   ids = refl
 
-  no-motor : (i : ℕ) → HasRow q 0 (Motor i) → ⊥
-  no-motor i h = ⊎-elim (λ e. other e) (λ h. ⊎-elim (λ e. other e) List·Memᴰ·not-nil (List·Memᴰ·cases-cons h)) (List·Memᴰ·cases-cons (rw ids at h))
+  locks-alone : (id : WritebackId) → isDof id ≡ false → HasRow q 0 id → ⊥
+  locks-alone id e h = ⊎-elim (λ r. other r) (λ h. ⊎-elim (λ r. other r) List·Memᴰ·not-nil (List·Memᴰ·cases-cons h)) (List·Memᴰ·cases-cons (rw ids at h))
     where
-      other : {k : ℕ} → Motor i ≡ Dof k → ⊥
-      other e = true≢false (ap (λ (w : WritebackId). elim w [ Dof k ↦ false | Limit k ↦ false | Motor k ↦ true ]) e)
+      other : {k : ℕ} → id ≡ Dof k → ⊥
+      other r = true≢false (sym (ap isDof r) ∙ e)
 
-unnamed : (i : ℕ) → Names (recorded ts s s′) s s′ 0 (Motor i) → ⊥
+unnamed : (id : WritebackId) → isDof id ≡ false → Names (recorded ts s s′) s s′ 0 id → ⊥
 unfolding AtSome recorded
-unnamed i h = ⊎-elim (λ n. ⊎-elim (λ k. no-motor two one 7 i (k .1)) (λ k. no-motor o two 3 i (k .1)) n) (λ e. e) h
+unnamed id e h = ⊎-elim (λ n. ⊎-elim (λ k. locks-alone two one 7 0 id e (k .1)) (λ k. locks-alone o two 3 1 id e (k .1)) n) (λ e. e) h
 
 contents : SameNamed (Names (recorded ts s s′) s s′ 0) (jointAt (m .words) (m .numbers) 0) (jointAt (m′ .words) (m′ .numbers) 0)
 unfolding jointAt
@@ -174,9 +186,9 @@ contents = record {
   masks = refl;
   softness = refl;
   enabled = refl;
-  motor = λ i n. absurd (unnamed i n);
+  motor = λ i n. absurd (unnamed (Motor i) refl n);
   limits = λ i n. refl;
-  center = λ n. refl;
+  center = λ n. absurd (unnamed (Limit 2) refl n);
   dof = λ i n. refl;
 }
 
@@ -184,16 +196,16 @@ agree : Agree set (Names (recorded ts s s′) s s′) m m′
 unfolding solverPoseAt velAt body1At body2At
 agree = record {
   params = refl;
-  closed = closed two one 7;
-  closed′ = closed o two 3;
-  present = λ i e. (omega (arith, ltb-true i 2 e, three-bodies two one 7), omega (arith, ltb-true i 2 e, three-bodies o two 3));
+  closed = closed two one 7 0;
+  closed′ = closed o two 3 1;
+  present = λ i e. (omega (arith, ltb-true i 2 e, three-bodies two one 7 0), omega (arith, ltb-true i 2 e, three-bodies o two 3 1));
   poses = body-cases (λ i. solverPoseAt (m .bodies) i ≡ solverPoseAt (m′ .bodies) i) refl refl;
   velocities = body-cases (λ i. velAt (m .bodies) i ≡ velAt (m′ .bodies) i) refl refl;
-  joints = joint-cases two one 7 (OfSet set m′) (joint-zero o two 3);
-  joints′ = joint-cases o two 3 (OfSet set m) (joint-zero two one 7);
-  bodies1 = joint-cases two one 7 (λ j. body1At (m .words) j ≡ body1At (m′ .words) j) refl;
-  bodies2 = joint-cases two one 7 (λ j. body2At (m .words) j ≡ body2At (m′ .words) j) refl;
-  contents = joint-cases two one 7 (λ j. SameNamed (Names (recorded ts s s′) s s′ j) (jointAt (m .words) (m .numbers) j) (jointAt (m′ .words) (m′ .numbers) j)) contents;
+  joints = joint-cases two one 7 0 (OfSet set m′) (joint-zero o two 3 1);
+  joints′ = joint-cases o two 3 1 (OfSet set m) (joint-zero two one 7 0);
+  bodies1 = joint-cases two one 7 0 (λ j. body1At (m .words) j ≡ body1At (m′ .words) j) refl;
+  bodies2 = joint-cases two one 7 0 (λ j. body2At (m .words) j ≡ body2At (m′ .words) j) refl;
+  contents = joint-cases two one 7 0 (λ j. SameNamed (Names (recorded ts s s′) s s′ j) (jointAt (m .words) (m .numbers) j) (jointAt (m′ .words) (m′ .numbers) j)) contents;
 }
 
 -- ---- what is shown
@@ -202,7 +214,7 @@ pub compared : Compared set (recorded ts s s′) s s′
 compared = record { loaded = loaded; loaded′ = loaded′; agree = agree; storage = enough; traces = recorded-returns ts s s′ }
 
 same-numbers : SameNumbers m m′
-same-numbers = record { bodies = three-bodies two one 7 ∙ sym (three-bodies o two 3); joints = two-joints two one 7 ∙ sym (two-joints o two 3) }
+same-numbers = record { bodies = three-bodies two one 7 0 ∙ sym (three-bodies o two 3 1); joints = two-joints two one 7 0 ∙ sym (two-joints o two 3 1) }
 
 pub shared : Noninterference set (recorded ts s s′) s s′
 shared = two-studies set (recorded ts s s′) s s′ same-numbers compared
@@ -216,3 +228,12 @@ builds = (((refl, told (build Cold 0) m storage ∙ granted .1), (refl, told (bu
 pub motors-differ : motorAt (jointAt (m .words) (m .numbers) 0 .«data») 0 .«target_vel» ≢ motorAt (jointAt (m′ .words) (m′ .numbers) 0 .«data») 0 .«target_vel»
 unfolding jointAt eq
 motors-differ e = true≢false (ap (λ x. eq one x) e)
+
+-- and in how its centre is typed
+abbrev isAngle : LimitCenter → Bool
+isAngle (CosineSine re im) = false
+isAngle (Angle angle) = true
+
+pub centers-differ : centerAt (m .words) (m .numbers) 0 ≢ centerAt (m′ .words) (m′ .numbers) 0
+unfolding centerAt
+centers-differ e = true≢false (sym (ap isAngle e))

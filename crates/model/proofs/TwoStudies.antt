@@ -4,7 +4,7 @@
 -- set has the same answer in both, a build's total aside; and after the list the marks are equal, and so are the set's velocities, the stored impulses that its
 -- joints name and, while the models are marked built, the rows of its joints, each whole and in order (`any-numbers`). Where the studies have equal numbers of
 -- bodies and joints, every call is refused with the same number in both or granted in both (`two-studies`).
--- The proof is an instance of the induction of `TraceLaws`, of a relation that each call keeps (`Related`): rules 1 to 7 hold of both models, they agree on the
+-- The proof is an instance of the induction of `TraceLaws`, of a relation that each call keeps (`Related`): rules 1 to 7 and 12 hold of both models, they agree on the
 -- set, their marks are equal, and the rows of the set's joints are the same while the models are built.
 use Prim.Native.Nat.{ℕ}
 use mathlib.Core.Path.{_≡_, refl, sym, ap, _∙_}
@@ -361,7 +361,7 @@ module _ (set : ℕ → Bool) (named : ℕ → WritebackId → Type 0) where
   related-kept : Kept (Related set named) Asks Tells
   related-kept = record { mark = λ m m′ r r′ b. b .mark; any = any-rows; step = one-step }
 
--- a study starts not built, and rules 1 to 7 hold of it
+-- a study starts not built, and rules 1 to 7 and 12 hold of it
 pub loaded-start : (s : Study planar) → Loaded s → RulesHold (s .model) × (s .model .built ≡ false)
 unfolding rulesOf grantedOf
 loaded-start s l =

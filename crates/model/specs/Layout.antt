@@ -23,10 +23,10 @@ massPlace = 5
 abbrev pub velocityPlace : ℕ
 velocityPlace = 7
 
--- ---- a joint's words: two bodies, four masks, three motor models, `JointEnabled`
+-- ---- a joint's words: two bodies, four masks, three motor models, `JointEnabled`, how its centre is typed
 
 abbrev pub wordsWidth : ℕ
-wordsWidth = 10
+wordsWidth = 11
 
 abbrev pub body1Place : ℕ
 body1Place = 0
@@ -43,7 +43,10 @@ modelsPlace = 6
 abbrev pub enabledPlace : ℕ
 enabledPlace = 9
 
--- ---- a joint's numbers: two frames, three limits (min, max, impulse), three motors, softness (natural frequency, damping ratio), three Dof impulses, centre
+abbrev pub centerChoicePlace : ℕ
+centerChoicePlace = 10
+
+-- ---- a joint's numbers: two frames, three limits (min, max, impulse), three motors, softness (natural frequency, damping ratio), three Dof impulses, centre (cosine, sine; or an angle, in the cosine's place)
 
 abbrev pub numbersWidth : ℕ
 numbersWidth = 42

@@ -1,4 +1,4 @@
--- Document 01, "Eleven refusals, in checking order": each rule is a test with its number, tried on the whole model before the next; a call is refused with
+-- Document 01, "Eleven refusals, in checking order", and refusal 12, which document 02 puts right after 6: each rule is a test with its number, tried on the whole model before the next; a call is refused with
 -- the number of the first rule that fails.
 use Prim.Native.Nat.{ℕ, zero, suc, _+_, _*_}
 use mathlib.Core.Bool.{Bool, true, false, not, cond, _&&_, _||_}
@@ -8,14 +8,17 @@ use lib.ListN.{getD}
 use lib.Ieee.{Float, nan, lt, isNan}
 use Rattle.floats.specs.Operators.{bits}
 use Rattle.floats.specs.Scalar.{isFinite}
+use Rattle.floats.specs.SinCos.{angleTooLarge}
 use Rattle.floats.specs.declared.pose.Pose.{Pose}
 use Rattle.rows.specs.declared.integration_parameters.IntegrationParameters.{IntegrationParameters}
 use Rattle.rows.specs.declared.joint_constraint_builder.Warmstart.{Warmstart}
 use Rattle.rows.specs.declared.joint_constraint_builder.Warmstart.the-variants.{Cold, Warm}
-use Rattle.model.specs.Layout.{bodyWidth, velocityPlace, wordsWidth, masksPlace, numbersWidth, limitsPlace, limitsWidth, motorsPlace, motorWidth, softnessPlace, centerPlace}
+use Rattle.model.specs.Layout.{bodyWidth, velocityPlace, wordsWidth, masksPlace, numbersWidth, limitsPlace, limitsWidth, motorsPlace, motorWidth, softnessPlace}
 use Rattle.model.specs.Records.{word}
-use Rattle.model.specs.Store.{world, body1At, body2At}
+use Rattle.model.specs.Store.{world, body1At, body2At, centerAt}
 use Rattle.model.specs.Model.{mostBodies, mostJoints, Model, bodyCount, jointCount, rowCapacity, totalRows}
+use Rattle.model.specs.declared.store.LimitCenter.{LimitCenter}
+use Rattle.model.specs.declared.store.LimitCenter.the-variants.{CosineSine, Angle}
 
 pub record Rule : Type 0 where
   pub number : ℕ
@@ -98,16 +101,30 @@ abbrev pub finiteMotors : List Float → ℕ → Bool
 finiteMotors s o =
     finiteMotor s (o + motorsPlace) && (finiteMotor s (o + (motorsPlace + motorWidth)) && finiteMotor s (o + (motorsPlace + 2 * motorWidth)))
 
+-- a typed cosine and sine, or a typed angle
+unfoldable pub finiteCenter : LimitCenter → Bool
+finiteCenter (CosineSine re im) = isFinite re && isFinite im
+finiteCenter (Angle angle) = isFinite angle
+
 -- joint j's frames; the ends of its limits; its motors; softness and centre
-unfoldable pub finiteJoint : List Float → ℕ → Bool
-finiteJoint s j =
+unfoldable pub finiteJoint : List ℕ → List Float → ℕ → Bool
+finiteJoint words s j =
     let o = j * numbersWidth in
-    finiteFrom s o limitsPlace && (limitEnds s o && (finiteMotors s o && (finiteFrom s (o + softnessPlace) 2 && finiteFrom s (o + centerPlace) 2)))
+    finiteFrom s o limitsPlace && (limitEnds s o && (finiteMotors s o && (finiteFrom s (o + softnessPlace) 2 && finiteCenter (centerAt words s j))))
 
 -- all that rule 6 asks of n bodies and of the joints; `arguments` says that the call's own numbers (a new pose, a warm coefficient) are finite
-abbrev pub allFinite : IntegrationParameters → List Float → ℕ → List Float → ℕ → Bool → Bool
-allFinite params bodies n numbers joints arguments =
-    finiteParams params && (all 0 n (finiteBody bodies) && (all 0 joints (finiteJoint numbers) && arguments))
+abbrev pub allFinite : IntegrationParameters → List Float → ℕ → List ℕ → List Float → ℕ → Bool → Bool
+allFinite params bodies n words numbers joints arguments =
+    finiteParams params && (all 0 n (finiteBody bodies) && (all 0 joints (finiteJoint words numbers) && arguments))
+
+-- ---- what rule 12 asks of joint j: no typed angle above 1024 in size
+
+unfoldable pub angleFits : LimitCenter → Bool
+angleFits (CosineSine re im) = true
+angleFits (Angle angle) = not (angleTooLarge angle)
+
+unfoldable pub centerFits : List ℕ → List Float → ℕ → Bool
+centerFits words numbers j = angleFits (centerAt words numbers j)
 
 -- ---- the rules
 
@@ -116,7 +133,7 @@ abbrev pub jointRules : List Float → List ℕ → ℕ → List Rule
 jointRules bodies words joints =
     rule 3 (all 0 joints (masksFit words)) ∷ rule 4 (all 0 joints (bodiesPresent bodies words)) ∷ rule 5 (all 0 joints (bodiesApart words)) ∷ []
 
--- rules 1 to 7, of the model
+-- rules 1 to 7 and 12, of the model
 unfoldable pub modelRules : Model → Bool → List Rule
 modelRules m arguments =
     let bodies = bodyCount (m .bodies) in
@@ -124,7 +141,10 @@ modelRules m arguments =
     rule 1 (atMost mostBodies bodies)
     ∷ rule 2 (atMost mostJoints joints)
     ∷ (jointRules (m .bodies) (m .words) joints
-    ++ (rule 6 (allFinite (m .params) (m .bodies) bodies (m .numbers) joints arguments) ∷ rule 7 (not (lt (m .params .dt) (bits 0))) ∷ []))
+    ++ (rule 6 (allFinite (m .params) (m .bodies) bodies (m .words) (m .numbers) joints arguments)
+    ∷ rule 12 (all 0 joints (centerFits (m .words) (m .numbers)))
+    ∷ rule 7 (not (lt (m .params .dt) (bits 0)))
+    ∷ []))
 
 -- rule 8, for a call that is handed row storage
 unfoldable pub storageRule : Model → List Float → Rule

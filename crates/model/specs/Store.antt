@@ -7,6 +7,7 @@ use lib.Dec.{eqb, ltb}
 use lib.ListN.{length, set}
 use lib.Ieee.{Float}
 use Rattle.floats.specs.Operators.{bits}
+use Rattle.floats.specs.SinCos.{rotationFromAngleOf}
 use Rattle.floats.specs.declared.vector.Vector.{Vector}
 use Rattle.floats.specs.declared.rotation_ops.Rotation.{Rotation}
 use Rattle.floats.specs.declared.pose.Pose.{Pose}
@@ -25,8 +26,10 @@ use Rattle.rows.specs.declared.joint_velocity_constraint.SolverVel.{SolverVel}
 use Rattle.rows.specs.declared.joint_velocity_constraint.JointConstraint.{JointConstraint}
 use Rattle.rows.specs.declared.joint_velocity_constraint.WritebackId.{WritebackId}
 use Rattle.rows.specs.declared.joint_velocity_constraint.WritebackId.the-variants.{Dof, Limit, Motor}
-use Rattle.model.specs.Layout.{rowWidth, bodyWidth, posePlace, inertiaPlace, massPlace, velocityPlace, wordsWidth, body1Place, body2Place, masksPlace, modelsPlace, numbersWidth, frame1Place, frame2Place, limitsPlace, limitsWidth, motorsPlace, motorWidth, softnessPlace, dofsPlace, centerPlace, limitSeed, motorSeed, enabledPlace}
+use Rattle.model.specs.Layout.{rowWidth, bodyWidth, posePlace, inertiaPlace, massPlace, velocityPlace, wordsWidth, body1Place, body2Place, masksPlace, modelsPlace, numbersWidth, frame1Place, frame2Place, limitsPlace, limitsWidth, motorsPlace, motorWidth, softnessPlace, dofsPlace, centerPlace, limitSeed, motorSeed, enabledPlace, centerChoicePlace}
 use Rattle.model.specs.Records.{num, word, puts}
+use Rattle.model.specs.declared.store.LimitCenter.{LimitCenter}
+use Rattle.model.specs.declared.store.LimitCenter.the-variants.{CosineSine, Angle}
 
 -- ---- rows
 
@@ -172,16 +175,29 @@ dataOf f g = record {
   enabled = enabledOf (g enabledPlace);
 }
 
+-- the centre as it is typed: 0 is cosine and sine, and every other number an angle; the number after an angle is then nobody's
+abbrev pub centerOf : (ℕ → Float) → (ℕ → ℕ) → LimitCenter
+centerOf f g = cond (eqb (g centerChoicePlace) 0) (CosineSine (f centerPlace) (f (centerPlace + 1))) (Angle (f centerPlace))
+
+-- the cosine and sine that the rows read
+abbrev pub rotationOf : LimitCenter → Rotation
+rotationOf (CosineSine re im) = record { re = re; im = im }
+rotationOf (Angle angle) = rotationFromAngleOf angle
+
 abbrev pub jointOf : (ℕ → Float) → (ℕ → ℕ) → ImpulseJoint
 jointOf f g = record {
   «data» = dataOf f g;
   impulses = f dofsPlace ∷ f (dofsPlace + 1) ∷ f (dofsPlace + 2) ∷ [];
-  center = record { re = f centerPlace; im = f (centerPlace + 1) };
+  center = rotationOf (centerOf f g);
 }
 
 -- joint j of the storage
 unfoldable pub jointAt : List ℕ → List Float → ℕ → ImpulseJoint
 jointAt words numbers j = jointOf (num numbersWidth numbers j) (word wordsWidth words j)
+
+-- its centre as it is typed
+unfoldable pub centerAt : List ℕ → List Float → ℕ → LimitCenter
+centerAt words numbers j = centerOf (num numbersWidth numbers j) (word wordsWidth words j)
 
 -- its masks
 unfoldable pub masksAt : List ℕ → ℕ → Masks

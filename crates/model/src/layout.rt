@@ -23,8 +23,8 @@ pub const VELOCITY_Y: usize = 8;
 
 pub const VELOCITY_ANGULAR: usize = 9;
 
-// A joint's words: two bodies, four masks, three motor models, `JointEnabled`.
-pub const WORDS_WIDTH: usize = 10;
+// A joint's words: two bodies, four masks, three motor models, `JointEnabled`, how its centre is typed.
+pub const WORDS_WIDTH: usize = 11;
 
 pub const BODY1: usize = 0;
 
@@ -46,8 +46,11 @@ pub const MODEL_ANGULAR: usize = 8;
 
 pub const ENABLED: usize = 9;
 
+pub const CENTER_CHOICE: usize = 10;
+
 // A joint's numbers: two frames, three limits (min, max, impulse), three motors (target velocity and
-// position, stiffness, damping, maximum force, impulse), softness, three Dof impulses, centre.
+// position, stiffness, damping, maximum force, impulse), softness, three Dof impulses, centre (cosine,
+// sine; or an angle, in the cosine's place).
 pub const NUMBERS_WIDTH: usize = 42;
 
 pub const FRAME1: usize = 0;

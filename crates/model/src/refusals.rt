@@ -1,19 +1,20 @@
-// Document 01's rules 1 to 8, each tried on the whole of what a call is handed before the next.
+// Document 01's rules 1 to 8, and rule 12 right after 6, each tried on the whole of what a call is handed before the next.
 ghost use mathlib.Core.Path.{_≡_};
+ghost use mathlib.Core.Bool.{_&&_};
 ghost use mathlib.Core.List.{[], _∷_, _++_};
 ghost use Prim.Native.Nat.{_+_, _*_, _≤_};
 ghost use lib.ListN.{length};
 ghost use lib.Ieee.{isNan};
+ghost use Rattle.floats.specs.Scalar.{isFinite};
 ghost use Rattle.model.specs.Layout.{bodyWidth, wordsWidth, numbersWidth};
 ghost use Rattle.model.specs.Model.{modelOf};
-ghost use Rattle.model.specs.Refusals.{refusal, all, masksFit, presentOrWorld, bodiesPresent, bodiesApart, finiteFrom, noNanFrom, finiteParams, finitePose, finiteWarm, finiteBody, finiteMotor, limitEnds, finiteMotors, finiteJoint, allFinite, jointRules, modelRules, storageRule};
+ghost use Rattle.model.specs.Refusals.{refusal, all, masksFit, presentOrWorld, bodiesPresent, bodiesApart, finiteFrom, noNanFrom, finiteParams, finitePose, finiteWarm, finiteBody, finiteMotor, limitEnds, finiteMotors, finiteCenter, finiteJoint, allFinite, angleFits, centerFits, jointRules, modelRules, storageRule};
 use crate::counts::body_count;
 use crate::counts::joint_count;
 use crate::counts::row_capacity;
 use crate::counts::rows_before;
 use crate::header::Header;
 use crate::layout::BODY_WIDTH;
-use crate::layout::CENTER_RE;
 use crate::layout::LIMITS_ANGULAR;
 use crate::layout::LIMITS_X;
 use crate::layout::LIMITS_Y;
@@ -26,10 +27,13 @@ use crate::layout::NUMBERS_WIDTH;
 use crate::layout::VELOCITY_X;
 use crate::layout::WORDS_WIDTH;
 use crate::layout::WORLD;
+use crate::store::LimitCenter;
 use crate::store::body1_at;
 use crate::store::body2_at;
+use crate::store::center_at;
 use floats::pose::Pose;
 use floats::scalar::is_finite;
+use floats::sin_cos::angle_too_large;
 use rows::integration_parameters::IntegrationParameters;
 use rows::joint_constraint_builder::Warmstart;
 
@@ -245,9 +249,28 @@ fn finite_motors(s: &[f32], o: usize) -> bool
     finite_motor(s, o + MOTOR_ANGULAR)
 }
 
-fn finite_joint(s: &[f32], j: usize) -> bool
+fn both_finite(a: f32, b: f32) -> bool
+    ensures { λ r. ⌜ r ≡ (isFinite a && isFinite b) ⌝ }
+{
+    if !is_finite(a) {
+        return false;
+    }
+    is_finite(b)
+}
+
+fn finite_center(center: LimitCenter) -> bool
+    ensures { λ r. ⌜ r ≡ finiteCenter center ⌝ }
+{
+    match center {
+        LimitCenter::CosineSine(re, im) => both_finite(re, im),
+        LimitCenter::Angle(angle) => is_finite(angle),
+    }
+}
+
+fn finite_joint(words: &[u32], s: &[f32], j: usize) -> bool
+    requires { ⌜ j * wordsWidth + wordsWidth ≤ length (now words) ⌝ }
     requires { ⌜ j * numbersWidth + numbersWidth ≤ length (now s) ⌝ }
-    ensures { λ r. ⌜ r ≡ finiteJoint (now (s .entry)) j ⌝ }
+    ensures { λ r. ⌜ r ≡ finiteJoint (now (words .entry)) (now (s .entry)) j ⌝ }
 {
     let o = j * NUMBERS_WIDTH;
     if !finite_from(s, o, LIMITS_X) {
@@ -262,16 +285,17 @@ fn finite_joint(s: &[f32], j: usize) -> bool
     if !finite_from(s, o + NATURAL_FREQUENCY, 2) {
         return false;
     }
-    finite_from(s, o + CENTER_RE, 2)
+    finite_center(center_at(words, s, j))
 }
 
-fn all_finite_joints(numbers: &[f32], n: usize) -> bool
+fn all_finite_joints(words: &[u32], numbers: &[f32], n: usize) -> bool
+    requires { ⌜ n * wordsWidth ≤ length (now words) ⌝ }
     requires { ⌜ n * numbersWidth ≤ length (now numbers) ⌝ }
-    ensures { λ r. ⌜ r ≡ all 0 n (finiteJoint (now (numbers .entry))) ⌝ }
+    ensures { λ r. ⌜ r ≡ all 0 n (finiteJoint (now (words .entry)) (now (numbers .entry))) ⌝ }
 {
     let mut j = 0usize;
     while j < n {
-        if !finite_joint(numbers, j) {
+        if !finite_joint(words, numbers, j) {
             return false;
         }
         j += 1;
@@ -284,13 +308,15 @@ fn all_finite(
     params: IntegrationParameters,
     bodies: &[f32],
     n: usize,
+    words: &[u32],
     numbers: &[f32],
     joints: usize,
     arguments: bool,
 ) -> bool
     requires { ⌜ n * bodyWidth ≤ length (now bodies) ⌝ }
+    requires { ⌜ joints * wordsWidth ≤ length (now words) ⌝ }
     requires { ⌜ joints * numbersWidth ≤ length (now numbers) ⌝ }
-    ensures { λ r. ⌜ r ≡ allFinite params (now (bodies .entry)) n (now (numbers .entry)) joints arguments ⌝ }
+    ensures { λ r. ⌜ r ≡ allFinite params (now (bodies .entry)) n (now (words .entry)) (now (numbers .entry)) joints arguments ⌝ }
 {
     if !finite_params(params) {
         return false;
@@ -298,10 +324,36 @@ fn all_finite(
     if !all_finite_bodies(bodies, n) {
         return false;
     }
-    if !all_finite_joints(numbers, joints) {
+    if !all_finite_joints(words, numbers, joints) {
         return false;
     }
     arguments
+}
+
+// ---- rule 12
+
+fn angle_fits(center: LimitCenter) -> bool
+    ensures { λ r. ⌜ r ≡ angleFits center ⌝ }
+{
+    match center {
+        LimitCenter::CosineSine(_, _) => true,
+        LimitCenter::Angle(angle) => !angle_too_large(angle),
+    }
+}
+
+fn all_centers_fit(words: &[u32], numbers: &[f32], n: usize) -> bool
+    requires { ⌜ n * wordsWidth ≤ length (now words) ⌝ }
+    requires { ⌜ n * numbersWidth ≤ length (now numbers) ⌝ }
+    ensures { λ r. ⌜ r ≡ all 0 n (centerFits (now (words .entry)) (now (numbers .entry))) ⌝ }
+{
+    let mut j = 0usize;
+    while j < n {
+        if !angle_fits(center_at(words, numbers, j)) {
+            return false;
+        }
+        j += 1;
+    }
+    true
 }
 
 // ---- the rules in order
@@ -323,7 +375,7 @@ fn joints_refusal(bodies: &[f32], words: &[u32], n: usize) -> u32
     0
 }
 
-// The number of the first of rules 1 to 7 that fails, or 0. `arguments`: the call's own numbers are finite.
+// The number of the first of rules 1 to 6, 12 and 7 that fails, or 0. `arguments`: the call's own numbers are finite.
 pub fn model_refusal(
     header: Header,
     bodies: &[f32],
@@ -346,8 +398,11 @@ pub fn model_refusal(
     if k != 0 {
         return k;
     }
-    if !all_finite(params, bodies, n, numbers, joints, arguments) {
+    if !all_finite(params, bodies, n, words, numbers, joints, arguments) {
         return 6;
+    }
+    if !all_centers_fit(words, numbers, joints) {
+        return 12;
     }
     if params.dt < 0.0 {
         return 7;
@@ -355,7 +410,7 @@ pub fn model_refusal(
     0
 }
 
-// Rules 1 to 8, for a call that is handed row storage.
+// Rules 1 to 8 and 12, for a call that is handed row storage.
 pub fn storage_refusal(
     header: Header,
     bodies: &[f32],

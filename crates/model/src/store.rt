@@ -5,10 +5,11 @@ ghost use Prim.Native.Nat.{_+_, _*_, _≤_, _<_};
 ghost use lib.ListN.{length};
 ghost use Rattle.model.specs.Layout.{rowWidth, bodyWidth, wordsWidth, numbersWidth};
 ghost use Rattle.model.specs.Records.{numFrom, num, sixOf, word, puts};
-ghost use Rattle.model.specs.Store.{rowAt, putRow, Present, poseOf, solverPoseAt, velAt, putVel, putPose, body1At, body2At, masksAt, limitsOf, allLimitsOf, modelOf, motorOf, allMotorsOf, dataOf, jointAt, axisOf, seedIndex, putSeed, enabledOf, enabledAt};
+ghost use Rattle.model.specs.Store.{rowAt, putRow, Present, poseOf, solverPoseAt, velAt, putVel, putPose, body1At, body2At, masksAt, limitsOf, allLimitsOf, modelOf, motorOf, allMotorsOf, dataOf, jointAt, axisOf, seedIndex, putSeed, enabledOf, enabledAt, centerAt, rotationOf};
 use crate::layout::BODY_WIDTH;
 use crate::layout::BODY1;
 use crate::layout::BODY2;
+use crate::layout::CENTER_CHOICE;
 use crate::layout::CENTER_IM;
 use crate::layout::CENTER_RE;
 use crate::layout::COUPLED_AXES;
@@ -49,6 +50,7 @@ use crate::layout::WORDS_WIDTH;
 use crate::layout::WORLD;
 use floats::pose::Pose;
 use floats::rotation_ops::Rotation;
+use floats::sin_cos::rotation_from_angle;
 use floats::vector::Vector;
 use rows::generic_joint::GenericJoint;
 use rows::generic_joint::JointEnabled;
@@ -401,6 +403,35 @@ fn data_at(words: &[u32], numbers: &[f32], j: usize) -> GenericJoint
     }
 }
 
+// The centre of the angular limits as it is typed: its cosine and sine, or its angle.
+pub enum LimitCenter {
+    CosineSine(f32, f32),
+    Angle(f32),
+}
+
+// Joint j's centre.
+pub fn center_at(words: &[u32], numbers: &[f32], j: usize) -> LimitCenter
+    requires { ⌜ j * wordsWidth + wordsWidth ≤ length (now words) ⌝ }
+    requires { ⌜ j * numbersWidth + numbersWidth ≤ length (now numbers) ⌝ }
+    ensures { λ r. ⌜ r ≡ centerAt (now (words .entry)) (now (numbers .entry)) j ⌝ }
+{
+    let o = j * NUMBERS_WIDTH;
+    if words[j * WORDS_WIDTH + CENTER_CHOICE] == 0 {
+        return LimitCenter::CosineSine(numbers[o + CENTER_RE], numbers[o + CENTER_IM]);
+    }
+    LimitCenter::Angle(numbers[o + CENTER_RE])
+}
+
+// The cosine and sine that the rows read.
+fn rotation_of(center: LimitCenter) -> Rotation
+    ensures { λ r. ⌜ r ≡ rotationOf center ⌝ }
+{
+    match center {
+        LimitCenter::CosineSine(re, im) => Rotation { re: re, im: im },
+        LimitCenter::Angle(angle) => rotation_from_angle(angle),
+    }
+}
+
 // Joint j of the storage.
 pub fn joint_at(words: &[u32], numbers: &[f32], j: usize) -> ImpulseJoint
     requires { ⌜ j * wordsWidth + wordsWidth ≤ length (now words) ⌝ }
@@ -417,10 +448,7 @@ pub fn joint_at(words: &[u32], numbers: &[f32], j: usize) -> ImpulseJoint
     ImpulseJoint {
         data: data,
         impulses: impulses,
-        center: Rotation {
-            re: numbers[o + CENTER_RE],
-            im: numbers[o + CENTER_IM],
-        },
+        center: rotation_of(center_at(words, numbers, j)),
     }
 }
 

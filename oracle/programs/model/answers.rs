@@ -2,10 +2,10 @@
 //! and its replay.
 
 use crate::bits::bits;
-use crate::generator::{Generator, Size, total};
+use crate::generator::{ANGLES, Generator, LARGE, Size, total};
 use crate::library::{ORACLE, Side};
 use crate::model::{
-    Answer, BODY, Call, ENABLED, FINITE, JOINT, KINDS, NUMBER, ROW, Study, WORDS, WORLD,
+    Answer, BODY, CHOICE, Call, ENABLED, FINITE, GRANTED, JOINT, KINDS, NUMBER, ROW, Study, WORDS, WORLD,
 };
 use std::fmt::Write;
 
@@ -203,14 +203,14 @@ impl Held {
 struct Writer {
     text: String,
     lines: u32,
-    by_kind: [[u64; 12]; 9],
+    by_kind: [[u64; 13]; 9],
 }
 
 impl Writer {
     fn line(&mut self, h: &mut Held, line: Line) -> u64 {
         let (code, checksum) = h.run(ORACLE, &line);
         if let Line::Call(call) = line {
-            let column = if code < 12 { code as usize } else { 0 };
+            let column = if code < GRANTED { code as usize } else { 0 };
             self.by_kind[call.kind()][column] += 1;
         }
         let tokens = line.tokens();
@@ -263,7 +263,7 @@ impl Writer {
 fn write_any(g: &mut Generator, s: &Study) -> Option<Line> {
     let (bodies, joints) = (s.body_count() as u64, s.joint_count() as u64);
     let d = &mut g.d;
-    let (slice, index, value) = match d.below(14) {
+    let (slice, index, value) = match d.below(17) {
         0 | 1 if joints > 0 => {
             let mask = [8, 9, 263, u32::MAX, 7, 7, 0, 1, 2, 3, 4, 5, 6];
             let at = d.below(joints) * WORDS as u64 + 2 + d.below(4);
@@ -301,6 +301,18 @@ fn write_any(g: &mut Generator, s: &Study) -> Option<Line> {
         11 if joints > 0 => {
             let at = d.below(joints) * WORDS as u64 + ENABLED as u64;
             (Slice::Words, at, d.pick(&[0, 0, 1, 2, 3, u32::MAX]))
+        }
+        12 if joints > 0 => {
+            let at = d.below(joints) * WORDS as u64 + CHOICE as u64;
+            (Slice::Words, at, d.pick(&[0, 0, 1, 2, u32::MAX]))
+        }
+        13 if joints > 0 => {
+            let at = d.below(joints) * JOINT as u64 + 40;
+            (Slice::Numbers, at, bits(d.pick(&ANGLES)))
+        }
+        14 | 15 if joints > 0 => {
+            let at = d.below(joints) * JOINT as u64 + 40;
+            (Slice::Numbers, at, bits(d.pick(&LARGE)))
         }
         _ if !s.rows.is_empty() => {
             let at = d.below(s.rows.len() as u64);
@@ -374,7 +386,7 @@ fn any_list(g: &mut Generator, w: &mut Writer, h: &mut Held) {
             let mut s = s.clone();
             g.break_rule(rule, &mut s, &mut call);
         }
-        let granted_build = w.line(h, Line::Call(call)) >= 12 && matches!(call, Call::Build { .. });
+        let granted_build = w.line(h, Line::Call(call)) >= GRANTED && matches!(call, Call::Build { .. });
         if let Some(line) = back {
             w.line(h, line);
         }
@@ -485,6 +497,8 @@ fn many(g: &mut Generator, w: &mut Writer) {
             set(Slice::Words, WORDS, 200),
             set(Slice::Words, 0, h.all.words[1]),
             set(Slice::Bodies, 1, bits(f32::NAN)),
+            set(Slice::Words, 3 * WORDS + CHOICE, 1),
+            set(Slice::Numbers, 3 * JOINT + 40, bits(LARGE[0])),
             set(Slice::Settings, 0, bits(-1.0)),
         ] {
             mends.push(undo(&h.all, &line));
@@ -570,7 +584,7 @@ fn made() -> Writer {
     let mut w = Writer {
         text: String::new(),
         lines: 0,
-        by_kind: [[0; 12]; 9],
+        by_kind: [[0; 13]; 9],
     };
     w.tokens([STUDIES as u32]);
     many(g, &mut w);
@@ -594,7 +608,7 @@ pub fn answers() {
     let w = made();
     print!("{}", w.text);
     eprintln!("{} lines, {} bytes", w.lines, w.text.len());
-    eprintln!("granted, then refused by 1 to 11:");
+    eprintln!("granted, then refused by 1 to 12:");
     for (kind, by) in KINDS.iter().zip(&w.by_kind) {
         eprintln!("  {kind:13} {by:?}");
     }

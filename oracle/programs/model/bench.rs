@@ -36,7 +36,7 @@ fn chain(n: usize) -> Study {
         let before = if i == 0 { WORLD } else { i as u32 - 1 };
         let [limit, motor] = [[4, 0], [0, 4], [4, 4]][i % 3];
         s.words
-            .extend([before, i as u32, 3, limit, motor, 0, 0, 0, i as u32 % 2, 0]);
+            .extend([before, i as u32, 3, limit, motor, 0, 0, 0, i as u32 % 2, 0, 0]);
         let mut joint = [0.0; JOINT];
         joint[0] = 1.0;
         joint[2] = 0.5;

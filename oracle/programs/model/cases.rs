@@ -1,9 +1,11 @@
 //! Document 01's cases about the model, on every side that is there.
 
+use crate::generator::{ANGLES, LARGE};
 use crate::library::{Side, same, same_study, sides};
 use crate::model::{
-    Answer, BODY, Call, ENABLED, FINITE, GRANTED, JOINT, NUMBER, ROW, Study, WORDS, WORLD,
+    Answer, BODY, CHOICE, Call, ENABLED, FINITE, GRANTED, JOINT, NUMBER, ROW, Study, WORDS, WORLD,
 };
+use crate::sines;
 use std::process::exit;
 
 const INF: f32 = f32::INFINITY;
@@ -54,7 +56,7 @@ fn study(bodies: usize, joints: &[([u32; 2], [u32; 4])]) -> Study {
     for (ends, masks) in joints {
         s.words.extend(ends);
         s.words.extend(masks);
-        s.words.extend([0; 4]);
+        s.words.extend([0; 5]);
         s.numbers.extend(numbers());
     }
     s.rows = vec![0.5; s.total() * ROW];
@@ -134,7 +136,8 @@ impl Cases {
         part.bodies.extend([f32::NAN; 9]);
         self.granted("128 bodies and nine numbers", &part, load);
         self.refused("a part of a body", &part, &Call::ReadVelocity(128), 11);
-        part.words = vec![0, 128, 0, 0, 0, 0, 0, 0, 0, 0];
+        part.words = vec![0; WORDS];
+        part.words[1] = 128;
         part.numbers = numbers().to_vec();
         self.refused("a joint to a part of a body", &part, load, 4);
 
@@ -345,6 +348,8 @@ impl Cases {
             s.words[WORDS] = 200;
             s.words[1] = 0;
             s.bodies[1] = f32::NAN;
+            s.words[WORDS + CHOICE] = 1;
+            s.numbers[JOINT + 40] = 1025.0;
             s.settings[0] = -1.0;
             s.rows.clear();
             self.refused("all broken", &s, &call, 1);
@@ -359,6 +364,8 @@ impl Cases {
             s.words[1] = 1;
             self.refused("6 to 11 broken", &s, &call, 6);
             s.bodies[1] = 0.0;
+            self.refused("12 and 7 to 11 broken", &s, &call, 12);
+            s.numbers[JOINT + 40] = 1.0;
             self.refused("7 to 11 broken", &s, &call, 7);
             s.settings[0] = 1.0;
             self.refused("8 to 11 broken", &s, &call, 8);
@@ -500,6 +507,84 @@ impl Cases {
         self.expect("the world's velocity reads zero", s.rows[ROW] == -1.0);
     }
 
+    /// Centres that are typed as angles: rules 6 and 12, and the rows of the pair.
+    fn angles(&mut self) {
+        let typed = |word: u32, angle: f32, beside: f32| {
+            let mut s = leg();
+            s.words[WORDS + CHOICE] = word;
+            s.numbers[JOINT + 40] = angle;
+            s.numbers[JOINT + 41] = beside;
+            s
+        };
+        let all = [
+            Call::Load,
+            COLD,
+            Call::WarmStart,
+            Call::Sweep(1),
+            Call::RemoveBias,
+            Call::WriteBack,
+            Call::ReadRows(0),
+            Call::ReadVelocity(0),
+            Call::Place {
+                body: 0,
+                pose: [1.0, 0.0, 0.0, 0.0],
+            },
+        ];
+        for word in [1, 2, 1 << 31, u32::MAX] {
+            for angle in LARGE {
+                let mut s = typed(word, angle, f32::NAN);
+                for call in &all {
+                    self.refused(&format!("angle {angle}"), &s, call, 12);
+                }
+                let nan = Call::Place {
+                    body: 9,
+                    pose: [1.0, 0.0, f32::NAN, 0.0],
+                };
+                self.refused("6 before 12", &s, &nan, 6);
+                s.settings[0] = -1.0;
+                self.refused("12 before 7", &s, &Call::Load, 12);
+                s.settings[1] = INF;
+                self.refused("6 before 12", &s, &Call::Load, 6);
+                s.words[WORDS + CHOICE] = 0;
+                s.numbers[JOINT + 41] = 0.0;
+                s.settings = leg().settings;
+                self.granted("a typed cosine of any size", &s, &Call::Load);
+            }
+            for angle in [f32::NAN, INF, -INF] {
+                let s = typed(word, angle, 0.0);
+                for call in &all {
+                    self.refused(&format!("angle {angle}"), &s, call, 6);
+                }
+            }
+            // The rows are those of the pair, whatever stands beside the angle.
+            for angle in ANGLES.into_iter().chain([0.3, -2.5, 700.0]) {
+                let pair = sines::pair(angle);
+                for beside in [0.0, 7.0, f32::NAN, INF, -INF] {
+                    let mut s = typed(word, angle, beside);
+                    self.granted(&format!("angle {angle}"), &s, &Call::Load);
+                    let mut by_pair = typed(0, pair[0], pair[1]);
+                    let told = self.done(&mut s, &COLD).code == GRANTED + 6;
+                    self.done(&mut by_pair, &COLD);
+                    let same_rows = same(&s.rows, &by_pair.rows);
+                    self.expect(&format!("the rows of angle {angle}"), told && same_rows);
+                }
+            }
+        }
+        // An angle below one unit of 2^-30 has the pair of 0.
+        for (angle, pair) in [
+            (0.0, [1.0, 0.0]),
+            (-0.0, [1.0, 0.0]),
+            (1.0e-10, [1.0, 0.0]),
+            (-1.0e-10, [1.0, 0.0]),
+        ] {
+            let mut s = typed(1, angle, 5.0);
+            let mut by_pair = typed(0, pair[0], pair[1]);
+            self.done(&mut s, &COLD);
+            self.done(&mut by_pair, &COLD);
+            self.expect("a small angle", same(&s.rows, &by_pair.rows));
+        }
+    }
+
     /// Joints that are switched off: the first, the middle one, the last, and all of them.
     fn switched_off(&mut self) {
         let joints = [
@@ -572,6 +657,7 @@ pub fn cases() {
         cases.finite();
         cases.calls();
         cases.rows();
+        cases.angles();
         cases.switched_off();
         println!("{} cases by {name}", cases.count);
     }

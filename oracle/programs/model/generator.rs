@@ -1,12 +1,41 @@
 //! Draws studies of several joints, calls on them, and what a caller may do to them in between.
 
 use crate::draw::Draw;
-use crate::model::{BODY, Call, ENABLED, FINITE, JOINT, NUMBER, ROW, Study, WORDS, WORLD};
+use crate::model::{
+    BODY, CHOICE, Call, ENABLED, FINITE, JOINT, NUMBER, ROW, Study, WORDS, WORLD, has_number,
+};
 use crate::rendering;
 use crate::studies;
 
 /// Places of the stored impulses: limits, motors, Dof.
 pub const STORED: [usize; 9] = [10, 13, 16, 22, 28, 34, 37, 38, 39];
+
+/// Typed angles that no rule refuses, with the largest and its neighbour.
+pub const ANGLES: [f32; 12] = [
+    0.0,
+    -0.0,
+    1.0e-42,
+    -9.0e-10,
+    0.5,
+    -0.5,
+    1.5707964,
+    -3.1415927,
+    1023.99994,
+    -1023.99994,
+    1024.0,
+    -1024.0,
+];
+/// Typed angles that rule 12 refuses, with the smallest.
+pub const LARGE: [f32; 8] = [
+    1024.0001,
+    -1024.0001,
+    1025.0,
+    -1025.0,
+    1.0e9,
+    -1.0e9,
+    f32::MAX,
+    -f32::MAX,
+];
 
 const WORLD_NUMBERS: [f32; 7] = [1.0, 0.0, 0.0, 0.0, 0.0, 0.0, 0.0];
 
@@ -148,6 +177,48 @@ impl Generator {
         self.d.pick(&[1, 1, 2, 2, 3, u32::MAX, any])
     }
 
+    /// A word for a centre that is typed as an angle.
+    fn angle_word(&mut self) -> u32 {
+        let any = 1 | self.d.word() as u32;
+        self.d.pick(&[1, 1, 1, 2, 1 << 31, u32::MAX, any])
+    }
+
+    /// A typed angle that no rule refuses.
+    pub fn angle(&mut self) -> f32 {
+        let x = match self.d.below(8) {
+            0 | 1 => self.d.pick(&ANGLES),
+            2 | 3 => {
+                // Eighths of turns and their neighbours.
+                let eighth = self.d.below(41) as f32 - 20.0;
+                let x = eighth * std::f32::consts::FRAC_PI_4;
+                let more = self.d.below(3) as u32;
+                f32::from_bits(x.to_bits().wrapping_add(more).wrapping_sub(1))
+            }
+            4 => self.d.finite(),
+            5 => self.d.tame() * 100.0,
+            _ => self.d.tame(),
+        };
+        if x.abs() <= 1024.0 { x } else { 0.75 }
+    }
+
+    /// How joint j's centre is typed, drawn anew: mostly as cosine and sine. Of an angle, the number
+    /// beside it may be anything.
+    pub fn choose(&mut self, words: &mut [u32], n: &mut [f32]) {
+        if !self.d.one_in(3) {
+            words[CHOICE] = 0;
+            return;
+        }
+        words[CHOICE] = self.angle_word();
+        // One near the centre that was aimed at, or any.
+        let aimed = n[41].atan2(n[40]);
+        n[40] = if aimed.is_finite() && self.d.one_in(2) {
+            aimed + self.d.pick(&[0.0, 0.0, 6.2831855, -6.2831855, 628.3])
+        } else {
+            self.angle()
+        };
+        n[41] = self.d.number();
+    }
+
     /// A joint between two bodies that are there.
     pub fn joint(
         &mut self,
@@ -166,6 +237,7 @@ impl Generator {
         let mut n = studies::joint(&mut self.d, straight);
         let [one, two] = ends.map(|i| body_of(s, i));
         studies::aim(&mut self.d, &one, &two, &mut n, masks[3]);
+        self.choose(&mut words, &mut n);
         (words, n)
     }
 
@@ -203,7 +275,7 @@ impl Generator {
         }
     }
 
-    /// Takes away what rule 6 would refuse.
+    /// Takes away what rules 6 and 12 would refuse.
     pub fn mend(&mut self, s: &mut Study) {
         for n in s.bodies.chunks_exact_mut(BODY) {
             for x in &mut n[..7] {
@@ -212,11 +284,15 @@ impl Generator {
                 }
             }
         }
-        for n in s.numbers.chunks_exact_mut(JOINT) {
+        let words = s.words.chunks_exact(WORDS);
+        for (w, n) in words.zip(s.numbers.chunks_exact_mut(JOINT)) {
             for i in FINITE {
-                if !n[i].is_finite() {
+                if !n[i].is_finite() && has_number(w, i) {
                     n[i] = self.d.tame();
                 }
+            }
+            if w[CHOICE] != 0 && n[40].abs() > 1024.0 {
+                n[40] = self.angle();
             }
             for i in NUMBER {
                 if n[i].is_nan() {
@@ -402,7 +478,7 @@ impl Generator {
     /// Breaks one to three rules.
     pub fn break_some(&mut self, s: &mut Study, call: &mut Call) {
         for _ in 0..1 + self.d.below(3) {
-            let rule = 1 + self.d.below(11);
+            let rule = 1 + self.d.below(12);
             self.break_rule(rule, s, call);
         }
     }
@@ -488,6 +564,14 @@ impl Generator {
                     },
                 };
             }
+            12 if joints > 0 => {
+                let j = self.at(joints);
+                s.words[j * WORDS + CHOICE] = self.angle_word();
+                s.numbers[j * JOINT + 40] = self.d.pick(&LARGE);
+                if self.d.one_in(2) {
+                    s.numbers[j * JOINT + 41] = self.d.number();
+                }
+            }
             11 => {
                 *call = match self.d.below(3) {
                     0 => Call::ReadRows(self.d.pick(&[joints as u32, joints as u32 + 1, WORLD])),
@@ -570,6 +654,10 @@ impl Generator {
                 }
                 if self.d.one_in(2) {
                     s.words[j * WORDS + ENABLED] = self.enabled();
+                }
+                if self.d.one_in(2) {
+                    let n = &mut s.numbers[j * JOINT..][..JOINT];
+                    self.choose(&mut s.words[j * WORDS..][..WORDS], n);
                 }
                 if !self.d.one_in(4) {
                     let whole = total(s) * ROW;

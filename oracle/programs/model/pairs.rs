@@ -5,9 +5,10 @@
 use crate::generator::{Generator, STORED, total};
 use crate::library::{ORACLE, RENDERING, Side, same};
 use crate::model::{
-    Answer, BODY, Call, ENABLED, FINITE, JOINT, KINDS, ROW, Study, WORDS, WORLD, refusal,
+    Answer, BODY, CHOICE, Call, ENABLED, FINITE, JOINT, KINDS, ROW, Study, WORDS, WORLD, refusal,
 };
 use crate::run::show_study;
+use crate::sines;
 use std::process::exit;
 
 /// What the pairs have met.
@@ -411,6 +412,21 @@ fn redraw_unnamed(
         };
         s.numbers[j * JOINT + place] = x;
         equal[*place] = false;
+    }
+    let n = &mut s.numbers[j * JOINT..][..JOINT];
+    let words = &mut s.words[j * WORDS..][..WORDS];
+    if !ids.contains(&6) {
+        // The whole choice is unnamed.
+        g.choose(words, n);
+    } else if words[CHOICE] != 0 {
+        // The number beside a typed angle is nobody's; and its pair may be typed instead.
+        n[41] = g.d.number();
+        if g.d.one_in(2) {
+            let pair = sines::pair(n[40]);
+            n[40..].copy_from_slice(&pair);
+            words[CHOICE] = 0;
+        }
+        equal[40..].fill(false);
     }
     places.len() as u64
 }

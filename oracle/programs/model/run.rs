@@ -4,7 +4,7 @@ use crate::answers;
 use crate::bits::{bits, hex};
 use crate::generator::Generator;
 use crate::library::{ORACLE, RENDERING, Side, same_answer, same_study};
-use crate::model::{Answer, Call, ENABLED, KINDS, ROW, Study, WORDS, refusal};
+use crate::model::{Answer, CHOICE, Call, ENABLED, KINDS, ROW, Study, WORDS, refusal};
 use crate::model_rendering;
 use crate::pairs;
 use std::process::exit;
@@ -15,7 +15,7 @@ struct Tally {
     calls: u64,
     alterations: u64,
     /// By kind of call: granted, then refused by rule.
-    by_kind: [[u64; 12]; 9],
+    by_kind: [[u64; 13]; 9],
     /// Mask choices of joints that were built.
     choices: Vec<bool>,
     rows: u64,
@@ -26,6 +26,9 @@ struct Tally {
     largest: [usize; 3],
     /// Joints that were built, by their `JointEnabled`.
     off: [u64; 3],
+    /// Joints that were built, by whether their centre is typed as an angle; and those of each that
+    /// have an angular limit row.
+    typed: [[u64; 2]; 2],
 }
 
 /// A call on which the sides differ: what was handed over, and what each side answered and left.
@@ -52,7 +55,7 @@ impl Run {
                 studies: 0,
                 calls: 0,
                 alterations: 0,
-                by_kind: [[0; 12]; 9],
+                by_kind: [[0; 13]; 9],
                 choices: vec![false; 4096],
                 rows: 0,
                 rows_with_nan: 0,
@@ -60,6 +63,7 @@ impl Run {
                 sweeps_with_nan: 0,
                 largest: [0; 3],
                 off: [0; 3],
+                typed: [[0; 2]; 2],
             },
             limit,
         }
@@ -100,6 +104,9 @@ impl Run {
                 for j in 0..s.joint_count() {
                     let w = s.joint(j);
                     t.off[(w[ENABLED] as usize).min(2)] += 1;
+                    let typed = &mut t.typed[(w[CHOICE] != 0) as usize];
+                    typed[0] += 1;
+                    typed[1] += s.ids(j).contains(&6) as u64;
                     if w[ENABLED] != 0 {
                         continue;
                     }
@@ -249,7 +256,7 @@ pub fn compare(other: Side, seed: u64, calls: u64) {
         "{} calls on {} studies, {} alterations, no difference, seed {seed}",
         t.calls, t.studies, t.alterations
     );
-    println!("granted, then refused by 1 to 11:");
+    println!("granted, then refused by 1 to 12:");
     for (kind, by) in KINDS.iter().zip(&t.by_kind) {
         println!("  {kind:13} {by:?}");
     }
@@ -260,6 +267,10 @@ pub fn compare(other: Side, seed: u64, calls: u64) {
     );
     let [on, by_body, off] = t.off;
     println!("joints built: {on} enabled, {by_body} disabled by a body, {off} disabled");
+    let [[pairs, of_pairs], [angles, of_angles]] = t.typed;
+    println!(
+        "centres typed as cosine and sine: {pairs}, {of_pairs} with an angular limit row; as an angle: {angles}, {of_angles}"
+    );
     println!(
         "{} rows built, with a NaN {:.1} %; {} sweeps, with a NaN in a velocity {:.1} %",
         t.rows,

@@ -9,10 +9,10 @@ use Rattle.model.proofs.refusals.all_finite_joints.Statement.{statement
 use Rattle.model.proofs.refusals.all_finite_joints.Tie as tie
 
 abbrev Inv-loop : tie.InvT-loop
-Inv-loop numbers n j₀ j = (j ≤ n) × (all j (n - j) (finiteJoint numbers) ≡ all 0 n (finiteJoint numbers))
+Inv-loop words numbers n j₀ j = (j ≤ n) × (all j (n - j) (finiteJoint words numbers) ≡ all 0 n (finiteJoint words numbers))
 
 abbrev μ-loop : tie.MeasureT-loop
-μ-loop numbers n j₀ j = n - j
+μ-loop words numbers n j₀ j = n - j
 
 loop-holds : tie.Need-loop-holds Inv-loop μ-loop
 loop-holds c = (search needs, rw sub-zero)

@@ -48,20 +48,20 @@ returns-4 c =
     let f = e .before .before in
     rw (holds (f .before .finite-from .ensures) (f .if1 .left), holds (e .before .limit-ends .ensures) (e .if2 .left), holds (d .before .finite-motors .ensures) (d .if3 .left), fails (c .before .finite-from2 .ensures) (c .if4 .taken))
 
-add-finite-from-2 : tie.Need-add-finite-from-2
-add-finite-from-2 c = search needs
+center-at-requires : tie.Need-center-at-requires
+center-at-requires c κs = search needs
 
-finite-from-requires-3 : tie.Need-finite-from-requires-3
-finite-from-requires-3 c κs = search needs
+finite-center-requires : tie.Need-finite-center-requires
+finite-center-requires c κs = search needs
 
 returns-5 : tie.Need-returns-5
 unfolding finiteJoint
 returns-5 c =
-    let d = c .before in
+    let d = c .before .before in
     let e = d .before .before in
     let f = e .before .before in
     let g = f .before .before in
-    rw (holds (g .before .finite-from .ensures) (g .if1 .left), holds (f .before .limit-ends .ensures) (f .if2 .left), holds (e .before .finite-motors .ensures) (e .if3 .left), holds (d .before .finite-from2 .ensures) (d .if4 .left)) (c .finite-from3 .ensures)
+    rw (← c .before .center-at .ensures, holds (g .before .finite-from .ensures) (g .if1 .left), holds (f .before .limit-ends .ensures) (f .if2 .left), holds (e .before .finite-motors .ensures) (e .if3 .left), holds (d .before .finite-from2 .ensures) (d .if4 .left)) (c .finite-center .ensures)
 
 pub finite-joint-spec : {M : Type 1} → statement M
 finite-joint-spec =
@@ -77,6 +77,6 @@ finite-joint-spec =
     add-finite-from
     finite-from-requires-2
     returns-4
-    add-finite-from-2
-    finite-from-requires-3
+    center-at-requires
+    finite-center-requires
     returns-5)

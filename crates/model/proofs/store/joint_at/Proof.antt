@@ -1,5 +1,5 @@
 use borrow.Author.Needs.{needs}
-use Rattle.model.specs.Store.{jointAt}
+use Rattle.model.specs.Store.{jointAt, centerAt}
 use Rattle.model.proofs.store.joint_at.Statement.{statement}
 use Rattle.model.proofs.store.joint_at.Tie as tie
 
@@ -36,27 +36,15 @@ mul-t16 c = search needs
 shared-slice-read-t18 : tie.Need-shared-slice-read-t18
 shared-slice-read-t18 c = search needs
 
-add-t7-2 : tie.Need-add-t7-2
-add-t7-2 c = search needs
+center-at-requires : tie.Need-center-at-requires
+center-at-requires c κs = search needs
 
-mul-t8-2 : tie.Need-mul-t8-2
-mul-t8-2 c = search needs
-
-shared-slice-read-t18-2 : tie.Need-shared-slice-read-t18-2
-shared-slice-read-t18-2 c = search needs
-
-add-t15-2 : tie.Need-add-t15-2
-add-t15-2 c = search needs
-
-mul-t16-2 : tie.Need-mul-t16-2
-mul-t16-2 c = search needs
-
-shared-slice-read-t14-2 : tie.Need-shared-slice-read-t14-2
-shared-slice-read-t14-2 c = search needs
+rotation-of-requires : tie.Need-rotation-of-requires
+rotation-of-requires c κs = search needs
 
 returns : tie.Need-returns
-unfolding jointAt
-returns c = rw (c .before .before .before .before .before .data-at .ensures)
+unfolding jointAt centerAt
+returns c = rw (c .rotation-of .ensures, c .before .center-at .ensures, c .before .before .before .before .before .data-at .ensures)
 
 pub joint-at-spec : {M : Type 1} → statement M
 joint-at-spec =
@@ -73,10 +61,6 @@ joint-at-spec =
     add-t15
     mul-t16
     shared-slice-read-t18
-    add-t7-2
-    mul-t8-2
-    shared-slice-read-t18-2
-    add-t15-2
-    mul-t16-2
-    shared-slice-read-t14-2
+    center-at-requires
+    rotation-of-requires
     returns)
