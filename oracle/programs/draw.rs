@@ -141,6 +141,22 @@ impl Draw {
         }
     }
 
+    /// An argument of the angle's series, up to 2^30: any width, powers of two and where a power
+    /// turns zero, with their neighbours.
+    pub fn tangent(&mut self) -> u64 {
+        let w = match self.below(4) {
+            0 => self.word() >> (34 + self.below(31)),
+            1 => 1 << self.below(31),
+            // About the least w whose power k is not zero: w^(2k + 1) is 2^(60k).
+            2 => {
+                let k = self.below(15) as f64;
+                (60.0 * k / (2.0 * k + 1.0)).exp2() as u64
+            }
+            _ => self.below((1 << 30) + 1),
+        };
+        (w + self.below(7)).saturating_sub(3).min(1 << 30)
+    }
+
     /// An impulse for the report: odd 128ths, which are all the numbers whose millionths end in a
     /// half, their neighbours, the edge of Over, anything.
     pub fn impulse(&mut self) -> f32 {

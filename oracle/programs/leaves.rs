@@ -5,6 +5,7 @@
 //!   leaves host SEED COUNT      root, report and scalar stand-ins against the host's floats
 //!   leaves angle SEED COUNT     the angle's distance from the host's atan2 in f64
 //!   leaves compare SEED COUNT   every leaf against the Rattle library (built with RATTLE_LIB)
+//!   leaves time SEED            how long an angle takes in that library, by the size of t
 
 mod bits;
 mod draw;
@@ -242,6 +243,16 @@ fn compare(seed: u64, count: u64) {
     rattle::compare(seed, count)
 }
 
+#[cfg(not(rattle))]
+fn time(seed: u64) {
+    compare(seed, 0)
+}
+
+#[cfg(rattle)]
+fn time(seed: u64) {
+    rattle::time(seed)
+}
+
 #[cfg(rattle)]
 mod rattle {
     use super::{Draw, bits, fail, hex, ours};
@@ -260,6 +271,8 @@ mod rattle {
         fn katydidzinc_is_finite(x: f32) -> u8;
         fn katydidzinc_sqrt(x: f32) -> f32;
         fn katydidzinc_angle(re: f32, im: f32) -> f32;
+        fn katydidzinc_series(w: u64) -> u64;
+        fn katydidzinc_series_terms(w: u64) -> u64;
         fn katydidzinc_micro_report(x: f32) -> i64;
         fn katydidzinc_vector_products(x: *const f32, xs: usize, out: *mut f32, outs: usize);
         fn katydidzinc_vector_sums(x: *const f32, xs: usize, out: *mut f32, outs: usize);
@@ -311,6 +324,31 @@ mod rattle {
                 fail("a write past the lent slice", x, hex(&out), "none".into())
             }
             core::array::from_fn(|i| out[i])
+        }
+    }
+
+    /// Nanoseconds an angle, by the size of t. The best of twenty rounds over 4096 pairs.
+    pub fn time(seed: u64) {
+        let d = &mut Draw::new(seed);
+        for exponent in [-30, -20, -16, -13, -12, -11, -8, -4, -2, -1] {
+            let pairs: Vec<(f32, f32)> = (0..4096)
+                .map(|_| {
+                    let re = 1.0 + d.below(1 << 20) as f32 / (1 << 20) as f32;
+                    let t = (1.0 + d.below(1 << 20) as f32 / (1 << 20) as f32) * (exponent as f32).exp2();
+                    (re, re * t)
+                })
+                .collect();
+            let mut best = f64::INFINITY;
+            for _ in 0..20 {
+                let start = std::time::Instant::now();
+                let mut sum = 0.0;
+                for &(re, im) in &pairs {
+                    sum += unsafe { katydidzinc_angle(re, im) };
+                }
+                std::hint::black_box(sum);
+                best = best.min(start.elapsed().as_nanos() as f64 / pairs.len() as f64);
+            }
+            println!("t about 2^{exponent}: {best:.1} ns an angle");
         }
     }
 
@@ -410,6 +448,20 @@ mod rattle {
             |x| [unsafe { katydidzinc_angle(x[0], x[1]) }],
         );
 
+        // How often each number of terms came.
+        let mut counts = [0u64; 16];
+        for _ in 0..count {
+            let w = d.tangent();
+            let left = (ours::series(w), ours::series_terms(w));
+            let right = unsafe { (katydidzinc_series(w), katydidzinc_series_terms(w)) };
+            if left != right {
+                println!("series of {w}: {left:?} here, {right:?} there");
+                std::process::exit(1)
+            }
+            counts[left.1 as usize] += 1;
+        }
+        println!("series: {count} sums and numbers of terms, by number: {counts:?}");
+
         let (mut nans, mut over, mut zeros, mut halves) = (0, 0, 0, 0);
         for _ in 0..count {
             let x = d.impulse();
@@ -504,8 +556,9 @@ fn main() {
         Some("host") => host(seed, count),
         Some("angle") => angle(seed, count),
         Some("compare") => compare(seed, count),
+        Some("time") => time(seed),
         _ => {
-            eprintln!("leaves: cases | host SEED COUNT | angle SEED COUNT | compare SEED COUNT");
+            eprintln!("leaves: cases | host SEED COUNT | angle SEED COUNT | compare SEED COUNT | time SEED");
             exit(2)
         }
     }

@@ -10,8 +10,9 @@ ghost use Rattle.floats.specs.Utils.{invOf, simdInvOf, smallestAbsDiffBetweenAn
 ghost use Rattle.floats.specs.Sign.{signumOf};
 ghost use Rattle.floats.specs.Scalar.{maxOf, minOf, clampOf, isFinite};
 ghost use Rattle.floats.specs.Sqrt.{sqrtOf};
-ghost use Rattle.floats.specs.Angle.{angleOf};
+ghost use Rattle.floats.specs.Angle.{seriesSumUpTo, angleOf};
 use floats::angle::angle;
+use floats::angle::series_sum;
 use floats::angular_inertia_ops::transform_vector;
 use floats::micro_report::MicroReport;
 use floats::micro_report::micro_report;
@@ -100,6 +101,24 @@ pub extern "C" fn katydidzinc_angle(re: f32, im: f32) -> f32
     ensures { λ r. ⌜ r ≡ angleOf re im ⌝ }
 {
     angle(re, im)
+}
+
+// S(w) of the angle's recipe, with w in units of 2^-30; 0 for a w above 2^30.
+#[no_mangle]
+pub extern "C" fn katydidzinc_series(w: u64) -> u64
+    ensures { λ r. ⌜ r ≡ seriesSumUpTo w .sum ⌝ }
+{
+    let s = series_sum(w);
+    s.sum
+}
+
+// How many terms it added.
+#[no_mangle]
+pub extern "C" fn katydidzinc_series_terms(w: u64) -> u64
+    ensures { λ r. ⌜ r ≡ seriesSumUpTo w .terms ⌝ }
+{
+    let s = series_sum(w);
+    s.terms
 }
 
 // The report as one number: Over is 2^32 and NaN is 2^33.

@@ -1,26 +1,24 @@
 -- S(w) is the alternating sum of its terms: for a w of at most 2 ^ 30 no subtraction is cut off at 0 (`alternating`), and S(w) is at most w (`series-le`).
 -- The terms fall, so before an even term there is room for it below w, and before an odd one the sum holds at least that term (`Room`).
 use mathlib.Core.Path.{_≡_, refl, sym, ap, _∙_, subst}
+use mathlib.Core.Logic.{_⊎_, inl, inr}
 use mathlib.Core.Bool.{Bool, true, false, not, cond}
 use Prim.Native.Nat.{ℕ, zero, suc, _+_, _-_, _*_, _/_, _%_, _^_, _≤_, _<_}
-use native.Mathlib.Nat.{mul-comm, mul-le-mul, mul-le-mul-left, div-le-of-le-mul, mod-lt, zero-lt-suc}
+use native.Mathlib.Nat.{add-zero, add-suc, mul-comm, zero-mul, zero-div, mul-le-mul, mul-le-mul-left, div-le-of-le-mul, mod-lt, zero-lt-suc, le-refl, le-trans, eq-zero-or-pos}
 use native.Mathlib.Numerals.{add-one}
 use native.Mathlib.Omega.{arith}
 use borrow.Author.Tests.{eq-eqb, ne-eqb}
 use lib.Dec.{eqb}
 use lib.Ieee.Nearest.{div-mono}
-use Rattle.floats.specs.Angle.{withTerm, seriesFrom, terms, series}
+use Rattle.floats.specs.Angle.{withTerm, seriesFrom, terms, series, power, nonzeroPowers, seriesSum}
+use Rattle.floats.specs.declared.angle.SeriesSum.{SeriesSum}
 
 -- ---- the terms
 
 even : ℕ → Bool
 even k = eqb (k % 2) 0
 
--- pk, and the term k
-power : ℕ → ℕ → ℕ
-power w zero = w
-power w (suc k) = power w k * (w * w / 2 ^ 30) / 2 ^ 30
-
+-- the term k
 term : ℕ → ℕ → ℕ
 term w k = power w k / (2 * k + 1)
 
@@ -97,7 +95,7 @@ balance : (b : Bool) (t sum o v w : ℕ) → Room b t sum w → sum + o ≡ v �
 balance true t sum o v w r q = omega arith
 balance false t sum o v w r q = omega arith
 
-power-next : (w k : ℕ) → power w (k + 1) ≡ power w k * (w * w / 2 ^ 30) / 2 ^ 30
+pub power-next : (w k : ℕ) → power w (k + 1) ≡ power w k * (w * w / 2 ^ 30) / 2 ^ 30
 unfolding power
 power-next w k = rw add-one
 
@@ -141,3 +139,88 @@ turn k u p sum h = rw (less terms k h)
 pub done : (k u p sum : ℕ) → terms ≤ k → seriesFrom (terms - k) k u p sum ≡ sum
 unfolding seriesFrom
 done k u p sum h = let e : terms - k ≡ 0 = omega arith in rw e
+
+-- ---- what the loop leaves out is zero
+
+-- once a power is zero, every later one is
+zero-next : (u : ℕ) → 0 * u / 2 ^ 30 ≡ 0
+zero-next u = simp (zero-mul, zero-div)
+
+pub rest-zero : (left k u sum : ℕ) → seriesFrom left k u 0 sum ≡ sum
+unfolding seriesFrom
+rest-zero zero k u sum = refl
+rest-zero (suc left) k u sum = rw (zero-next u, none k sum) (rest-zero left (k + 1) u sum)
+  where
+    none : (j s : ℕ) → withTerm j 0 s ≡ s
+    none j s = go (eqb (j % 2) 0)
+      where
+        go : (b : Bool) → cond b (s + 0 / (2 * j + 1)) (s - 0 / (2 * j + 1)) ≡ s
+        go true = rw zero-div (omega arith)
+        go false = rw zero-div (omega arith)
+
+stays-zero : (w k j : ℕ) → power w k ≡ 0 → power w (k + j) ≡ 0
+unfolding power
+stays-zero w k zero z = rw add-zero z
+stays-zero w k (suc j) z = rw (add-suc, stays-zero w k j z) (zero-next (w * w / 2 ^ 30))
+
+-- the count does not grow there
+pub count-rest : (w k j : ℕ) → power w k ≡ 0 → nonzeroPowers w (k + j) ≡ nonzeroPowers w k
+unfolding nonzeroPowers
+count-rest w k zero z = rw add-zero
+count-rest w k (suc j) z = rw (add-suc, stays-zero w k j z) (rw add-zero (count-rest w k j z))
+
+-- and before it grows with each power
+pub count-next : (w k : ℕ) → (power w k ≡ 0 → ⊥) → nonzeroPowers w k ≡ k → nonzeroPowers w (k + 1) ≡ k + 1
+unfolding nonzeroPowers
+count-next w k n e = rw (add-one k, ne-eqb (power w k) 0 n, e, add-one k)
+
+-- So every power from the count on is zero, among p0 to p14.
+pub left-out : (w k : ℕ) → k < terms → nonzeroPowers w terms ≤ k → power w k ≡ 0
+left-out w k h c = go (eq-zero-or-pos (power w k))
+  where
+    -- as long as powers are not zero, the count grows with the index
+    counted : (j : ℕ) → j ≤ k → (power w k ≡ 0 → ⊥) → nonzeroPowers w j ≡ j
+    counted zero l n = unfold nonzeroPowers in refl
+    counted (suc j) l n =
+        let i : j + (k - j) ≡ k = omega arith in
+        let m : power w j ≡ 0 → ⊥ = λ z. n (rw i at (stays-zero w j (k - j) z)) in
+        rw add-one at (count-next w j m (counted j (omega arith) n))
+
+    one-more : (n : ℕ) → nonzeroPowers w n ≤ nonzeroPowers w (suc n)
+    one-more n = unfold nonzeroPowers in omega arith
+
+    grows : (n j : ℕ) → nonzeroPowers w n ≤ nonzeroPowers w (n + j)
+    grows n zero = rw add-zero (le-refl (nonzeroPowers w n))
+    grows n (suc j) = rw add-suc (le-trans (grows n j) (one-more (n + j)))
+
+    go : (power w k ≡ 0) ⊎ (0 < power w k) → power w k ≡ 0
+    go (inl z) = z
+    go (inr p) =
+        let n : power w k ≡ 0 → ⊥ = λ z. omega arith in
+        let a : nonzeroPowers w (k + 1) ≡ k + 1 = count-next w k n (counted k (le-refl k) n) in
+        let i : k + 1 + (terms - (k + 1)) ≡ terms = omega arith in
+        absurd (omega (arith, rw i at (grows (k + 1) (terms - (k + 1)))))
+
+-- ---- the end of the loop
+
+module _ (w k p sum : ℕ) where
+  abbrev pub soFar : Type 0
+  soFar = seriesFrom (terms - k) k (w * w / 2 ^ 30) p sum ≡ seriesFrom terms 0 (w * w / 2 ^ 30) w 0
+
+  -- at a zero power
+  pub stopped : k ≤ terms → p ≡ 0 → soFar → p ≡ power w k → nonzeroPowers w k ≡ k → record { sum = sum; terms = k } ≡ seriesSum w
+  unfolding series seriesSum
+  stopped h z s e c =
+      let i : k + (terms - k) ≡ terms = omega arith in
+      let a : sum ≡ series w = sym (rest-zero (terms - k) k (w * w / 2 ^ 30) sum) ∙ ap (λ (x : ℕ). seriesFrom (terms - k) k (w * w / 2 ^ 30) x sum) (sym z) ∙ s in
+      let b : k ≡ nonzeroPowers w terms = sym c ∙ sym (count-rest w k (terms - k) (sym e ∙ z)) ∙ ap (nonzeroPowers w) i in
+      cc
+
+  -- after the last term
+  pub finished : k ≤ terms → terms ≤ k → soFar → nonzeroPowers w k ≡ k → record { sum = sum; terms = k } ≡ seriesSum w
+  unfolding series seriesSum
+  finished h l s c =
+      let i : k ≡ terms = omega arith in
+      let a : sum ≡ series w = sym (done k (w * w / 2 ^ 30) p sum l) ∙ s in
+      let b : k ≡ nonzeroPowers w terms = sym c ∙ ap (nonzeroPowers w) i in
+      cc

@@ -1,12 +1,13 @@
 -- Document 01's angle of (re, im): integer work, with one rounding at the end.
 use Prim.Native.Nat.{ℕ, zero, suc, _+_, _-_, _*_, _/_, _%_, _^_}
 use mathlib.Core.Bool.{Bool, false, cond, _&&_}
-use lib.Dec.{eqb, ltb}
+use lib.Dec.{eqb, leb, ltb}
 use lib.IntN.{pos}
 use lib.Ieee.{Float, nan, inf, fin, binary32, up, down, round, lt, eq}
 use Rattle.floats.specs.Operators.{_⊘_}
 use Rattle.floats.specs.Scalar.{minOf, maxOf, isFinite}
 use Rattle.floats.specs.Sign.{signBit, absOf}
+use Rattle.floats.specs.declared.angle.SeriesSum.{SeriesSum}
 
 -- ---- S(w): u = floor(w² / 2 ^ 30), p0 = w, next p = floor(p·u / 2 ^ 30), and the sum of (-1) ^ k · floor(pk / (2k + 1))
 
@@ -25,6 +26,26 @@ terms = 15
 
 unfoldable pub series : ℕ → ℕ
 series w = seriesFrom terms 0 (w * w / 2 ^ 30) w 0
+
+-- ---- how many terms a loop has to add (request R-5): a power that is zero adds nothing, and no later one does
+
+-- pk
+unfoldable pub power : ℕ → ℕ → ℕ
+power w zero = w
+power w (suc k) = power w k * (w * w / 2 ^ 30) / 2 ^ 30
+
+-- how many of the first n powers, p0 to p(n - 1), are not zero
+unfoldable pub nonzeroPowers : ℕ → ℕ → ℕ
+nonzeroPowers w zero = 0
+nonzeroPowers w (suc k) = nonzeroPowers w k + cond (eqb (power w k) 0) 0 1
+
+-- S(w), and the number of nonzero powers among p0 to p14
+unfoldable pub seriesSum : ℕ → SeriesSum
+seriesSum w = record { sum = series w; terms = nonzeroPowers w terms }
+
+-- the same for any w: there is no sum above 2 ^ 30
+unfoldable pub seriesSumUpTo : ℕ → SeriesSum
+seriesSumUpTo w = cond (leb w (2 ^ 30)) (seriesSum w) (record { sum = 0; terms = 0 })
 
 -- ---- A, in units of 2 ^ -30 radian
 

@@ -10,7 +10,7 @@ ghost use lib.IntN.{pos};
 ghost use lib.Ieee.{fin, binary32, round, le};
 ghost use Rattle.floats.specs.Sign.{signBit};
 ghost use Rattle.floats.specs.Scalar.{isFinite};
-ghost use Rattle.floats.specs.Angle.{eighthTurn, series, arc, folded, ratio, tangentUnits, angleUnits, angleOf};
+ghost use Rattle.floats.specs.Angle.{eighthTurn, seriesSum, seriesSumUpTo, arc, folded, ratio, tangentUnits, angleUnits, angleOf};
 
 // 1 in units.
 const UNIT: u64 = 1073741824;
@@ -24,16 +24,22 @@ const QUARTER_TURN: u64 = 1686629713;
 
 const HALF_TURN: u64 = 3373259426;
 
-// Document 01's S(w).
-fn series(w: u64) -> u64
+// A sum of the series, and how many terms were added.
+pub struct SeriesSum {
+    pub sum: u64,
+    pub terms: u64,
+}
+
+// Document 01's S(w), up to the first power that is zero (request R-5).
+fn series(w: u64) -> SeriesSum
     requires { ⌜ w ≤ 2 ^ 30 ⌝ }
-    ensures { λ r. ⌜ r ≡ series w ⌝ }
+    ensures { λ r. ⌜ r ≡ seriesSum w ⌝ }
 {
     let u = w * w / UNIT;
     let mut p = w;
     let mut sum: u64 = 0;
     let mut k: u64 = 0;
-    while k < TERMS {
+    while k < TERMS && p != 0 {
         let term = p / (2 * k + 1);
         if k % 2 == 0 {
             sum += term;
@@ -43,7 +49,17 @@ fn series(w: u64) -> u64
         p = p * u / UNIT;
         k += 1;
     }
-    sum
+    SeriesSum { sum: sum, terms: k }
+}
+
+// The same for any w: there is no sum above 1.
+pub fn series_sum(w: u64) -> SeriesSum
+    ensures { λ r. ⌜ r ≡ seriesSumUpTo w ⌝ }
+{
+    if w > UNIT {
+        return SeriesSum { sum: 0, terms: 0 };
+    }
+    series(w)
 }
 
 // The angle whose tangent is t, both in units.
@@ -52,9 +68,11 @@ fn arc(t: u64) -> u64
     ensures { λ r. ⌜ r ≡ arc t ⌝ }
 {
     if t < UNIT / 2 {
-        series(t)
+        let s = series(t);
+        s.sum
     } else {
-        EIGHTH_TURN - series((UNIT - t) * UNIT / (UNIT + t))
+        let s = series((UNIT - t) * UNIT / (UNIT + t));
+        EIGHTH_TURN - s.sum
     }
 }
 

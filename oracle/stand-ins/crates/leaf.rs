@@ -128,21 +128,33 @@ pub fn sqrt(x: f32) -> f32 {
     nearest(r, (e - shift) / 2, r * r != n)
 }
 
-/// The sum S(w) of the recipe, w in units of 2^-30 and at most 2^30.
-fn series(w: u64) -> u64 {
+/// The powers p0 to p14 of the recipe, w in units of 2^-30 and at most 2^30.
+fn powers(w: u64) -> [u64; 15] {
     let u = (w * w) >> 30;
-    let mut p = w;
+    let mut p = [w; 15];
+    for k in 1..15 {
+        p[k] = (p[k - 1] * u) >> 30;
+    }
+    p
+}
+
+/// The sum S(w), over all fifteen powers.
+pub fn series(w: u64) -> u64 {
     let mut sum = 0i64;
-    for k in 0..15u64 {
+    for (k, p) in (0..).zip(powers(w)) {
         let term = (p / (2 * k + 1)) as i64;
         if k % 2 == 0 {
             sum += term;
         } else {
             sum -= term;
         }
-        p = (p * u) >> 30;
     }
     sum as u64
+}
+
+/// How many of the fifteen powers are not zero.
+pub fn series_terms(w: u64) -> u64 {
+    powers(w).iter().filter(|&&p| p != 0).count() as u64
 }
 
 /// The angle of (re, im), by document 01's recipe.

@@ -49,6 +49,14 @@ pub fn angle(re: Real, im: Real) -> Real {
     im.simd_atan2(re)
 }
 
+pub fn series(w: u64) -> u64 {
+    leaf::series(w)
+}
+
+pub fn series_terms(w: u64) -> u64 {
+    leaf::series_terms(w)
+}
+
 pub fn micro_report(x: Real) -> i64 {
     leaf::micro_report(x)
 }

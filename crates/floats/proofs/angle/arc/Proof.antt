@@ -1,7 +1,10 @@
 -- `arc` meets its contract: each answer is the case that the test left.
+use mathlib.Core.Path.{ap}
+use Prim.Native.Nat.{_-_}
 use native.Mathlib.Omega.{arith}
 use borrow.Author.Tests.{lt-ltb, le-ltb}
-use Rattle.floats.specs.Angle.{arc}
+use Rattle.floats.specs.Angle.{eighthTurn, seriesSum, arc}
+use Rattle.floats.specs.declared.angle.SeriesSum.{SeriesSum}
 use Rattle.floats.proofs.Arc.{rest-le, arc-whole}
 use borrow.Author.Needs.{needs}
 use Rattle.floats.proofs.angle.arc.Statement.{statement}
@@ -26,15 +29,19 @@ series-requires-2 : tie.Need-series-requires-2
 series-requires-2 c κs = omega (arith, rest-le (c .before .args .t) (c .if1 .left))
 
 sub-result : tie.Need-sub-result
-sub-result c = omega (arith, c .series2 .ensures, arc-whole (c .before .before .args .t) (c .before .if1 .left))
+unfolding seriesSum
+sub-result c =
+    let s = c .before .before in
+    omega (arith, ap (λ (r : SeriesSum). r .sum) (c .before .series2 .ensures), arc-whole (s .before .args .t) (s .if1 .left))
 
 returns : tie.Need-returns
-unfolding arc
-returns c = simp (lt-ltb _ _ (c .before .if1 .taken)) (c .series .ensures)
+unfolding arc seriesSum
+returns c = simp (lt-ltb _ _ (c .before .if1 .taken)) (ap (λ (r : SeriesSum). r .sum) (c .series .ensures))
 
 returns-2 : tie.Need-returns-2
-unfolding arc
-returns-2 c = simp (le-ltb _ _ (c .before .if1 .left), c .series2 .ensures)
+unfolding arc seriesSum
+returns-2 c =
+    simp (le-ltb _ _ (c .before .before .if1 .left)) (ap (λ (r : SeriesSum). eighthTurn - r .sum) (c .before .series2 .ensures))
 
 pub arc-spec : {M : Type 1} → statement M
 arc-spec =
