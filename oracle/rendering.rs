@@ -12,7 +12,7 @@ pub fn carry(number: u32) {
 }
 
 /// Fault k is entry k − 1.
-pub const FAULTS: [&str; 84] = [
+pub const FAULTS: [&str; 86] = [
     // Leaves of the rows.
     "inv_dt is 1/dt at dt = 0 as well",
     "max_impulse is max_force·dt at dt = 0 as well",
@@ -103,6 +103,9 @@ pub const FAULTS: [&str; 84] = [
     "substep 0 starts from the row's last impulse",
     "a later substep starts from the stored impulse",
     "no warm coefficient keeps the row's last impulse",
+    // The angle near zero.
+    "angle near zero: by the recipe",
+    "angle near zero: re's sign bit not asked for",
 ];
 
 /// Whether fault `number` is carried.
@@ -208,6 +211,11 @@ fn angle(re: f32, im: f32) -> f32 {
     } else {
         y / x
     };
+    // Request R-7.
+    let right = or!(86, !re.is_sign_negative(), true);
+    if or!(85, right && y < x && t < 1.0 / 4096.0, false) {
+        return t.copysign(im);
+    }
     let one = 1i128 << 30;
     // f64 holds t·2^30 and A/2^30 exactly.
     let t = (t as f64 * one as f64).floor() as i128;

@@ -141,6 +141,45 @@ impl Draw {
         }
     }
 
+    /// (re, im) about the conditions under which an angle is its tangent, one of `NEAR_ZERO` or any.
+    /// The signs of both are free.
+    pub fn near_zero(&mut self, about: Option<u64>) -> (f32, f32) {
+        let re = if self.below(4) == 0 {
+            self.number()
+        } else {
+            self.ordinary()
+        };
+        let sign = self.sign();
+        // Of any, twice as often the first.
+        match about.unwrap_or_else(|| self.below(8).saturating_sub(1)) {
+            0 => (re, self.near((re / 4096.0).to_bits() ^ sign, 3)),
+            1 => {
+                let t = f32::from_bits((97 + self.below(20) as u32) << 23 | self.mantissa());
+                (re, re * t)
+            }
+            2 => (re, self.near(re.to_bits() ^ sign, 2)),
+            3 => (self.pick(&[0.0, -0.0]), self.number()),
+            4 => {
+                let low = self.mantissa();
+                let high = f32::from_bits(self.sign() | self.mantissa());
+                (high, f32::from_bits(sign | low >> self.below(24)))
+            }
+            5 => (re.abs(), f32::from_bits(sign | self.mantissa())),
+            _ => (re, self.number()),
+        }
+    }
+
+    /// What `near_zero` draws about.
+    pub const NEAR_ZERO: [&str; 7] = [
+        "t about 2^-12",
+        "t of 2^-30 to 2^-11",
+        "|im| about |re|",
+        "re of either zero",
+        "subnormal numbers",
+        "im subnormal, t vanishing",
+        "any im, finite or not",
+    ];
+
     /// An argument of the angle's series, up to 2^30: any width, powers of two and where a power
     /// turns zero, with their neighbours.
     pub fn tangent(&mut self) -> u64 {

@@ -95,6 +95,13 @@ fn cases() {
     expect("angle (-1, +0)", ours::angle(-1.0, 0.0), pi);
     expect("angle (-1, -0)", ours::angle(-1.0, -0.0), pi | 0x8000_0000);
     expect("angle (0, 0)", ours::angle(0.0, 0.0), 0);
+    let near = f(0x397F_FFFF);
+    expect("angle (1, 397FFFFF)", ours::angle(1.0, near), 0x397F_FFFF);
+    expect("angle (1, B97FFFFF)", ours::angle(1.0, -near), 0xB97F_FFFF);
+    expect("angle (1, 00000001)", ours::angle(1.0, f(1)), 1);
+    expect("angle (1, 39800000)", ours::angle(1.0, f(0x3980_0000)), 0x3980_0000);
+    expect("angle (-1, 397FFFFF)", ours::angle(-1.0, near), 0x4049_0BDB);
+    expect("angle (00000001, 0)", ours::angle(f(1), 0.0), 0);
     expect("angle (inf, 1)", ours::angle(f32::INFINITY, 1.0), nan);
     expect("angle (1, inf)", ours::angle(1.0, f32::INFINITY), nan);
     expect("angle (NaN, 1)", ours::angle(f32::NAN, 1.0), nan);
@@ -177,13 +184,17 @@ fn host(seed: u64, count: u64) {
 /// its own error is far below an f32's spacing.
 fn angle(seed: u64, count: u64) {
     let mut d = Draw::new(seed);
-    // Largest absolute distance; largest distance in spacings of f32; largest relative distance
-    // where the true angle is at least 2^-12.
-    let mut worst = [(0.0f64, 0.0f32, 0.0f32); 3];
+    // Largest absolute distance; largest distance in spacings of f32, and largest relative distance,
+    // where the true angle is at least 2^-12; largest distance in spacings where it is below.
+    let mut worst = [(0.0f64, 0.0f32, 0.0f32); 4];
     let mut measured = 0u64;
     let mut not_finite = 0u64;
     while measured < count {
-        let (re, im) = d.direction();
+        let (re, im) = if measured % 2 == 0 {
+            d.direction()
+        } else {
+            d.near_zero(None)
+        };
         let got = ours::angle(re, im);
         if !re.is_finite() || !im.is_finite() {
             not_finite += 1;
@@ -208,6 +219,8 @@ fn angle(seed: u64, count: u64) {
         if want.abs() >= 1.0 / 4096.0 {
             note(1, distance / spacing(want as f32));
             note(2, distance / want.abs());
+        } else {
+            note(3, distance / spacing(want as f32));
         }
         if got.is_sign_negative() != im.is_sign_negative() {
             fail("angle's sign", &[re, im], hex(&[got]), hex(&[im]))
@@ -218,6 +231,7 @@ fn angle(seed: u64, count: u64) {
         "absolute",
         "in spacings of f32, angles of 2^-12 and more",
         "relative, angles of 2^-12 and more",
+        "in spacings of f32, angles below 2^-12",
     ]
     .iter()
     .enumerate()
@@ -447,6 +461,23 @@ mod rattle {
             |x| [ours::angle(x[0], x[1])],
             |x| [unsafe { katydidzinc_angle(x[0], x[1]) }],
         );
+
+        // Pairs on both sides of each condition, and how many meet them all.
+        for (about, what) in Draw::NEAR_ZERO.iter().enumerate() {
+            let (mut near, mut far) = (0u64, 0u64);
+            for _ in 0..count {
+                let (re, im) = d.near_zero(Some(about as u64));
+                let (left, right) = (ours::angle(re, im), unsafe { katydidzinc_angle(re, im) });
+                if bits(left) != bits(right) {
+                    fail("angle near zero", &[re, im], hex(&[left]), hex(&[right]))
+                }
+                let finite = re.is_finite() && im.is_finite();
+                let small = im.abs() < re.abs() && im.abs() / re.abs() < 1.0 / 4096.0;
+                near += (finite && small && !re.is_sign_negative()) as u64;
+                far += (finite && small && re.is_sign_negative()) as u64;
+            }
+            println!("angle near zero, {what}: {count} pairs, {near} its tangent, {far} but for re's sign bit");
+        }
 
         // How often each number of terms came.
         let mut counts = [0u64; 16];

@@ -204,6 +204,12 @@ fn angles() {
     show(b"angle (-0, 0)", angle(from_bits(NEG_ZERO), 0.0));
     show(b"angle (0, 0)", angle(0.0, 0.0));
     show(b"angle (1, -0)", angle(1.0, from_bits(NEG_ZERO)));
+    show(b"angle (1, 397fffff)", angle(1.0, from_bits(0x397f_ffff)));
+    show(b"angle (1, b97fffff)", angle(1.0, from_bits(0xb97f_ffff)));
+    show(b"angle (1, 00000001)", angle(1.0, from_bits(1)));
+    show(b"angle (1, 39800000)", angle(1.0, from_bits(0x3980_0000)));
+    show(b"angle (-1, 397fffff)", angle(-1.0, from_bits(0x397f_ffff)));
+    show(b"angle (00000001, 0)", angle(from_bits(1), 0.0));
     show(b"angle (inf, 1)", angle(from_bits(INF), 1.0));
     show(b"angle (1, nan)", angle(1.0, from_bits(NAN)));
 }

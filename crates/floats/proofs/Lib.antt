@@ -16,6 +16,7 @@ pub mod Arc
 pub mod ScaledRound
 pub mod UnitInterval
 pub mod WholeUnits
+pub mod NearZero
 pub mod AngleCases
 pub mod HalfEven
 pub mod SinesLaws

@@ -1,10 +1,10 @@
--- Document 01's angle of (re, im): integer work, with one rounding at the end.
+-- Document 01's angle of (re, im): integer work, with one rounding at the end; and near zero the tangent itself (request R-7).
 use Prim.Native.Nat.{ℕ, zero, suc, _+_, _-_, _*_, _/_, _%_, _^_}
-use mathlib.Core.Bool.{Bool, false, cond, _&&_}
+use mathlib.Core.Bool.{Bool, false, not, cond, _&&_}
 use lib.Dec.{eqb, leb, ltb}
 use lib.IntN.{pos}
-use lib.Ieee.{Float, nan, inf, fin, binary32, up, down, round, lt, eq}
-use Rattle.floats.specs.Operators.{_⊘_}
+use lib.Ieee.{Float, nan, inf, fin, binary32, up, down, round, neg, lt, eq}
+use Rattle.floats.specs.Operators.{bits, _⊘_}
 use Rattle.floats.specs.Scalar.{minOf, maxOf, isFinite}
 use Rattle.floats.specs.Sign.{signBit, absOf}
 use Rattle.floats.specs.declared.angle.SeriesSum.{SeriesSum}
@@ -82,12 +82,27 @@ tangentUnits nan = 0
 tangentUnits (inf s) = 0
 tangentUnits (fin s m e) = m * up e * 2 ^ 30 / down e
 
+-- t of (re, im)
+abbrev pub tangentOf : Float → Float → Float
+tangentOf re im = ratio (absOf re) (absOf im)
+
 -- ---- the answer
 
 -- A of (re, im)
 unfoldable pub angleUnits : Float → Float → ℕ
-angleUnits re im = folded (lt (absOf re) (absOf im)) (signBit re) (arc (tangentUnits (ratio (absOf re) (absOf im))))
+angleUnits re im = folded (lt (absOf re) (absOf im)) (signBit re) (arc (tangentUnits (tangentOf re im)))
 
--- A / 2 ^ 30 to the nearest f32 with im's sign bit; NaN if either is NaN or infinite
+-- near zero (request R-7): re's sign bit is clear, |im| < |re|, and t is below 2 ^ -12
+unfoldable pub nearZero : Float → Float → Bool
+nearZero re im = not (signBit re) && (lt (absOf im) (absOf re) && lt (tangentOf re im) (bits 0x3980_0000))
+
+-- a magnitude with a sign
+abbrev pub signed : Bool → Float → Float
+signed negative x = cond negative (neg x) x
+
+-- t itself with im's sign where it is near zero, and else A / 2 ^ 30 to the nearest f32 with im's sign bit; NaN if either is NaN or infinite
 unfoldable pub angleOf : Float → Float → Float
-angleOf re im = cond (isFinite re && isFinite im) (round binary32 (signBit im) (angleUnits re im) (2 ^ 30)) nan
+angleOf re im =
+    cond (isFinite re && isFinite im)
+    (cond (nearZero re im) (signed (signBit im) (tangentOf re im)) (round binary32 (signBit im) (angleUnits re im) (2 ^ 30)))
+    nan

@@ -1,5 +1,5 @@
 // The angle of (re, im) in place of the Rust's `simd_atan2` and `angle()`: document 01's integer
-// recipe, in units of 2^-30 radian.
+// recipe, in units of 2^-30 radian, and near zero the tangent itself (request R-7).
 use crate::scalar;
 use crate::sign;
 ghost use mathlib.Core.Path.{_≡_};
@@ -10,7 +10,7 @@ ghost use lib.IntN.{pos};
 ghost use lib.Ieee.{fin, binary32, round, le};
 ghost use Rattle.floats.specs.Sign.{signBit};
 ghost use Rattle.floats.specs.Scalar.{isFinite};
-ghost use Rattle.floats.specs.Angle.{eighthTurn, seriesSum, seriesSumUpTo, arc, folded, ratio, tangentUnits, angleUnits, angleOf};
+ghost use Rattle.floats.specs.Angle.{eighthTurn, seriesSum, seriesSumUpTo, arc, folded, ratio, tangentUnits, tangentOf, nearZero, signed, angleUnits, angleOf};
 
 // 1 in units.
 const UNIT: u64 = 1073741824;
@@ -23,6 +23,9 @@ const EIGHTH_TURN: u64 = 843314857;
 const QUARTER_TURN: u64 = 1686629713;
 
 const HALF_TURN: u64 = 3373259426;
+
+// 2^-12: below it an angle is its tangent.
+const NEAR_ZERO: f32 = 0.000244140625;
 
 // A sum of the series, and how many terms were added.
 pub struct SeriesSum {
@@ -110,15 +113,45 @@ fn to_units(t: f32) -> u64
     std::num::truncating_f32_to_u64(t * 1073741824.0)
 }
 
-// A, for finite re and im.
-fn units(re: f32, im: f32) -> u64
-    requires { ⌜ T (isFinite re) × T (isFinite im) ⌝ }
+// t of (re, im).
+fn tangent(re: f32, im: f32) -> f32
+    ensures { λ r. ⌜ r ≡ tangentOf re im ⌝ }
+{
+    ratio(sign::abs(re), sign::abs(im))
+}
+
+// A, for finite re and im, from their t.
+fn units(re: f32, im: f32, t: f32) -> u64
+    requires { ⌜ T (isFinite re) × T (isFinite im) × (t ≡ tangentOf re im) ⌝ }
     ensures { λ r. ⌜ r ≡ angleUnits re im ⌝ }
 {
-    let a = sign::abs(re);
-    let b = sign::abs(im);
-    let t = to_units(ratio(a, b));
-    fold(b > a, sign::sign_bit(re), arc(t))
+    let whole = to_units(t);
+    fold(
+        sign::abs(im) > sign::abs(re),
+        sign::sign_bit(re),
+        arc(whole),
+    )
+}
+
+// Whether the angle is t itself (request R-7).
+fn near_zero(re: f32, im: f32, t: f32) -> bool
+    requires { ⌜ t ≡ tangentOf re im ⌝ }
+    ensures { λ r. ⌜ r ≡ nearZero re im ⌝ }
+{
+    if sign::sign_bit(re) {
+        return false;
+    }
+    if sign::abs(im) < sign::abs(re) {
+        return t < NEAR_ZERO;
+    }
+    false
+}
+
+// A magnitude with a sign.
+fn signed(negative: bool, x: f32) -> f32
+    ensures { λ r. ⌜ r ≡ signed negative x ⌝ }
+{
+    if negative { -x } else { x }
 }
 
 // a units to the nearest f32, with a sign. The division by 2^30 is exact: only the conversion
@@ -135,7 +168,11 @@ pub fn angle(re: f32, im: f32) -> f32
     ensures { λ r. ⌜ r ≡ angleOf re im ⌝ }
 {
     if scalar::is_finite(re) && scalar::is_finite(im) {
-        return from_units(units(re, im), sign::sign_bit(im));
+        let t = tangent(re, im);
+        if near_zero(re, im, t) {
+            return signed(sign::sign_bit(im), t);
+        }
+        return from_units(units(re, im, t), sign::sign_bit(im));
     }
     0.0 / 0.0
 }

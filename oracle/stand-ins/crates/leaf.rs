@@ -157,7 +157,7 @@ pub fn series_terms(w: u64) -> u64 {
     powers(w).iter().filter(|&&p| p != 0).count() as u64
 }
 
-/// The angle of (re, im), by document 01's recipe.
+/// The angle of (re, im), by document 01's recipe, and near zero by request R-7.
 pub fn angle(re: f32, im: f32) -> f32 {
     if !is_finite(re) || !is_finite(im) {
         return f32::from_bits(NAN);
@@ -165,6 +165,10 @@ pub fn angle(re: f32, im: f32) -> f32 {
     let (x, y) = (abs(re), abs(im));
     let (smaller, larger) = if y > x { (x, y) } else { (y, x) };
     let t = if larger == 0.0 { 0.0 } else { smaller / larger };
+    // Request R-7: near zero the angle is t itself. 39800000 is 2^-12.
+    if re.to_bits() & SIGN == 0 && y < x && t.to_bits() < 0x3980_0000 {
+        return f32::from_bits(t.to_bits() | im.to_bits() & SIGN);
+    }
     let (m, e) = parts(t);
     // t ≤ 1, so e ≤ −23 and t·2^30 = m·2^(e + 30) with e + 30 ≤ 7.
     let units = if e + 30 >= 0 {
