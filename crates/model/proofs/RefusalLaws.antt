@@ -164,6 +164,18 @@ module _ (p : ℕ → Bool) where
   pub all-turn-from : (o n i : ℕ) → i < n → p (o + i) ≡ true → all (o + (i + 1)) (n - (i + 1)) p ≡ all (o + i) (n - i) p
   all-turn-from o n i h e = rw (← add-assoc o i 1) (all-turn (o + i) n i h e)
 
+  -- a loop that tries each number, whatever the others are: its turn, and its end
+  pub all-next : (t : Bool) (o n i : ℕ) → i < n → (t && p (o + i) && all (o + (i + 1)) (n - (i + 1)) p) ≡ (t && all (o + i) (n - i) p)
+  unfolding all
+  all-next true o n i h =
+      let more : n - i ≡ suc (n - (i + 1)) = omega arith in
+      rw (more, ← add-assoc o i 1)
+  all-next false o n i h = refl
+
+  pub all-over : (t : Bool) (k n i : ℕ) → n ≤ i → (t && all k (n - i) p) ≡ t
+  all-over true k n i h = all-done k n i h
+  all-over false k n i h = refl
+
   -- the test holds of each number of the range
   pub all-at : (i n : ℕ) → all i n p ≡ true → (k : ℕ) → i ≤ k → k < i + n → p k ≡ true
   unfolding all

@@ -126,19 +126,18 @@ fn all_bodies_apart(words: &[u32], n: usize) -> bool
 
 // ---- rule 6
 
-// n numbers from place o on.
+// n numbers from place o on. No number ends the loop early, so that the machine code has no branch for each of them.
 fn finite_from(s: &[f32], o: usize, n: usize) -> bool
     requires { ⌜ o + n ≤ length (now s) ⌝ }
     ensures { λ r. ⌜ r ≡ finiteFrom (now (s .entry)) o n ⌝ }
 {
+    let mut finite = true;
     let mut i = 0usize;
     while i < n {
-        if !is_finite(s[o + i]) {
-            return false;
-        }
+        finite = finite & is_finite(s[o + i]);
         i += 1;
     }
-    true
+    finite
 }
 
 // A NaN alone differs from itself.
@@ -152,14 +151,13 @@ fn no_nan_from(s: &[f32], o: usize, n: usize) -> bool
     requires { ⌜ o + n ≤ length (now s) ⌝ }
     ensures { λ r. ⌜ r ≡ noNanFrom (now (s .entry)) o n ⌝ }
 {
+    let mut no_nan = true;
     let mut i = 0usize;
     while i < n {
-        if is_nan(s[o + i]) {
-            return false;
-        }
+        no_nan = no_nan & !is_nan(s[o + i]);
         i += 1;
     }
-    true
+    no_nan
 }
 
 pub fn finite_params(p: IntegrationParameters) -> bool

@@ -7,9 +7,13 @@ use crate::model::{Call, JOINT, KINDS, ROW, Study, WORLD};
 use rapier2d::pipeline::model::Prepared;
 use std::time::Instant;
 
-/// A chain of n links that hangs from the world: each joint is locked in the plane, and has an
-/// angular motor, an angular limit, or both.
-fn chain(n: usize) -> Study {
+/// A joint's limit and motor masks: each joint of a chain takes the next of these.
+const STOPS_AND_MOTORS: &[[u32; 2]] = &[[4, 0], [0, 4], [4, 4]];
+const PINS: &[[u32; 2]] = &[[0, 0]];
+
+/// A chain of n links that hangs from the world: each joint is locked in the plane, and may have an
+/// angular limit, an angular motor, or both.
+fn chain(n: usize, kinds: &[[u32; 2]]) -> Study {
     let mut s = Study {
         settings: [1.0 / 60.0, 1.0, 10.0],
         built: false,
@@ -34,7 +38,7 @@ fn chain(n: usize) -> Study {
         ];
         s.bodies.extend(body);
         let before = if i == 0 { WORLD } else { i as u32 - 1 };
-        let [limit, motor] = [[4, 0], [0, 4], [4, 4]][i % 3];
+        let [limit, motor] = kinds[i % kinds.len()];
         s.words
             .extend([before, i as u32, 3, limit, motor, 0, 0, 0, i as u32 % 2, 0, 0]);
         let mut joint = [0.0; JOINT];
@@ -155,7 +159,7 @@ pub fn bench() {
     println!("nanoseconds a joint (for a sweep: a joint and a round)");
     println!("joints  rows  work                               Rust     Rattle   ratio");
     for joints in [1, 2, 4, 16, 64, 128] {
-        let mut both = Sides::new(chain(joints));
+        let mut both = Sides::new(chain(joints, STOPS_AND_MOTORS));
         let rows = both.rattle.total();
         let mut work = |what: &str, turns: f64, calls: &[Call]| {
             let times = both.times(calls);
@@ -173,6 +177,13 @@ pub fn bench() {
             }
             work("a whole step", 1.0, &STEP);
         }
+        assert!(both.agree());
+    }
+    for joints in [4, 16, 128] {
+        let mut both = Sides::new(chain(joints, PINS));
+        both.times(&[BUILD]);
+        let times = both.times(&[Call::Sweep(64)]);
+        show(joints, both.rattle.total(), "pin joints, sweep 64", 64.0, times);
         assert!(both.agree());
     }
     println!("velocities, stored impulses and rows are equal in bits after all of it");

@@ -1,21 +1,22 @@
--- `finite_from` meets its contract. Before turn i, the numbers from place o + i on decide.
+-- `finite_from` meets its contract. Before turn i, what was so far and the numbers from place o + i on decide.
 use Prim.Native.Nat.{_+_, _-_, _≤_}
 use mathlib.Core.Path.{_≡_, sym, _∙_}
+use mathlib.Core.Bool.{_&&_}
 use native.Mathlib.Nat.{add-zero, sub-zero}
 use borrow.Author.Needs.{needs}
 use lib.ListN.{getD}
 use lib.Ieee.{nan}
 use Rattle.floats.specs.Scalar.{isFinite}
 use Rattle.model.specs.Refusals.{all, finiteFrom}
-use Rattle.model.proofs.RefusalLaws.{holds, fails, all-turn-from, all-stop, all-done}
+use Rattle.model.proofs.RefusalLaws.{all-next, all-over}
 use Rattle.model.proofs.refusals.finite_from.Statement.{statement}
 use Rattle.model.proofs.refusals.finite_from.Tie as tie
 
 abbrev Inv-loop : tie.InvT-loop
-Inv-loop s o n i₀ i = (i ≤ n) × (all (o + i) (n - i) (λ p. isFinite (getD s p nan)) ≡ finiteFrom s o n)
+Inv-loop s o n so-far₀ i₀ so-far i = (i ≤ n) × ((so-far && all (o + i) (n - i) (λ p. isFinite (getD s p nan))) ≡ finiteFrom s o n)
 
 abbrev μ-loop : tie.MeasureT-loop
-μ-loop s o n i₀ i = n - i
+μ-loop s o n so-far₀ i₀ so-far i = n - i
 
 loop-holds : tie.Need-loop-holds Inv-loop μ-loop
 unfolding finiteFrom
@@ -33,12 +34,6 @@ shared-slice-read-is-finite c = search needs
 is-finite-requires : tie.Need-is-finite-requires Inv-loop μ-loop
 is-finite-requires c κs = search needs
 
-returns : tie.Need-returns Inv-loop μ-loop
-returns c =
-    let f = c .before in
-    let lt = f .before .before in
-    sym (all-stop _ _ _ _ (lt .loop-test .taken) (fails (f .is-finite .ensures) (c .if1 .taken))) ∙ lt .before .loop .inv .1
-
 add-i : tie.Need-add-i Inv-loop μ-loop
 add-i c = search needs
 
@@ -47,12 +42,16 @@ loop-less c = search needs
 
 loop-again : tie.Need-loop-again Inv-loop μ-loop
 loop-again c =
-    let f = c .before in
-    let lt = f .before .before in
-    (search needs, all-turn-from _ _ _ _ (lt .loop-test .taken) (holds (f .is-finite .ensures) (c .if1 .left)) ∙ lt .before .loop .inv .1)
+    let lt = c .before .before in
+    let l = lt .before .loop in
+    let a = lt .before .before .before .args in
+    (search needs, rw (c .is-finite .ensures) (all-next (λ p. isFinite (getD (a .s .now) p nan)) (l .finite) (a .o) (a .n) (l .i) (lt .loop-test .taken)) ∙ l .inv .1)
 
-returns-2 : tie.Need-returns-2 Inv-loop μ-loop
-returns-2 c = sym (all-done _ _ _ _ (c .loop-test .left)) ∙ c .before .loop .inv .1
+returns : tie.Need-returns Inv-loop μ-loop
+returns c =
+    let l = c .before .loop in
+    let a = c .before .before .before .args in
+    sym (all-over (λ p. isFinite (getD (a .s .now) p nan)) (l .finite) (a .o + l .i) (a .n) (l .i) (c .loop-test .left)) ∙ l .inv .1
 
 pub finite-from-spec : {M : Type 1} → statement M
 finite-from-spec =
@@ -65,8 +64,7 @@ finite-from-spec =
     mul-is-finite
     shared-slice-read-is-finite
     is-finite-requires
-    returns
     add-i
     loop-less
     loop-again
-    returns-2)
+    returns)

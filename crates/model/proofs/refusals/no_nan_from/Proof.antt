@@ -1,21 +1,21 @@
--- `no_nan_from` meets its contract. Before turn i, the numbers from place o + i on decide.
+-- `no_nan_from` meets its contract. Before turn i, what was so far and the numbers from place o + i on decide.
 use Prim.Native.Nat.{_+_, _-_, _≤_}
-use mathlib.Core.Path.{_≡_, sym, ap, _∙_}
-use mathlib.Core.Bool.{not}
+use mathlib.Core.Path.{_≡_, sym, _∙_}
+use mathlib.Core.Bool.{not, _&&_}
 use native.Mathlib.Nat.{add-zero, sub-zero}
 use borrow.Author.Needs.{needs}
 use lib.ListN.{getD}
 use lib.Ieee.{nan, isNan}
 use Rattle.model.specs.Refusals.{all, noNanFrom}
-use Rattle.model.proofs.RefusalLaws.{all-turn-from, all-stop, all-done}
+use Rattle.model.proofs.RefusalLaws.{all-next, all-over}
 use Rattle.model.proofs.refusals.no_nan_from.Statement.{statement}
 use Rattle.model.proofs.refusals.no_nan_from.Tie as tie
 
 abbrev Inv-loop : tie.InvT-loop
-Inv-loop s o n i₀ i = (i ≤ n) × (all (o + i) (n - i) (λ p. not (isNan (getD s p nan))) ≡ noNanFrom s o n)
+Inv-loop s o n so-far₀ i₀ so-far i = (i ≤ n) × ((so-far && all (o + i) (n - i) (λ p. not (isNan (getD s p nan)))) ≡ noNanFrom s o n)
 
 abbrev μ-loop : tie.MeasureT-loop
-μ-loop s o n i₀ i = n - i
+μ-loop s o n so-far₀ i₀ so-far i = n - i
 
 loop-holds : tie.Need-loop-holds Inv-loop μ-loop
 unfolding noNanFrom
@@ -33,12 +33,6 @@ shared-slice-read-is-nan c = search needs
 is-nan-requires : tie.Need-is-nan-requires Inv-loop μ-loop
 is-nan-requires c κs = search needs
 
-returns : tie.Need-returns Inv-loop μ-loop
-returns c =
-    let f = c .before in
-    let lt = f .before .before in
-    sym (all-stop _ _ _ _ (lt .loop-test .taken) (ap not (sym (f .is-nan .ensures) ∙ c .if1 .taken))) ∙ lt .before .loop .inv .1
-
 add-i : tie.Need-add-i Inv-loop μ-loop
 add-i c = search needs
 
@@ -47,12 +41,16 @@ loop-less c = search needs
 
 loop-again : tie.Need-loop-again Inv-loop μ-loop
 loop-again c =
-    let f = c .before in
-    let lt = f .before .before in
-    (search needs, all-turn-from _ _ _ _ (lt .loop-test .taken) (ap not (sym (f .is-nan .ensures) ∙ c .if1 .left)) ∙ lt .before .loop .inv .1)
+    let lt = c .before .before in
+    let l = lt .before .loop in
+    let a = lt .before .before .before .args in
+    (search needs, rw (c .is-nan .ensures) (all-next (λ p. not (isNan (getD (a .s .now) p nan))) (l .no-nan) (a .o) (a .n) (l .i) (lt .loop-test .taken)) ∙ l .inv .1)
 
-returns-2 : tie.Need-returns-2 Inv-loop μ-loop
-returns-2 c = sym (all-done _ _ _ _ (c .loop-test .left)) ∙ c .before .loop .inv .1
+returns : tie.Need-returns Inv-loop μ-loop
+returns c =
+    let l = c .before .loop in
+    let a = c .before .before .before .args in
+    sym (all-over (λ p. not (isNan (getD (a .s .now) p nan))) (l .no-nan) (a .o + l .i) (a .n) (l .i) (c .loop-test .left)) ∙ l .inv .1
 
 pub no-nan-from-spec : {M : Type 1} → statement M
 no-nan-from-spec =
@@ -65,8 +63,7 @@ no-nan-from-spec =
     mul-is-nan
     shared-slice-read-is-nan
     is-nan-requires
-    returns
     add-i
     loop-less
     loop-again
-    returns-2)
+    returns)
