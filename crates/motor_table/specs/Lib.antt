@@ -1,0 +1,6 @@
+pub mod Rfc4180
+pub mod WholeNumber
+pub mod Records
+pub mod Scan
+pub mod Tables
+pub mod Targets
