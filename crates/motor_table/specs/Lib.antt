@@ -3,4 +3,5 @@ pub mod WholeNumber
 pub mod Records
 pub mod Scan
 pub mod Tables
+pub mod Text
 pub mod Targets

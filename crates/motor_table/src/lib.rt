@@ -5,4 +5,5 @@ pub mod record;
 pub mod rfc4180;
 pub mod table;
 pub mod target;
+pub mod text;
 pub mod whole_number;
