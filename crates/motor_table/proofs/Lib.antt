@@ -5,3 +5,5 @@ pub mod TableLaws
 pub mod TargetLaws
 pub mod TextLaws
 pub mod WriteLaws
+pub mod RoundTrip
+pub mod ExportLaws

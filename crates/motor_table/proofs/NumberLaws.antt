@@ -75,7 +75,7 @@ digits-field m n v (b ∷ bs) h =
     one-more m (isDigit b) (isSign b) (grown m n (b - 0x30)) bs (digitsAfter (v * 10 + (b - 0x30)) bs)
     (ap (λ (f : Field). fieldNumber (pushAll f bs)) (g .1) ∙ digits-field m (g .0) (v * 10 + (b - 0x30)) bs (g .2))
 
-digit-no-sign : (b : ℕ) → isDigit b ≡ true → isSign b ≡ false
+pub digit-no-sign : (b : ℕ) → isDigit b ≡ true → isSign b ≡ false
 unfolding isDigit isSign
 digit-no-sign b h = go (leb 0x30 b) refl h
   where

@@ -132,7 +132,7 @@ pub table-full : (joints : ℕ) (s : List ℕ) (at : ℕ) → at < length s → 
 unfolding readFrom
 table-full joints s at h = more (drop at s) _ (left-over s at h)
 
-no-bytes : (joints left : ℕ) → readFrom joints left [] ≡ granted []
+pub no-bytes : (joints left : ℕ) → readFrom joints left [] ≡ granted []
 unfolding readFrom unlessEmpty
 no-bytes joints zero = refl
 no-bytes joints (suc left) = refl

@@ -5,3 +5,4 @@ pub mod Scan
 pub mod Tables
 pub mod Text
 pub mod Targets
+pub mod Exports
