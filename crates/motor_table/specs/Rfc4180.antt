@@ -8,8 +8,7 @@
 --   COMMA = %x2C   CR = %x0D   DQUOTE = %x22   LF = %x0A   CRLF = CR LF
 --   TEXTDATA = %x20-21 / %x23-2B / %x2D-7E
 --
--- `recordFrom` reads one record, a byte at a time: the grammar is regular, and each `Place` is a place in its rules. That
--- it reads the record's rule, no more and no less, is shown in proofs/Grammar.antt.
+-- `recordFrom` reads one record, a byte at a time: the grammar is regular, and each `Place` is a place in its rules.
 use mathlib.Core.Bool.{Bool, true, false, cond, _&&_, _||_}
 use mathlib.Core.List.{List, [], _∷_}
 use Prim.Native.Nat.{ℕ}
