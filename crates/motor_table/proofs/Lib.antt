@@ -7,3 +7,4 @@ pub mod TextLaws
 pub mod WriteLaws
 pub mod RoundTrip
 pub mod ExportLaws
+pub mod GrammarLaws

@@ -32,16 +32,16 @@ unfoldable pub Bare : List ℕ → Type 0
 Bare [] = Unit {0}
 Bare (b ∷ t) = (isTextdata b ≡ true) × Bare t
 
-withBytes : List ℕ → Parsed → Parsed
+unfoldable pub withBytes : List ℕ → Parsed → Parsed
 withBytes [] p = p
 withBytes (b ∷ t) p = withByte b (withBytes t p)
 
-bytes-first : (t f : List ℕ) (fs : List (List ℕ)) (rest : List ℕ) → withBytes t (fields f fs rest) ≡ fields (t ++ f) fs rest
+pub bytes-first : (t f : List ℕ) (fs : List (List ℕ)) (rest : List ℕ) → withBytes t (fields f fs rest) ≡ fields (t ++ f) fs rest
 unfolding withBytes withByte
 bytes-first [] f fs rest = refl
 bytes-first (b ∷ t) f fs rest = ap (withByte b) (bytes-first t f fs rest)
 
-abbrev followed : ℕ → List ℕ → Move → Parsed
+abbrev pub followed : ℕ → List ℕ → Move → Parsed
 followed b bs m =
     elim m [
       | Move.Take q ↦ withByte b (recordFrom q bs)
@@ -51,15 +51,15 @@ followed b bs m =
       | Move.Fault ↦ broken
     ]
 
-no-quote : (b : ℕ) → isTextdata b ≡ true → eqb b DQUOTE ≡ false
+pub no-quote : (b : ℕ) → isTextdata b ≡ true → eqb b DQUOTE ≡ false
 unfolding isTextdata
 no-quote b h = ne-eqb b DQUOTE (λ q. let z : _≡_ {A = Bool} true false = sym h ∙ ap isTextdata q in let y : _≡_ {A = ℕ} 0 1 = cc in omega arith)
 
-bare-move : (b : ℕ) → isTextdata b ≡ true → moveAt NonEscaped b ≡ Move.Take NonEscaped
+pub bare-move : (b : ℕ) → isTextdata b ≡ true → moveAt NonEscaped b ≡ Move.Take NonEscaped
 unfolding moveAt
 bare-move b h = simp h
 
-start-move : (b : ℕ) → isTextdata b ≡ true → moveAt FieldStart b ≡ Move.Take NonEscaped
+pub start-move : (b : ℕ) → isTextdata b ≡ true → moveAt FieldStart b ≡ Move.Take NonEscaped
 unfolding moveAt
 start-move b h = simp (no-quote b h, h)
 

@@ -1,4 +1,5 @@
 pub mod Rfc4180
+pub mod Grammar
 pub mod WholeNumber
 pub mod Records
 pub mod Scan
