@@ -8,3 +8,4 @@ pub mod WriteLaws
 pub mod RoundTrip
 pub mod ExportLaws
 pub mod GrammarLaws
+pub mod GrammarSound

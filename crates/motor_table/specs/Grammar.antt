@@ -1,5 +1,6 @@
 -- RFC 4180's rules for a record as they stand, each as what its text holds: `Record t v ws` says that t is a record by the rules, with v its
--- first field's bytes and ws the further fields'. proofs/GrammarLaws.antt shows that `recordFrom` reads each such record.
+-- first field's bytes and ws the further fields'. `firstRecord` reads each such record (proofs/GrammarLaws.antt) and nothing else
+-- (proofs/GrammarSound.antt).
 use mathlib.Core.Path.{_≡_}
 use mathlib.Core.Bool.{true}
 use mathlib.Core.List.{List, [], _∷_, _++_}
