@@ -9,6 +9,9 @@ use native.Mathlib.Omega.{arith}
 use borrow.Author.Tests.{ne-eqb, eqb-true, eqb-false, lt-ltb, le-ltb}
 use lib.Dec.{eqb}
 use lib.Ieee.{Float}
+use Rattle.motor_table.specs.Tables.{mostRecords, readTable, tableAnswer}
+use Rattle.motor_table.specs.declared.table.TableAnswer.{TableAnswer}
+use Rattle.motor_table.proofs.GrantedLaws.{refusal-cases, answer-refused, answer-granted}
 use Rattle.rows.specs.declared.joint_constraint_builder.Warmstart.{Warmstart}
 use Rattle.rows.specs.declared.joint_velocity_constraint.Rows.{Rows}
 use Rattle.rows.specs.declared.row_ids.RowIds.{RowIds}
@@ -16,8 +19,8 @@ use Rattle.rows.specs.RowIds.{rowIdsArray}
 use Rattle.rows.specs.Update.{rowsArray}
 use Rattle.rows.proofs.RowArrays.{rowsArray-rows, rowIdsArray-ids}
 use Rattle.model.specs.JointRows.{jointIds, rowCount, rowsList, rowMasksAt}
-use Rattle.model.specs.Model.{Model, bodyCount, jointCount, rowsBefore, Sound, Room}
-use Rattle.model.specs.Refusals.{mostRounds, Rule, refusal, modelRules, storageRule, sweepRule, builtRule, readsRows, seedsRule, bodyRule, jointRule}
+use Rattle.model.specs.Model.{mostJoints, Model, bodyCount, jointCount, rowsBefore, Sound, Room}
+use Rattle.model.specs.Refusals.{mostRounds, Rule, refusal, modelRules, storageRule, sweepRule, builtRule, readsRows, seedsRule, bodyRule, jointRule, faultRule, firstFault, tableRules}
 use Rattle.model.specs.Calls.{Call, outcome, firstRules, ownRules, rulesOf, grantedOf, run, rowsFrom, rowsOf}
 use Rattle.model.specs.Calls.Call.{readRows}
 use Rattle.model.specs.Calls.Answer.{rowsRead, refused}
@@ -27,7 +30,7 @@ use Rattle.model.specs.declared.calls.RowsAnswer.{RowsAnswer}
 use Rattle.model.proofs.JointRowsLaws.{few-rows}
 use Rattle.model.proofs.StoredRows.{rowsFrom-length}
 use Rattle.model.proofs.Tests.{by-cases}
-use Rattle.model.proofs.RefusalLaws.{Numbered, rule-holds, rule-fails, granted-append, refused-append, model-numbered, first-numbered, call-numbered, Hold, all-hold, ruleOf, hold-number, sound-of, room-of}
+use Rattle.model.proofs.RefusalLaws.{Numbered, rule-holds, rule-fails, granted-append, refused-append, model-numbered, first-numbered, call-numbered, Hold, all-hold, ruleOf, hold-number, at-most, rules-hold, sound-of, room-of}
 
 or-true : (t : Bool) → (t || true) ≡ true
 or-true true = refl
@@ -75,10 +78,12 @@ hold-last : (qs rs : List Rule) → Hold (qs ++ rs) → Hold rs
 hold-last [] rs h = h
 hold-last (q ∷ qs) rs h = hold-last qs rs (h .1)
 
-pub own-rule : (k : ℕ) (c : Call) (m : Model) (rows : List Float) → refusal (rulesOf c m rows) ≡ 0 → ruleOf k (ownRules c m) ≡ true
+pub own-hold : (c : Call) (m : Model) (rows : List Float) → refusal (rulesOf c m rows) ≡ 0 → Hold (ownRules c m)
 unfolding rulesOf
-own-rule k c m rows e =
-    hold-number k (ownRules c m) (hold-last (firstRules c m rows) (ownRules c m) (all-hold (rulesOf c m rows) (call-numbered m c rows) e))
+own-hold c m rows e = hold-last (firstRules c m rows) (ownRules c m) (all-hold (rulesOf c m rows) (call-numbered m c rows) e)
+
+pub own-rule : (k : ℕ) (c : Call) (m : Model) (rows : List Float) → refusal (rulesOf c m rows) ≡ 0 → ruleOf k (ownRules c m) ≡ true
+own-rule k c m rows e = hold-number k (ownRules c m) (own-hold c m rows e)
 
 -- ---- what rules 1 to 8 see to
 
@@ -142,6 +147,25 @@ module _ (rest : List Rule) where
     pub some-joint : (j : ℕ) {n : ℕ} → n ≡ jointCount (m .words) (m .numbers) → j < n → refusal (jointRule m j ∷ rest) ≡ refusal rest
     unfolding jointRule
     some-joint j {n} e h = rule-holds (jointRule m j) rest (rw (← e) (lt-ltb j n h))
+
+-- rules 13 to 15 come to the table's refusal
+pub table-refusal : (m : Model) (bytes : List ℕ) → refusal (tableRules m bytes) ≡ firstFault m bytes
+unfolding tableRules refusal
+table-refusal m bytes =
+    refusal-cases (λ k. refusal (faultRule 13 k ∷ faultRule 14 k ∷ faultRule 15 k ∷ []) ≡ k) refl refl refl refl (jointCount (m .words) (m .numbers)) mostRecords bytes
+
+module _ (m : Model) (bytes : List ℕ) {joints : ℕ} (e : joints ≡ jointCount (m .words) (m .numbers)) where
+  pub table-faulty : {k : ℕ} → tableAnswer 0 (readTable joints bytes) ≡ TableAnswer.Refused k → (k ≡ refusal (tableRules m bytes)) × (k ≢ 0)
+  table-faulty {k} h =
+      let a = answer-refused (jointCount (m .words) (m .numbers)) mostRecords bytes 0 k (rw e at h) in
+      (a .0 ∙ sym (table-refusal m bytes), a .1)
+
+  pub table-read : {n : ℕ} → tableAnswer 0 (readTable joints bytes) ≡ TableAnswer.Granted n → refusal (tableRules m bytes) ≡ 0
+  table-read {n} h = table-refusal m bytes ∙ answer-granted (jointCount (m .words) (m .numbers)) _ 0 n (rw e at h)
+
+-- rule 2
+pub few-joints : (m : Model) (arguments : Bool) {k : ℕ} → k ≡ refusal (modelRules m arguments) → k ≡ 0 → jointCount (m .words) (m .numbers) ≤ mostJoints
+few-joints m arguments e z = at-most mostJoints (jointCount (m .words) (m .numbers)) (rules-hold m arguments (sym e ∙ z) .joints)
 
 -- ---- a row read's answer: the outcome as every call's, and how its arrays are filled
 

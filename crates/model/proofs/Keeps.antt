@@ -1,4 +1,4 @@
--- What each call keeps of one model. Warm start and sweep change velocities alone, place one body's pose, write-back stored impulses alone; build, sweep and
+-- What each call keeps of one model. Warm start and sweep change velocities alone, place one body's pose, write-back stored impulses alone, a table target velocities; build, sweep and
 -- bias removal keep the length of the row storage. So rules 1 to 7 and 12 hold after a call where they held before it (`run-holds`), and a call changes no count (`run-counts`).
 use Prim.Native.Nat.{ℕ, zero, suc, _+_, _*_, _-_, _≤_, _<_}
 use mathlib.Core.Path.{_≡_, refl, sym, ap, _∙_}
@@ -13,6 +13,8 @@ use lib.ListN.{length, getD}
 use lib.Ieee.{Float, nan, isNan}
 use Rattle.floats.specs.Scalar.{isFinite}
 use Rattle.floats.specs.declared.pose.Pose.{Pose}
+use Rattle.motor_table.specs.Tables.{Table, mostRecords, readTable}
+use Rattle.motor_table.proofs.GrantedLaws.{Granted, granted-fit}
 use Rattle.rows.specs.declared.joint_velocity_constraint.SolverVel.{SolverVel}
 use Rattle.rows.specs.declared.joint_velocity_constraint.JointConstraint.{JointConstraint}
 use Rattle.rows.specs.declared.joint_velocity_constraint.WritebackId.{WritebackId}
@@ -23,15 +25,17 @@ use Rattle.model.specs.Records.{num, puts}
 use Rattle.model.specs.Store.{world, putVel, putPose, putRow, putSeed, seedIndex, axisOf, centerAt}
 use Rattle.model.specs.JointRows.{State, state, putRows, buildJoint, sweepRow, sweepJoint, warmstartRow, warmstartJoint, removeBiasJoint, writeBackIds, writeBackJoint}
 use Rattle.model.specs.Model.{Model, model, withMark, withBodies, withNumbers, bodyCount, jointCount, rowsBefore, totalRows}
-use Rattle.model.specs.Refusals.{Rule, refusal, all, bodyRule, finiteFrom, noNanFrom, finitePose, finiteBody, finiteMotor, finiteJoint, centerFits, presentOrWorld, bodiesPresent, modelRules}
-use Rattle.model.specs.Calls.Call.{load, place, build, warmStart, sweep, removeBias, writeBack, readRows, readVelocity}
+use Rattle.model.specs.Refusals.{Rule, refusal, all, bodyRule, finiteFrom, noNanFrom, finitePose, finiteBody, finiteMotor, finiteJoint, centerFits, presentOrWorld, bodiesPresent, modelRules, tableRules}
+use Rattle.model.specs.Calls.Call.{load, place, build, warmStart, sweep, removeBias, writeBack, readRows, readVelocity, setTargets}
+use Rattle.model.specs.MotorTargets.{setRecords, setTable}
 use Rattle.model.specs.Calls.Answer.{refused}
 use Rattle.model.specs.Calls.{Call, Outcome, outcome, rulesOf, grantedOf, run, eachJoint, rounds, buildOne, warmstartOne, sweepOne, sweepRound, removeBiasOne, writeBackOne}
 use Rattle.model.proofs.Strided.{length-puts, num-beside, num-other, num-stored}
-use Rattle.model.proofs.CallLaws.{run-granted, run-refused}
+use Rattle.model.proofs.CallLaws.{run-granted, run-refused, own-hold, table-refusal}
 use Rattle.model.proofs.Tests.{by-cases}
-use Rattle.model.proofs.RefusalLaws.{both, Numbered, Hold, all-hold, refused-append, all-at, all-below, all-cong, all-intro, RulesHold, arguments-finite, rules-rest}
-use Rattle.model.proofs.CountLaws.{body-there}
+use Rattle.model.proofs.RefusalLaws.{both, Numbered, Hold, all-hold, hold-granted, refused-append, all-at, all-below, all-cong, all-intro, RulesHold, arguments-finite, rules-rest}
+use Rattle.model.proofs.CountLaws.{body-there, joints-numbers}
+use Rattle.model.proofs.MotorTargetLaws.{Steady, records-steady, finiteJoint-steady, centerFits-steady, table-size}
 use Rattle.model.proofs.StoreLaws.{length-putRow, length-putPose, length-putSeed, num-putSeed-kept, num-putSeed-other, putSeed-past}
 
 -- ---- all joints, and rounds
@@ -360,6 +364,11 @@ module _ (m : Model) (h : RulesHold m) where
       held-with m (m .built) (putPose (m .bodies) i p) (m .numbers) (length-putPose (m .bodies) i p) refl h
       (λ i′ l′. place-finite p f (m .bodies) i (body-there (m .bodies) i l) i′ (bodies-finite i l) (bodies-finite i′ l′)) joints-finite angles-fit
 
+  targets-hold : (n : List Float) → Steady (m .numbers) n → RulesHold (withNumbers m n)
+  targets-hold n s =
+      held-with m (m .built) (m .bodies) n refl (s .size) h bodies-finite (λ j l. finiteJoint-steady (m .numbers) n s j (m .words) (joints-finite j l))
+      (λ j l. centerFits-steady (m .numbers) n s j (m .words) ∙ angles-fit j l)
+
   seeds-hold : (n : List Float) → SameButSeeds (m .numbers) n → RulesHold (withNumbers m n)
   seeds-hold n s =
       held-with m (m .built) (m .bodies) n refl (s .size) h bodies-finite (λ j l. finiteJoint-kept (m .numbers) n s j (m .words) ∙ joints-finite j l)
@@ -392,6 +401,29 @@ placed-body m rows i p h e =
     let o = granted-own m (finitePose p) (bodyRule m i ∷ []) h (omega arith) e in
     (o .0, ltb-true i (bodyCount (m .bodies)) (o .1 .0))
 
+-- ---- a table that is granted
+
+module _ (m : Model) (bytes : List ℕ) where
+  abbrev pub bytesTable : Table
+  bytesTable = readTable (jointCount (m .words) (m .numbers)) bytes
+
+  -- its records, and that they can be set
+  pub table-granted : (rows : List Float) → refusal (rulesOf (setTargets bytes) m rows) ≡ 0 → Granted (jointCount (m .words) (m .numbers)) bytesTable
+  unfolding rulesOf
+  table-granted rows e =
+      granted-fit (jointCount (m .words) (m .numbers)) mostRecords bytes
+      (sym (table-refusal m bytes) ∙ hold-granted (tableRules m bytes) (own-hold (setTargets bytes) m rows e))
+
+  -- what it leaves is as it was, or finite
+  pub table-set : (g : Granted (jointCount (m .words) (m .numbers)) bytesTable) → setTable (m .numbers) bytesTable ≡ setRecords (m .numbers) (g .records)
+  unfolding setTable
+  table-set g = ap (setTable (m .numbers)) (g .holds)
+
+  pub table-steady : Granted (jointCount (m .words) (m .numbers)) bytesTable → Steady (m .numbers) (setTable (m .numbers) bytesTable)
+  table-steady g =
+      rw (table-set g)
+      (records-steady (jointCount (m .words) (m .numbers)) (g .records) (m .numbers) (g .fit) (joints-numbers (m .words) (m .numbers)))
+
 granted-holds : (c : Call) (m : Model) (rows : List Float) → RulesHold m → refusal (rulesOf c m rows) ≡ 0 → RulesHold (grantedOf c m rows .after)
 unfolding grantedOf
 granted-holds load m rows h e = mark-holds m h false
@@ -403,6 +435,7 @@ granted-holds removeBias m rows h e = h
 granted-holds writeBack m rows h e = seeds-hold m h _ (back-keeps (m .numbers) rows (m .words) 0 (jointCount (m .words) (m .numbers)))
 granted-holds (readRows j) m rows h e = h
 granted-holds (readVelocity i) m rows h e = h
+granted-holds (setTargets bytes) m rows h e = targets-hold m h _ (table-steady m bytes (table-granted m bytes rows e))
 
 -- rules 1 to 7 and 12 hold after a call where they held before it, granted or refused
 pub run-holds : (c : Call) (m : Model) (rows : List Float) → RulesHold m → RulesHold (run c m rows .after)
@@ -437,6 +470,7 @@ module _ (m : Model) (rows : List Float) where
   granted-counts writeBack = counts-with (m .built) (m .bodies) _ rows refl (back-keeps (m .numbers) rows (m .words) 0 (jointCount (m .words) (m .numbers)) .size) refl
   granted-counts (readRows j) = counts-with (m .built) (m .bodies) (m .numbers) rows refl refl refl
   granted-counts (readVelocity i) = counts-with (m .built) (m .bodies) (m .numbers) rows refl refl refl
+  granted-counts (setTargets bytes) = counts-with (m .built) (m .bodies) _ rows refl (table-size (m .numbers) (bytesTable m bytes)) refl
 
   -- a call changes no count, granted or refused
   pub run-counts : (c : Call) → SameCounts m (run c m rows .after) rows (run c m rows .rows)

@@ -15,6 +15,7 @@ pub mod JointLocality
 pub mod ClosedSet
 pub mod RowWorks
 pub mod CallLocality
+pub mod MotorTargetLaws
 pub mod Keeps
 pub mod PastTotal
 pub mod Agrees

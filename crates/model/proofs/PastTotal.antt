@@ -17,7 +17,7 @@ use Rattle.model.specs.Store.{rowNumbers, putRow, body1At, body2At}
 use Rattle.model.specs.JointRows.{State, state, rowCount, putRows, impulsesAt, buildJoint, sweepRow, sweepJoint, removeBiasJoint, builtRows}
 use Rattle.model.specs.Model.{Model, jointCount, rowsBefore, totalRows}
 use Rattle.model.specs.Calls.{Call, Outcome, eachJoint, rounds, buildOne, sweepOne, sweepRound, removeBiasOne, grantedOf, run}
-use Rattle.model.specs.Calls.Call.{load, place, build, warmStart, sweep, removeBias, writeBack, readRows, readVelocity}
+use Rattle.model.specs.Calls.Call.{load, place, build, warmStart, sweep, removeBias, writeBack, readRows, readVelocity, setTargets}
 use Rattle.model.proofs.JointRowsLaws.{length-builtRows}
 use Rattle.model.proofs.CountLaws.{rowsBefore-mono}
 use Rattle.model.proofs.Keeps.{run-cases}
@@ -106,6 +106,7 @@ module _ (m : Model) (rows : List Float) where
   granted-past writeBack = refl
   granted-past (readRows j) = refl
   granted-past (readVelocity i) = refl
+  granted-past (setTargets bytes) = refl
 
   pub past-total : (c : Call) → drop (totalRows (m .words) (m .numbers) * rowWidth) (run c m rows .rows) ≡ drop (totalRows (m .words) (m .numbers) * rowWidth) rows
   past-total c = run-cases c m rows (λ (o : Outcome). Past total rows (o .rows)) (λ _. granted-past c) refl

@@ -14,10 +14,10 @@ use lib.Ieee.{Float, lt}
 use Rattle.floats.specs.Operators.{bits}
 use Rattle.model.specs.Store.{world, Present, body1At, body2At}
 use Rattle.model.specs.Model.{mostBodies, mostJoints, Model, bodyCount, jointCount, rowCapacity, totalRows, Sound, Room}
-use Rattle.model.specs.Refusals.{Rule, rule, refusal, all, atMost, masksFit, presentOrWorld, bodiesPresent, bodiesApart, finiteParams, finiteBody, finiteJoint, centerFits, modelRules, storageRule, sweepRule, builtRule, seedsRule, bodyRule, jointRule}
+use Rattle.model.specs.Refusals.{Rule, rule, refusal, all, atMost, masksFit, presentOrWorld, bodiesPresent, bodiesApart, finiteParams, finiteBody, finiteJoint, centerFits, modelRules, storageRule, sweepRule, builtRule, seedsRule, bodyRule, jointRule, tableRules}
 use Rattle.model.specs.Calls.{Call, Asked, Own, ownRule, table, handedRules, askedRules, firstRules, ownRules, rulesOf}
 use Rattle.model.specs.Calls.Own.{fewRounds, afterBuild, rowsToRead}
-use Rattle.model.specs.Calls.Asked.{nothing, body, joint}
+use Rattle.model.specs.Calls.Asked.{nothing, body, joint, records}
 use Rattle.model.proofs.Tests.{by-cases}
 use Rattle.model.proofs.CountLaws.{body-there}
 
@@ -233,10 +233,11 @@ module _ (m : Model) where
   all-numbered (o ∷ os) = (own-numbered o, all-numbered os)
 
   asked-numbered : (a : Asked) → Numbered (askedRules m a)
-  unfolding bodyRule jointRule
+  unfolding bodyRule jointRule tableRules
   asked-numbered nothing = tt
   asked-numbered (body i) = omega arith
   asked-numbered (joint j) = omega arith
+  asked-numbered (records bytes) = omega arith
 
   -- a call's rules 1 to 8, and all that it tries
   pub first-numbered : (c : Call) (rows : List Float) → Numbered (firstRules c m rows)

@@ -12,7 +12,7 @@ use lib.Ieee.{Float}
 use Rattle.model.specs.Model.{Model}
 use Rattle.model.specs.Refusals.{refusal}
 use Rattle.model.specs.Calls.{Call, Answer, Outcome, outcome, refusalOf, rulesOf, grantedOf, run}
-use Rattle.model.specs.Calls.Call.{load, place, build, warmStart, sweep, removeBias, writeBack, readRows, readVelocity}
+use Rattle.model.specs.Calls.Call.{load, place, build, warmStart, sweep, removeBias, writeBack, readRows, readVelocity, setTargets}
 use Rattle.model.specs.Calls.Answer.{granted, total, rowsRead, velocityRead, refused}
 use Rattle.model.proofs.Tests.{by-cases}
 use Rattle.model.proofs.RefusalLaws.{First, Hold, refused-first, first-refused, all-hold, hold-granted, call-numbered}
@@ -46,6 +46,7 @@ module _ (m : Model) (rows : List Float) where
   no-refusal writeBack = refl
   no-refusal (readRows j) = refl
   no-refusal (readVelocity i) = refl
+  no-refusal (setTargets bytes) = refl
 
 module _ (c : Call) (m : Model) (rows : List Float) where
   -- the answer tells the number of the first rule that fails

@@ -1,5 +1,5 @@
 -- Two studies are refused alike (`same-refusal`): where rules 1 to 7 and 12 hold of both models, their marks are equal and row storage that is handed over has room, a
--- call that asks by index for nothing that only one of them has is refused with the same number in both, or in neither. Where they agree on a set, a call that
+-- call that asks by index for nothing that only one of them has, or reads a table that is refused with the same number or granted in both, is refused with the same number in both, or in neither. Where they agree on a set, a call that
 -- asks for a body or a joint of the set is such a call (`about-asked`).
 use Prim.Native.Nat.{ℕ}
 use mathlib.Core.Path.{_≡_, refl, sym, ap, _∙_}
@@ -9,11 +9,11 @@ use borrow.Author.Tests.{le-ltb, lt-ltb}
 use lib.Ieee.{Float}
 use Rattle.rows.specs.declared.joint_velocity_constraint.WritebackId.{WritebackId}
 use Rattle.model.specs.Model.{Model, bodyCount, jointCount, rowCapacity, totalRows, Room}
-use Rattle.model.specs.Refusals.{Rule, refusal, modelRules, storageRule, builtRule, seedsRule, bodyRule, jointRule}
+use Rattle.model.specs.Refusals.{Rule, refusal, modelRules, storageRule, builtRule, seedsRule, bodyRule, jointRule, faultRule, tableRules}
 use Rattle.model.specs.Calls.{Call, Asked, Own, ownRule, table, handedRules, askedRules, ownRules, rulesOf}
 use Rattle.model.specs.Calls.Own.{fewRounds, afterBuild, rowsToRead}
-use Rattle.model.specs.Calls.Asked.{nothing, body, joint}
-use Rattle.model.specs.Studies.{Agree, AboutSet, SameAsked}
+use Rattle.model.specs.Calls.Asked.{nothing, body, joint, records}
+use Rattle.model.specs.Studies.{Agree, AboutSet, SameAsked, SameTable}
 use Rattle.model.proofs.Tests.{by-cases}
 use Rattle.model.proofs.RefusalLaws.{rule-holds, RulesHold, rules-rest, rules-arguments}
 
@@ -46,10 +46,11 @@ module _ (m m′ : Model) (held : RulesHold m) (held′ : RulesHold m′) where
   same-handed rows rows′ false finite rest rest′ r e = same-rest finite rest rest′ e
 
   same-asked : (a : Asked) → SameAsked m m′ a → askedRules m a ≡ askedRules m′ a
-  unfolding bodyRule jointRule
+  unfolding bodyRule jointRule tableRules
   same-asked nothing e = refl
   same-asked (body i) e = rw e
   same-asked (joint j) e = rw e
+  same-asked (records bytes) e = ap (λ k. faultRule 13 k ∷ faultRule 14 k ∷ faultRule 15 k ∷ []) e
 
   module _ (mark : m .built ≡ m′ .built) where
     same-own : (o : Own) → ownRule m o ≡ ownRule m′ o
@@ -71,11 +72,12 @@ module _ (m m′ : Model) (held : RulesHold m) (held′ : RulesHold m′) where
 
 -- ---- of the set
 
--- both models have what is asked for of the set
-pub about-asked : (set : ℕ → Bool) {named : ℕ → WritebackId → Type 0} (m m′ : Model) → Agree set named m m′ → (a : Asked) → AboutSet set m a → SameAsked m m′ a
-about-asked set m m′ agree nothing t = tt
-about-asked set m m′ agree (body i) s =
+-- both models have what is asked for of the set; tables are asked to be refused alike
+pub about-asked : (set : ℕ → Bool) {named : ℕ → WritebackId → Type 0} (m m′ : Model) → Agree set named m m′ → (a : Asked) → SameTable m m′ a → AboutSet set m a → SameAsked m m′ a
+about-asked set m m′ agree nothing q t = tt
+about-asked set m m′ agree (records bytes) q t = q
+about-asked set m m′ agree (body i) q s =
     let l = agree .present i s in
     lt-ltb i (bodyCount (m .bodies)) (l .0) ∙ sym (lt-ltb i (bodyCount (m′ .bodies)) (l .1))
-about-asked set m m′ agree (joint j) i =
+about-asked set m m′ agree (joint j) q i =
     lt-ltb j (jointCount (m .words) (m .numbers)) (i .there) ∙ sym (lt-ltb j (jointCount (m′ .words) (m′ .numbers)) (agree .joints j i .there))

@@ -17,9 +17,9 @@ use Rattle.rows.specs.declared.joint_velocity_constraint.JointConstraint.{Joint
 use Rattle.rows.specs.declared.joint_velocity_constraint.SolverVel.{SolverVel}
 use Rattle.rows.specs.declared.joint_velocity_constraint.WritebackId.{WritebackId}
 use Rattle.rows.specs.declared.joint_velocity_constraint.WritebackId.the-variants.{Dof, Limit, Motor}
-use Rattle.model.specs.Layout.{rowWidth, bodyWidth, posePlace, inertiaPlace, massPlace, velocityPlace, wordsWidth, numbersWidth}
+use Rattle.model.specs.Layout.{rowWidth, bodyWidth, posePlace, inertiaPlace, massPlace, velocityPlace, wordsWidth, numbersWidth, targetPlace}
 use Rattle.model.specs.Records.{num, word, puts}
-use Rattle.model.specs.Store.{rowOf, rowAt, rowNumbers, putRow, world, Present, poseOf, worldPose, solverPoseAt, rest, velAt, putVel, putPose, seedIndex, axisOf, putSeed, jointAt, jointOf}
+use Rattle.model.specs.Store.{rowOf, rowAt, rowNumbers, putRow, world, Present, poseOf, worldPose, solverPoseAt, rest, velAt, putVel, putPose, seedIndex, axisOf, putSeed, putTarget, jointAt, jointOf}
 use Rattle.model.proofs.Strided.{length-puts, num-stored, num-kept, num-other, num-beside}
 
 -- an id of one of the three axes has its stored impulse among the joint's numbers
@@ -299,3 +299,40 @@ jointAt-putSeed words numbers j id p h room =
     at : (c : ℕ) (t : Bool) → eqb c (seedIndex id) ≡ t → num numbersWidth (putSeed numbers j id p) j c ≡ cond t p (num numbersWidth numbers j c)
     at c true e = rw (eqb-true c (seedIndex id) e) (num-putSeed numbers j id p h room)
     at c false e = num-putSeed-kept numbers j id p c (eqb-false c (seedIndex id) e)
+
+-- ---- a target velocity stored
+
+module _ (numbers : List Float) (j i : ℕ) (v : Float) where
+  pub length-putTarget : length (putTarget numbers j i v) ≡ length numbers
+  unfolding putTarget
+  length-putTarget = length-puts (v ∷ []) numbers (j * numbersWidth) (targetPlace i)
+
+  -- the target's number, and every other number of the joint
+  pub num-putTarget : i < 3 → j * numbersWidth + numbersWidth ≤ length numbers → num numbersWidth (putTarget numbers j i v) j (targetPlace i) ≡ v
+  unfolding putTarget
+  num-putTarget h room = getD-set-same numbers (j * numbersWidth + targetPlace i) v nan (omega arith)
+
+  pub num-putTarget-kept : (c : ℕ) → c ≢ targetPlace i → num numbersWidth (putTarget numbers j i v) j c ≡ num numbersWidth numbers j c
+  unfolding putTarget
+  num-putTarget-kept c ne = num-kept numbersWidth numbers v j (targetPlace i) c ne
+
+  -- every number of another joint
+  pub num-putTarget-other : (j′ c : ℕ) → i < 3 → j′ ≢ j → c < numbersWidth → num numbersWidth (putTarget numbers j i v) j′ c ≡ num numbersWidth numbers j′ c
+  unfolding putTarget
+  num-putTarget-other j′ c h ne l = num-other numbersWidth numbers (v ∷ []) j j′ (targetPlace i) c ne (omega arith) l
+
+  pub jointAt-putTarget-other : (words : List ℕ) (j′ : ℕ) → i < 3 → j′ ≢ j → jointAt words (putTarget numbers j i v) j′ ≡ jointAt words numbers j′
+  unfolding jointAt
+  jointAt-putTarget-other words j′ h ne =
+      jointOf-cong (num numbersWidth (putTarget numbers j i v) j′) (num numbersWidth numbers j′) (word wordsWidth words j′) (λ c l. num-putTarget-other j′ c h ne l)
+
+  -- the same joint: its numbers with v at the target's place
+  pub jointAt-putTarget : (words : List ℕ) → i < 3 → j * numbersWidth + numbersWidth ≤ length numbers
+      → jointAt words (putTarget numbers j i v) j ≡ jointOf (λ c. cond (eqb c (targetPlace i)) v (num numbersWidth numbers j c)) (word wordsWidth words j)
+  unfolding jointAt
+  jointAt-putTarget words h room =
+      jointOf-cong (num numbersWidth (putTarget numbers j i v) j) (λ c. cond (eqb c (targetPlace i)) v (num numbersWidth numbers j c)) (word wordsWidth words j) (λ c _. at c (eqb c (targetPlace i)) refl)
+    where
+      at : (c : ℕ) (t : Bool) → eqb c (targetPlace i) ≡ t → num numbersWidth (putTarget numbers j i v) j c ≡ cond t v (num numbersWidth numbers j c)
+      at c true e = rw (eqb-true c (targetPlace i) e) (num-putTarget h room)
+      at c false e = num-putTarget-kept c (eqb-false c (targetPlace i) e)

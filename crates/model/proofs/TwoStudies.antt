@@ -2,7 +2,7 @@
 -- what else either holds. Both go through one list of calls, any calls in any order, with the same further arguments and row storage of their own. A call that asks
 -- by index for nothing that only one of them has is then refused with the same number in both, or granted in both; one that asks for no body or joint outside the
 -- set has the same answer in both, a build's total aside; and after the list the marks are equal, and so are the set's velocities, the stored impulses that its
--- joints name and, while the models are marked built, the rows of its joints, each whole and in order (`any-numbers`). Where the studies have equal numbers of
+-- joints name and, while the models are marked built, the rows of its joints, each whole and in order (`any-numbers`, where a motor table is asked to be refused alike). Where the studies have equal numbers of
 -- bodies and joints, every call is refused with the same number in both or granted in both (`two-studies`).
 -- The proof is an instance of the induction of `TraceLaws`, of a relation that each call keeps (`Related`): rules 1 to 7 and 12 hold of both models, they agree on the
 -- set, their marks are equal, and the rows of the set's joints are the same while the models are built.
@@ -17,6 +17,8 @@ use lib.Dec.{eqb}
 use lib.ListN.{length}
 use lib.Ieee.{Float}
 use Rattle.floats.specs.declared.pose.Pose.{Pose}
+use Rattle.motor_table.specs.Tables.{mostRecords}
+use Rattle.motor_table.proofs.GrantedLaws.{same-records}
 use Rattle.rows.specs.declared.joint_constraint_builder.SolverPose.{SolverPose}
 use Rattle.rows.specs.declared.joint_constraint_builder.Warmstart.{Warmstart}
 use Rattle.rows.specs.declared.joint_velocity_constraint.WritebackId.{WritebackId}
@@ -26,18 +28,19 @@ use Rattle.model.specs.JointRows.{jointIds}
 use Rattle.model.specs.Model.{Model, model, withBodies, jointCount, Sound, Room}
 use Rattle.model.specs.Refusals.{refusal, modelRules, storageRule, sweepRule, builtRule, seedsRule, jointRule, readsRows}
 use Rattle.model.specs.Calls.{Call, Outcome, Asked, table, rulesOf, grantedOf, run, refusalOf}
-use Rattle.model.specs.Calls.Call.{load, place, build, warmStart, sweep, removeBias, writeBack, readRows, readVelocity}
+use Rattle.model.specs.Calls.Call.{load, place, build, warmStart, sweep, removeBias, writeBack, readRows, readVelocity, setTargets}
 use Rattle.model.specs.Calls.Answer.{granted, velocityRead, refused}
-use Rattle.model.specs.Calls.Asked.{nothing, body, joint}
+use Rattle.model.specs.Calls.Asked.{nothing, body, joint, records}
 use Rattle.model.specs.Traces.{Study, Position, left, handed, AtEach, after, after′, Returned}
-use Rattle.model.specs.Studies.{planar, Loaded, Enough, Agree, MakesRows, NamesAt, Names, RefusedAlike, withoutTotal, AboutSet, SameAnswer, Shared, Compared, SameNumbers, TwoStudies, SameAsked, RefusedWhereAsked}
+use Rattle.model.specs.Studies.{planar, Loaded, Enough, Agree, MakesRows, NamesAt, Names, RefusedAlike, withoutTotal, AboutSet, SameAnswer, Shared, Compared, SameNumbers, TwoStudies, SameAsked, RefusedWhereAsked, SameTable, TablesAlike}
 use Rattle.model.proofs.StoreLaws.{withPose, solverPoseAt-cong, solverPoseAt-putPose, solverPoseAt-putPose-other, velAt-putPose, length-putPose}
-use Rattle.model.proofs.CountLaws.{body-there}
+use Rattle.model.proofs.CountLaws.{body-there, joint-numbers}
+use Rattle.model.proofs.MotorTargetLaws.{table-size, records-named}
 use Rattle.model.proofs.Tests.{by-cases}
 use Rattle.model.proofs.RefusalLaws.{RulesHold, rules-hold, sound-held}
 use Rattle.model.proofs.CallLaws.{run-granted, run-refused, own-rule}
 use Rattle.model.proofs.RefusedExactly.{told}
-use Rattle.model.proofs.Keeps.{SamePoses, warm-keeps, sweep-keeps, back-keeps, granted-front, run-cases, run-holds, run-counts}
+use Rattle.model.proofs.Keeps.{bytesTable, table-granted, table-set, SamePoses, warm-keeps, sweep-keeps, back-keeps, granted-front, run-cases, run-holds, run-counts}
 use Rattle.model.proofs.SameStudies.{RowsSame, VelsSame}
 use Rattle.model.proofs.ClosedSet.{same-ids}
 use Rattle.model.proofs.Agrees.{of-set-before, agree-after}
@@ -118,15 +121,15 @@ place-elsewhere set m rows i pose f =
 
 module _ (set : ℕ → Bool) {named : ℕ → WritebackId → Type 0} (m m′ : Model) (rows rows′ : List Float) (b : Related set named m m′ rows rows′) where
   -- a call that is refused alike: both are refused, or both are granted
-  alike : (c : Call) → AboutSet set m (table c .asked) → (table c .rowStorage ≡ true → Room m rows × Room m′ rows′)
-      → (refusal (rulesOf c m rows) ≡ 0 → Next set named m c (grantedOf c m rows) (grantedOf c m′ rows′))
+  alike : (c : Call) → SameAsked m m′ (table c .asked) → (table c .rowStorage ≡ true → Room m rows × Room m′ rows′)
+      → (refusal (rulesOf c m rows) ≡ 0 → refusal (rulesOf c m′ rows′) ≡ 0 → Next set named m c (grantedOf c m rows) (grantedOf c m′ rows′))
       → Next set named m c (run c m rows) (run c m′ rows′)
   alike c a room g =
-      let e = same-refusal m m′ (b .held) (b .held′) (b .mark) rows rows′ c (about-asked set m m′ (b .agree) (table c .asked) a) room in
+      let e = same-refusal m m′ (b .held) (b .held′) (b .mark) rows rows′ c a room in
       by-cases (eqb (refusal (rulesOf c m rows)) 0)
       (λ t.
       let z = eqb-true (refusal (rulesOf c m rows)) 0 t in
-      rw (← (run-granted c m rows z), ← (run-granted c m′ rows′ (sym e ∙ z))) (g z))
+      rw (← (run-granted c m rows z), ← (run-granted c m′ rows′ (sym e ∙ z))) (g z (sym e ∙ z)))
       (λ t.
       let n = eqb-false (refusal (rulesOf c m rows)) 0 t in
       rw (← (run-refused c m rows refl n), ← (run-refused c m′ rows′ refl (λ z. n (e ∙ z))))
@@ -267,8 +270,8 @@ module _ (set : ℕ → Bool) {named : ℕ → WritebackId → Type 0} (m m′ :
   read-rows-next j room =
       unchanged (readRows j) (left-alone (readRows j) m rows refl refl) (left-alone (readRows j) m′ rows′ refl refl)
       (λ i.
-      alike (readRows j) i (λ _. room)
-      (λ z. record {
+      alike (readRows j) (about-asked set m m′ (b .agree) (joint j) tt i) (λ _. room)
+      (λ z _. record {
         agree = b .agree;
         mark = b .mark;
         same-rows = b .same-rows;
@@ -280,8 +283,8 @@ module _ (set : ℕ → Bool) {named : ℕ → WritebackId → Type 0} (m m′ :
   read-velocity-next i =
       unchanged (readVelocity i) (left-alone (readVelocity i) m rows refl refl) (left-alone (readVelocity i) m′ rows′ refl refl)
       (λ s.
-      alike (readVelocity i) s (λ e. absurd (false≢true e))
-      (λ z. record { agree = b .agree; mark = b .mark; same-rows = b .same-rows; answer = λ _. ap velocityRead (b .agree .velocities i s) }) .answer s)
+      alike (readVelocity i) (about-asked set m m′ (b .agree) (body i) tt s) (λ e. absurd (false≢true e))
+      (λ z _. record { agree = b .agree; mark = b .mark; same-rows = b .same-rows; answer = λ _. ap velocityRead (b .agree .velocities i s) }) .answer s)
 
   -- place, of a body outside the set: granted or refused in each study by itself
   place-outside : (i : ℕ) (pose : Pose) → set i ≡ false → Next set named m (place i pose) (run (place i pose) m rows) (run (place i pose) m′ rows′)
@@ -297,21 +300,44 @@ module _ (set : ℕ → Bool) {named : ℕ → WritebackId → Type 0} (m m′ :
         answer = λ s. absurd (true≢false (sym s ∙ f));
       }
 
+  -- a table that is granted in both: the same records are set
+  targets-next : (bytes : List ℕ) → refusal (rulesOf (setTargets bytes) m rows) ≡ 0 → refusal (rulesOf (setTargets bytes) m′ rows′) ≡ 0
+      → Next set named m (setTargets bytes) (grantedOf (setTargets bytes) m rows) (grantedOf (setTargets bytes) m′ rows′)
+  unfolding grantedOf
+  targets-next bytes z z′ =
+      let g = table-granted m bytes rows z in
+      let g′ = table-granted m′ bytes rows′ z′ in
+      let same = same-records _ _ mostRecords bytes (g .records) (g′ .records) (g .holds) (g′ .holds) in
+      let size = table-size (m .numbers) (bytesTable m bytes) in
+      let size′ = table-size (m′ .numbers) (bytesTable m′ bytes) in
+      record {
+        agree = agree-after set m m′ (m .built) (m′ .built) (m .bodies) (m′ .bodies) _ _ refl refl size size′ (b .agree) (b .agree .poses) (b .agree .velocities)
+            (λ j i.
+            rw (table-set m bytes g, table-set m′ bytes g′, ← same)
+            (records-named (named j) (m .words) (m′ .words) j _ (g .records) (g .fit) (m .numbers) (m′ .numbers) (joint-numbers (m .words) (m .numbers) j (i .there))
+            (joint-numbers (m′ .words) (m′ .numbers) j (b .agree .joints j i .there)) (b .agree .contents j i)));
+        mark = b .mark;
+        same-rows = λ e j i. b .same-rows e j (of-set-before set m (m .built) (m .bodies) _ size j i);
+        answer = λ _. refl;
+      }
+
   -- a call keeps what two studies share, and its answers about the set are the same
-  turn : (c : Call) → (table c .rowStorage ≡ true → Room m rows × Room m′ rows′)
+  turn : (c : Call) → SameTable m m′ (table c .asked) → (table c .rowStorage ≡ true → Room m rows × Room m′ rows′)
       → (MakesRows c (run c m rows) → (j : ℕ) (id : WritebackId) → List·Memᴰ id (jointIds (m .words) j) → named j id)
       → Next set named m c (run c m rows) (run c m′ rows′)
-  turn load r d = alike load tt r (λ z. load-next)
-  turn (place i pose) r d = by-cases (set i) (λ s. alike (place i pose) s r (λ z. place-next i pose s)) (λ s. place-outside i pose s)
-  turn (build warm substep) r d =
+  turn load t r d = alike load tt r (λ z _. load-next)
+  turn (place i pose) t r d =
+      by-cases (set i) (λ s. alike (place i pose) (about-asked set m m′ (b .agree) (body i) tt s) r (λ z _. place-next i pose s)) (λ s. place-outside i pose s)
+  turn (build warm substep) t r d =
       alike (build warm substep) tt r
-      (λ z. build-next (r refl .0) (r refl .1) (d (refl, told (build warm substep) m rows ∙ z)) warm substep z)
-  turn warmStart r d = alike warmStart tt r (λ z. warm-next (r refl .0) (r refl .1) (built-warm m rows z))
-  turn (sweep n) r d = alike (sweep n) tt r (λ z. sweep-next (r refl .0) (r refl .1) n (built-sweep m rows n z))
-  turn removeBias r d = alike removeBias tt r (λ z. bias-next (r refl .0) (r refl .1))
-  turn writeBack r d = alike writeBack tt r (λ z. back-next (built-back m rows z))
-  turn (readRows j) r d = read-rows-next j (r refl)
-  turn (readVelocity i) r d = read-velocity-next i
+      (λ z _. build-next (r refl .0) (r refl .1) (d (refl, told (build warm substep) m rows ∙ z)) warm substep z)
+  turn warmStart t r d = alike warmStart tt r (λ z _. warm-next (r refl .0) (r refl .1) (built-warm m rows z))
+  turn (sweep n) t r d = alike (sweep n) tt r (λ z _. sweep-next (r refl .0) (r refl .1) n (built-sweep m rows n z))
+  turn removeBias t r d = alike removeBias tt r (λ z _. bias-next (r refl .0) (r refl .1))
+  turn writeBack t r d = alike writeBack tt r (λ z _. back-next (built-back m rows z))
+  turn (readRows j) t r d = read-rows-next j (r refl)
+  turn (readVelocity i) t r d = read-velocity-next i
+  turn (setTargets bytes) t r d = alike (setTargets bytes) t r (λ z z′. targets-next bytes z z′)
 
   -- it is refused alike where both models have what it asks for, or neither has it
   refused-alike : (c : Call) → (table c .rowStorage ≡ true → Room m rows × Room m′ rows′) → SameAsked m m′ (table c .asked)
@@ -322,9 +348,9 @@ module _ (set : ℕ → Bool) {named : ℕ → WritebackId → Type 0} (m m′ :
 -- ---- a list of calls
 
 module _ (set : ℕ → Bool) (named : ℕ → WritebackId → Type 0) where
-  -- what is asked at each position: room, and that the ids which a making of rows there gives are named
+  -- what is asked at each position: room, that a table is refused alike, and that the ids which a making of rows there gives are named
   abbrev Asks : Position planar → Study planar → Study planar → Type 0
-  Asks p s s′ = Enough p s s′ × ((x : ℕ × WritebackId) → NamesAt (x .0) (x .1) p s s′ → named (x .0) (x .1))
+  Asks p s s′ = Enough p s s′ × (TablesAlike p s s′ × ((x : ℕ × WritebackId) → NamesAt (x .0) (x .1) p s s′ → named (x .0) (x .1)))
 
   abbrev Tells : Position planar → Study planar → Study planar → Type 0
   Tells p s s′ = RefusedWhereAsked p s s′ × SameAnswer set p s s′
@@ -337,7 +363,7 @@ module _ (set : ℕ → Bool) (named : ℕ → WritebackId → Type 0) where
       let m′ = s′ .model in
       let rows = handed s (p .lent) in
       let rows′ = handed s′ (p .lent′) in
-      let x = turn set m m′ rows rows′ b c (a .0) (λ k j id i. a .1 (j, id) (inl (rw (ret .one) k, i))) in (
+      let x = turn set m m′ rows rows′ b c (a .1 .0) (a .0) (λ k j id i. a .1 .1 (j, id) (inl (rw (ret .one) k, i))) in (
         (rw (ret .one, ret .other) (refused-alike set m m′ rows rows′ b c (a .0)), rw (ret .one, ret .other) (x .answer)),
         rw (ret .one, ret .other)
             (record {
@@ -385,7 +411,7 @@ related-shared set named s s′ b = record {
   impulses = λ j i id n. named-seeds _ _ (b .agree .contents j i) id n;
 }
 
-module _ (set : ℕ → Bool) (ps : List (Position planar)) (s s′ : Study planar) (h : Compared set ps s s′) where
+module _ (set : ℕ → Bool) (ps : List (Position planar)) (s s′ : Study planar) (h : Compared set ps s s′) (tables : AtEach TablesAlike ps s s′) where
   abbrev named : ℕ → WritebackId → Type 0
   named = Names ps s s′
 
@@ -401,10 +427,15 @@ module _ (set : ℕ → Bool) (ps : List (Position planar)) (s s′ : Study plan
         same-rows = λ e. absurd (false≢true (sym (q .1) ∙ e));
       }
 
+  -- the ids that a making of rows gives there are named
+  abbrev Gives : Position planar → Study planar → Study planar → Type 0
+  Gives p s s′ = (x : ℕ × WritebackId) → NamesAt (x .0) (x .1) p s s′ → named (x .0) (x .1)
+
   asks-each : AtEach (Asks set named) ps s s′
   asks-each =
-      each-both Enough (λ p s s′. (x : ℕ × WritebackId) → NamesAt (x .0) (x .1) p s s′ → named (x .0) (x .1)) ps s s′ (h .storage)
-      (each-of-some (λ (x : ℕ × WritebackId). NamesAt (x .0) (x .1)) (λ (x : ℕ × WritebackId). named (x .0) (x .1)) ps s s′ (λ x n. n))
+      each-both Enough (λ p s s′. TablesAlike p s s′ × Gives p s s′) ps s s′ (h .storage)
+      (each-both TablesAlike Gives ps s s′ tables
+      (each-of-some (λ (x : ℕ × WritebackId). NamesAt (x .0) (x .1)) (λ (x : ℕ × WritebackId). named (x .0) (x .1)) ps s s′ (λ x n. n)))
 
   through : AtEach (Tells set named) ps s s′ × Related set named (after ps s .model) (after′ ps s′ .model) (after ps s .rows) (after′ ps s′ .rows)
   through = kept-through (Related set named) (Asks set named) (Tells set named) (related-kept set named) ps s s′ related-start (h .traces) asks-each
@@ -429,6 +460,20 @@ numbers-asked : (m m′ : Model) → SameNumbers m m′ → (a : Asked) → Same
 numbers-asked m m′ n nothing = tt
 numbers-asked m m′ n (body i) = rw (n .bodies)
 numbers-asked m m′ n (joint j) = rw (n .joints)
+numbers-asked m m′ n (records bytes) = rw (n .joints)
+
+numbers-table : (m m′ : Model) → SameNumbers m m′ → (a : Asked) → SameTable m m′ a
+numbers-table m m′ n nothing = tt
+numbers-table m m′ n (body i) = tt
+numbers-table m m′ n (joint j) = tt
+numbers-table m m′ n (records bytes) = numbers-asked m m′ n (records bytes)
+
+-- so every table is refused alike
+tables-alike : (ps : List (Position planar)) (s s′ : Study planar) → SameNumbers (s .model) (s′ .model) → AtEach Returned ps s s′ → AtEach TablesAlike ps s s′
+unfolding AtEach
+tables-alike [] s s′ n t = tt
+tables-alike (p ∷ ps) s s′ n t =
+    (numbers-table (s .model) (s′ .model) n (table (p .call) .asked), tables-alike ps (left (p .outcome)) (left (p .outcome′)) (numbers-step p s s′ (t .0) n) (t .1))
 
 -- so the studies stay related with equal numbers, and every call is refused alike
 numbers-kept : (set : ℕ → Bool) (named : ℕ → WritebackId → Type 0) → Kept (λ m m′ r r′. Related set named m m′ r r′ × SameNumbers m m′) (Asks set named) RefusedAlike
@@ -443,10 +488,11 @@ numbers-kept set named = record {
 pub two-studies : TwoStudies
 two-studies set ps s s′ n h =
     let named = Names ps s s′ in
-    let a = any-numbers set ps s s′ h in
+    let t = tables-alike ps s s′ n (h .traces) in
+    let a = any-numbers set ps s s′ h t in
     record {
       refusals = kept-through (λ m m′ r r′. Related set named m m′ r r′ × SameNumbers m m′) (Asks set named) RefusedAlike (numbers-kept set named) ps s s′
-          (related-start set ps s s′ h, n) (h .traces) (asks-each set ps s s′ h) .0;
+          (related-start set ps s s′ h t, n) (h .traces) (asks-each set ps s s′ h t) .0;
       answers = a .1;
       shared = a .2;
     }

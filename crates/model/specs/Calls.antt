@@ -1,4 +1,4 @@
--- Document 01's eight calls on a model: the table of what each one is handed, asks for and tries, what it does where no rule fails, and what it answers. A refused
+-- Document 01's eight calls on a model, and the one that reads a motor table (document 02, R-6): the table of what each one is handed, asks for and tries, what it does where no rule fails, and what it answers. A refused
 -- call leaves all as it was.
 use Prim.Native.Nat.{ℕ, zero, suc, _+_}
 use mathlib.Core.Bool.{Bool, true, false, cond}
@@ -6,6 +6,7 @@ use mathlib.Core.List.{List, [], _∷_, _++_, map}
 use lib.Dec.{eqb}
 use lib.Ieee.{Float}
 use Rattle.floats.specs.declared.pose.Pose.{Pose}
+use Rattle.motor_table.specs.Tables.{readTable}
 use Rattle.rows.specs.declared.joint_constraint_builder.Warmstart.{Warmstart}
 use Rattle.rows.specs.declared.joint_velocity_constraint.JointConstraint.{JointConstraint}
 use Rattle.rows.specs.declared.joint_velocity_constraint.SolverVel.{SolverVel}
@@ -13,7 +14,8 @@ use Rattle.rows.specs.declared.joint_velocity_constraint.WritebackId.{Writeback
 use Rattle.model.specs.Store.{rowAt, velAt, putPose, body1At, body2At}
 use Rattle.model.specs.JointRows.{State, state, jointIds, rowCount, buildJoint, sweepJoint, warmstartJoint, removeBiasJoint, writeBackJoint}
 use Rattle.model.specs.Model.{Model, withMark, withBodies, withNumbers, jointCount, rowsBefore, totalRows}
-use Rattle.model.specs.Refusals.{Rule, refusal, finitePose, finiteWarm, modelRules, storageRule, sweepRule, builtRule, seedsRule, bodyRule, jointRule}
+use Rattle.model.specs.Refusals.{Rule, refusal, finitePose, finiteWarm, modelRules, storageRule, sweepRule, builtRule, seedsRule, bodyRule, jointRule, tableRules}
+use Rattle.model.specs.MotorTargets.{setTable}
 
 -- ---- all joints
 
@@ -74,6 +76,8 @@ pub data Call : Type 0 where
   readRows : ℕ → Call
   -- body
   readVelocity : ℕ → Call
+  -- the bytes of a motor table
+  setTargets : List ℕ → Call
 
 pub data Answer : Type 0 where
   granted : Answer
@@ -101,11 +105,12 @@ pub record Outcome : Type 0 where
 abbrev pub outcome : Answer → Model → List Float → Outcome
 outcome a m r = record { answer = a; after = m; rows = r }
 
--- what a call asks for by index
+-- what a call asks for by index, or by the indices in the records of a motor table
 pub data Asked : Type 0 where
   nothing : Asked
   body : ℕ → Asked
   joint : ℕ → Asked
+  records : List ℕ → Asked
 
 -- a rule of a call's own: 9, so many rounds are not too many; 10, a build comes before it; 10, a build comes before one that reads the last rows
 pub data Own : Type 0 where
@@ -126,7 +131,7 @@ pub record Entry : Type 0 where
   pub rowStorage : Bool
   -- its own rules, 9 and 10
   pub own : List Own
-  -- what it asks for by index (rule 11)
+  -- what it asks for by index (rule 11), or by the records of a table (rules 13 to 15)
   pub asked : Asked
   -- where it is granted, it makes rows
   pub makesRows : Bool
@@ -134,7 +139,7 @@ pub record Entry : Type 0 where
 abbrev entry : Bool → Bool → List Own → Asked → Bool → Entry
 entry f s o a r = record { finite = f; rowStorage = s; own = o; asked = a; makesRows = r }
 
--- The table of the calls, by column: finite, rowStorage, own, asked, makesRows. Place and a velocity read are handed no row storage.
+-- The table of the calls, by column: finite, rowStorage, own, asked, makesRows. Place, a velocity read and a table are handed no row storage.
 abbrev pub table : Call → Entry
 table load = entry true true [] nothing false
 table (place i pose) = entry (finitePose pose) false [] (body i) false
@@ -145,19 +150,21 @@ table removeBias = entry true true (afterBuild ∷ []) nothing false
 table writeBack = entry true true (afterBuild ∷ []) nothing false
 table (readRows j) = entry true true (afterBuild ∷ []) (joint j) false
 table (readVelocity i) = entry true false [] (body i) false
+table (setTargets bytes) = entry true false [] (records bytes) false
 
 -- rules 1 to 8, over what a call is handed; a call handed no row storage passes over 8
 abbrev pub handedRules : Bool → Model → Bool → List Float → List Rule
 handedRules true m finite rows = modelRules m finite ++ (storageRule m rows ∷ [])
 handedRules false m finite rows = modelRules m finite
 
--- rule 11
+-- rule 11, or rules 13 to 15
 abbrev pub askedRules : Model → Asked → List Rule
 askedRules m nothing = []
 askedRules m (body i) = bodyRule m i ∷ []
 askedRules m (joint j) = jointRule m j ∷ []
+askedRules m (records bytes) = tableRules m bytes
 
--- the rules that a call tries, in order: 1 to 8, and then 9 to 11
+-- the rules that a call tries, in order: 1 to 8, and then 9 to 11 or 13 to 15
 abbrev pub firstRules : Call → Model → List Float → List Rule
 firstRules c m rows = handedRules (table c .rowStorage) m (table c .finite) rows
 
@@ -184,6 +191,8 @@ grantedOf writeBack m rows =
     outcome granted (withNumbers m (eachJoint (writeBackOne rows (m .words)) 0 (jointCount (m .words) (m .numbers)) (m .numbers))) rows
 grantedOf (readRows j) m rows = outcome (rowsRead (jointIds (m .words) j) (rowsOf (m .words) rows j)) m rows
 grantedOf (readVelocity i) m rows = outcome (velocityRead (velAt (m .bodies) i)) m rows
+grantedOf (setTargets bytes) m rows =
+    outcome granted (withNumbers m (setTable (m .numbers) (readTable (jointCount (m .words) (m .numbers)) bytes))) rows
 
 -- a call: refused with the number of the first rule that fails, and then nothing changes
 unfoldable pub run : Call → Model → List Float → Outcome

@@ -1,5 +1,5 @@
 -- Bodies, joints and rows in flat storage: how many numbers or words a record has, and where each of its fields stands.
-use Prim.Native.Nat.{ℕ, _+_}
+use Prim.Native.Nat.{ℕ, _+_, _*_}
 
 -- ---- a row: the numbers of the Rust's fields, in their order
 
@@ -77,6 +77,10 @@ dofsPlace = 37
 
 abbrev pub centerPlace : ℕ
 centerPlace = 40
+
+-- where an axis's target velocity stands: its motor's first number
+abbrev pub targetPlace : ℕ → ℕ
+targetPlace i = motorsPlace + i * motorWidth
 
 -- where an axis's stored impulses stand among the numbers of its limits and of its motor
 abbrev pub limitSeed : ℕ

@@ -5,6 +5,7 @@ pub mod JointRows
 pub mod Model
 pub mod SingleRecords
 pub mod Refusals
+pub mod MotorTargets
 pub mod Calls
 pub mod Answers
 pub mod Traces

@@ -1,4 +1,4 @@
--- Document 01, "Eleven refusals, in checking order", and refusal 12, which document 02 puts right after 6: each rule is a test with its number, tried on the whole model before the next; a call is refused with
+-- Document 01, "Eleven refusals, in checking order", and those of document 02: 12, which it puts right after 6, and 13 to 15, of a motor table, after 8. Each rule is a test with its number, tried on the whole model before the next; a call is refused with
 -- the number of the first rule that fails.
 use Prim.Native.Nat.{ℕ, zero, suc, _+_, _*_}
 use mathlib.Core.Bool.{Bool, true, false, not, cond, _&&_, _||_}
@@ -13,6 +13,7 @@ use Rattle.floats.specs.declared.pose.Pose.{Pose}
 use Rattle.rows.specs.declared.integration_parameters.IntegrationParameters.{IntegrationParameters}
 use Rattle.rows.specs.declared.joint_constraint_builder.Warmstart.{Warmstart}
 use Rattle.rows.specs.declared.joint_constraint_builder.Warmstart.the-variants.{Cold, Warm}
+use Rattle.motor_table.specs.Tables.{tableRefusal, readTable}
 use Rattle.model.specs.Layout.{bodyWidth, velocityPlace, wordsWidth, masksPlace, numbersWidth, limitsPlace, limitsWidth, motorsPlace, motorWidth, softnessPlace}
 use Rattle.model.specs.Records.{word}
 use Rattle.model.specs.Store.{world, body1At, body2At, centerAt}
@@ -171,3 +172,15 @@ bodyRule m i = rule 11 (ltb i (bodyCount (m .bodies)))
 
 unfoldable pub jointRule : Model → ℕ → Rule
 jointRule m j = rule 11 (ltb j (jointCount (m .words) (m .numbers)))
+
+-- Rules 13 to 15, of a table's bytes. The first faulty record decides, so at most one of them fails: that of the number with which the table is refused.
+abbrev pub firstFault : Model → List ℕ → ℕ
+firstFault m bytes = tableRefusal (readTable (jointCount (m .words) (m .numbers)) bytes)
+
+abbrev pub faultRule : ℕ → ℕ → Rule
+faultRule k fault = rule k (not (eqb fault k))
+
+unfoldable pub tableRules : Model → List ℕ → List Rule
+tableRules m bytes =
+    let fault = firstFault m bytes in
+    faultRule 13 fault ∷ faultRule 14 fault ∷ faultRule 15 fault ∷ []

@@ -26,7 +26,7 @@ use Rattle.rows.specs.declared.joint_velocity_constraint.SolverVel.{SolverVel}
 use Rattle.rows.specs.declared.joint_velocity_constraint.JointConstraint.{JointConstraint}
 use Rattle.rows.specs.declared.joint_velocity_constraint.WritebackId.{WritebackId}
 use Rattle.rows.specs.declared.joint_velocity_constraint.WritebackId.the-variants.{Dof, Limit, Motor}
-use Rattle.model.specs.Layout.{rowWidth, bodyWidth, posePlace, inertiaPlace, massPlace, velocityPlace, wordsWidth, body1Place, body2Place, masksPlace, modelsPlace, numbersWidth, frame1Place, frame2Place, limitsPlace, limitsWidth, motorsPlace, motorWidth, softnessPlace, dofsPlace, centerPlace, limitSeed, motorSeed, enabledPlace, centerChoicePlace}
+use Rattle.model.specs.Layout.{rowWidth, bodyWidth, posePlace, inertiaPlace, massPlace, velocityPlace, wordsWidth, body1Place, body2Place, masksPlace, modelsPlace, numbersWidth, frame1Place, frame2Place, limitsPlace, limitsWidth, motorsPlace, motorWidth, softnessPlace, dofsPlace, centerPlace, limitSeed, motorSeed, targetPlace, enabledPlace, centerChoicePlace}
 use Rattle.model.specs.Records.{num, word, puts}
 use Rattle.model.specs.declared.store.LimitCenter.{LimitCenter}
 use Rattle.model.specs.declared.store.LimitCenter.the-variants.{CosineSine, Angle}
@@ -229,3 +229,7 @@ axisOf (Motor i) = i
 -- joint j's stored impulse of an id replaced; an id past the last axis has none, and changes nothing
 unfoldable pub putSeed : List Float → ℕ → WritebackId → Float → List Float
 putSeed numbers j id p = cond (ltb (axisOf id) 3) (set numbers (j * numbersWidth + seedIndex id) p) numbers
+
+-- the target velocity of joint j's motor on axis i replaced
+unfoldable pub putTarget : List Float → ℕ → ℕ → Float → List Float
+putTarget numbers j i v = set numbers (j * numbersWidth + targetPlace i) v

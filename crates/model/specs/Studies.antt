@@ -13,10 +13,11 @@ use Rattle.rows.specs.declared.joint_velocity_constraint.WritebackId.{Writeback
 use Rattle.model.specs.Store.{world, solverPoseAt, velAt, jointAt, enabledAt, body1At, body2At}
 use Rattle.model.specs.JointRows.{jointIds}
 use Rattle.model.specs.Model.{Model, bodyCount, jointCount, Room}
+use Rattle.model.specs.Refusals.{firstFault}
 use Rattle.model.specs.Calls.{Call, Answer, Outcome, Asked, outcome, table, run, refusalOf, rowsOf}
 use Rattle.model.specs.Calls.Call.{load}
 use Rattle.model.specs.Calls.Answer.{granted, total, rowsRead, velocityRead, refused}
-use Rattle.model.specs.Calls.Asked.{nothing, body, joint}
+use Rattle.model.specs.Calls.Asked.{nothing, body, joint, records}
 use Rattle.model.specs.Traces.{Machine, Study, Position, handed, AtEach, AtSome, after, after′, Returned}
 
 -- ---- the list of calls
@@ -114,11 +115,12 @@ withoutTotal (rowsRead ids rows) = rowsRead ids rows
 withoutTotal (velocityRead v) = velocityRead v
 withoutTotal (refused k) = refused k
 
--- a call that asks for a body or a joint by index asks for one of the set's
+-- a call that asks for a body or a joint by index asks for one of the set's; a table's answer is about no single joint
 abbrev pub AboutSet : (ℕ → Bool) → Model → Asked → Type 0
 AboutSet set m nothing = Unit
 AboutSet set m (body i) = set i ≡ true
 AboutSet set m (joint j) = OfSet set m j
+AboutSet set m (records bytes) = Unit
 
 -- what a call answers about the set's joints and bodies
 abbrev pub SameAnswer : (ℕ → Bool) → Position planar → Study planar → Study planar → Type 0
@@ -165,6 +167,18 @@ abbrev pub SameAsked : Model → Model → Asked → Type 0
 SameAsked m m′ nothing = Unit
 SameAsked m m′ (body i) = ltb i (bodyCount (m .bodies)) ≡ ltb i (bodyCount (m′ .bodies))
 SameAsked m m′ (joint j) = ltb j (jointCount (m .words) (m .numbers)) ≡ ltb j (jointCount (m′ .words) (m′ .numbers))
+SameAsked m m′ (records bytes) = firstFault m bytes ≡ firstFault m′ bytes
 
 abbrev pub RefusedWhereAsked : Position planar → Study planar → Study planar → Type 0
 RefusedWhereAsked p s s′ = SameAsked (s .model) (s′ .model) (table (p .call) .asked) → RefusedAlike p s s′
+
+-- A table sets targets of the set's joints too, so that one granted in one study and refused in the other would tell them apart: where the numbers of joints may
+-- differ, tables are asked to be refused with the same number in both, or granted in both.
+abbrev pub SameTable : Model → Model → Asked → Type 0
+SameTable m m′ nothing = Unit
+SameTable m m′ (body i) = Unit
+SameTable m m′ (joint j) = Unit
+SameTable m m′ (records bytes) = SameAsked m m′ (records bytes)
+
+abbrev pub TablesAlike : Position planar → Study planar → Study planar → Type 0
+TablesAlike p s s′ = SameTable (s .model) (s′ .model) (table (p .call) .asked)

@@ -1,9 +1,9 @@
-// Document 01's calls on a model. Each takes whatever it is lent, of any length and contents, and answers what is granted or the number of the refusal; a
+// Document 01's calls on a model, and the one that reads a motor table. Each takes whatever it is lent, of any length and contents, and answers what is granted or the number of the refusal; a
 // refused call changes nothing.
 ghost use mathlib.Core.Path.{_≡_};
 ghost use Rattle.model.specs.Model.{modelOf};
 ghost use Rattle.model.specs.Calls.{outcome, run};
-ghost use Rattle.model.specs.Calls.Call.{load, place, build, warmStart, sweep, removeBias, writeBack, readRows, readVelocity};
+ghost use Rattle.model.specs.Calls.Call.{load, place, build, warmStart, sweep, removeBias, writeBack, readRows, readVelocity, setTargets};
 ghost use Rattle.model.specs.JointRows.{rowMasksAt};
 ghost use Rattle.model.specs.Refusals.{readsRows};
 ghost use Rattle.model.specs.Answers.{WithoutRows, loadAnswer, loadHeader, plainAnswer, buildAnswer, buildHeader, rowsAnswer, noRows, rowsAnswerOf, velocityAnswer};
@@ -27,7 +27,10 @@ use crate::refusals::model_refusal;
 use crate::refusals::storage_refusal;
 use crate::store::put_pose;
 use crate::store::vel_at;
+use crate::targets::set_table;
 use floats::pose::Pose;
+use motor_table::table::TableAnswer;
+use motor_table::table::read_table;
 use rows::joint_constraint_builder::Warmstart;
 use rows::joint_velocity_constraint::Rows;
 use rows::joint_velocity_constraint::SolverVel;
@@ -303,4 +306,29 @@ pub fn read_velocity(
         return VelocityAnswer::Refused(11);
     }
     VelocityAnswer::Velocity(vel_at(bodies, body))
+}
+
+// Sets the target velocities of a motor table (request R-6), and keeps the mark.
+pub fn set_targets(
+    header: Header,
+    bodies: &[f32],
+    words: &[u32],
+    numbers: &mut [f32],
+    table: &[u8],
+) -> Plain
+    ensures { λ r. ⌜ WithoutRows (outcome (plainAnswer r) (modelOf header (now (bodies .entry)) (now (words .entry)) (now (numbers .exit)))) (run (setTargets (now (table .entry))) (modelOf header (now (bodies .entry)) (now (words .entry)) (now (numbers .entry)))) ⌝ }
+{
+    let k = model_refusal(header, bodies, words, numbers, true);
+    if k != 0 {
+        return Plain::Refused(k);
+    }
+    let joints = joint_count(words, numbers) as u32;
+    let answer = read_table(table, joints);
+    match answer {
+        TableAnswer::Granted(n) => {
+            set_table(&mut *numbers, table, joints, n);
+            Plain::Granted
+        }
+        TableAnswer::Refused(refused) => Plain::Refused(refused),
+    }
 }

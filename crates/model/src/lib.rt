@@ -8,3 +8,4 @@ pub mod layout;
 mod refusals;
 pub mod single_records;
 mod store;
+mod targets;

@@ -5,7 +5,7 @@ ghost use Prim.Native.Nat.{_+_, _*_, _≤_, _<_};
 ghost use lib.ListN.{length};
 ghost use Rattle.model.specs.Layout.{rowWidth, bodyWidth, wordsWidth, numbersWidth};
 ghost use Rattle.model.specs.Records.{numFrom, num, sixOf, word, puts};
-ghost use Rattle.model.specs.Store.{rowAt, putRow, Present, poseOf, solverPoseAt, velAt, putVel, putPose, body1At, body2At, masksAt, limitsOf, allLimitsOf, modelOf, motorOf, allMotorsOf, dataOf, jointAt, axisOf, seedIndex, putSeed, enabledOf, enabledAt, centerAt, rotationOf};
+ghost use Rattle.model.specs.Store.{rowAt, putRow, Present, poseOf, solverPoseAt, velAt, putVel, putPose, body1At, body2At, masksAt, limitsOf, allLimitsOf, modelOf, motorOf, allMotorsOf, dataOf, jointAt, axisOf, seedIndex, putSeed, putTarget, enabledOf, enabledAt, centerAt, rotationOf};
 use crate::layout::BODY_WIDTH;
 use crate::layout::BODY1;
 use crate::layout::BODY2;
@@ -484,4 +484,13 @@ pub fn put_seed(numbers: &mut [f32], j: usize, id: WritebackId, p: f32)
         let a = j * NUMBERS_WIDTH + seed_index(id);
         numbers[a] = p;
     }
+}
+
+// The target velocity of joint j's motor on axis i replaced.
+pub fn put_target(numbers: &mut [f32], j: usize, i: usize, v: f32)
+    requires { ⌜ (i < 3) × (j * numbersWidth + numbersWidth ≤ length (now numbers)) ⌝ }
+    ensures { λ _. ⌜ now (numbers .exit) ≡ putTarget (now (numbers .entry)) j i v ⌝ }
+{
+    let a = j * NUMBERS_WIDTH + (MOTOR_X + i * MOTOR_WIDTH);
+    numbers[a] = v;
 }

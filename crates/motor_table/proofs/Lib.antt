@@ -2,6 +2,7 @@ pub mod Textdata
 pub mod NumberLaws
 pub mod ScanLaws
 pub mod TableLaws
+pub mod GrantedLaws
 pub mod TargetLaws
 pub mod TextLaws
 pub mod WriteLaws

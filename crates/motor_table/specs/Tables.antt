@@ -19,6 +19,11 @@ pub data Table : Type 0 where
   granted : List Entry → Table
   refused : ℕ → Table
 
+-- the number of a table's refusal; 0 of one that is granted
+unfoldable pub tableRefusal : Table → ℕ
+tableRefusal (granted es) = 0
+tableRefusal (refused k) = k
+
 -- one record, then those that follow it
 unfoldable pub after : Entry → Table → Table
 after e (granted es) = granted (e ∷ es)
