@@ -1,6 +1,7 @@
 //! The model of several joints from document 01: the refusals and the calls here, the rows by the
 //! unchanged Rust.
 
+use crate::motor_table_rendering as tables;
 use crate::sines;
 use rapier2d::pipeline::model as rust;
 
@@ -24,6 +25,10 @@ pub const FINITE: [usize; 24] = [
     0, 1, 2, 3, 4, 5, 6, 7, 17, 18, 19, 20, 23, 24, 25, 26, 29, 30, 31, 32, 35, 36, 40, 41,
 ];
 pub const NUMBER: [usize; 9] = [8, 9, 11, 12, 14, 15, 21, 27, 33];
+
+/// Place of axis 0's target velocity in a joint's numbers, and how many numbers a motor has.
+pub const TARGET: usize = 17;
+pub const MOTOR: usize = 6;
 
 /// Code of a call that grants a count: this plus the count.
 pub const GRANTED: u64 = 1 << 32;
@@ -63,9 +68,11 @@ pub enum Call {
     WriteBack,
     ReadRows(u32),
     ReadVelocity(u32),
+    /// The bytes of a motor table.
+    SetTargets(&'static [u8]),
 }
 
-pub const KINDS: [&str; 9] = [
+pub const KINDS: [&str; 10] = [
     "load",
     "place",
     "build",
@@ -75,7 +82,11 @@ pub const KINDS: [&str; 9] = [
     "write-back",
     "row read",
     "velocity read",
+    "motor table",
 ];
+
+/// The refusals that a tally has columns for: none, then 1 to 15.
+pub const COLUMNS: usize = 16;
 
 impl Call {
     /// Its place in `KINDS`.
@@ -90,12 +101,16 @@ impl Call {
             Call::WriteBack => 6,
             Call::ReadRows(_) => 7,
             Call::ReadVelocity(_) => 8,
+            Call::SetTargets(_) => 9,
         }
     }
 
     /// Whether the call is handed row storage.
     pub fn has_storage(&self) -> bool {
-        !matches!(self, Call::Place { .. } | Call::ReadVelocity(_))
+        !matches!(
+            self,
+            Call::Place { .. } | Call::ReadVelocity(_) | Call::SetTargets(_)
+        )
     }
 }
 
@@ -261,7 +276,7 @@ pub fn refusal(s: &Study, call: &Call) -> u64 {
         | Call::RemoveBias
         | Call::WriteBack
         | Call::ReadRows(_) => true,
-        Call::Load | Call::Place { .. } | Call::ReadVelocity(_) => false,
+        Call::Load | Call::Place { .. } | Call::ReadVelocity(_) | Call::SetTargets(_) => false,
     };
     if needs_built && !s.built {
         return 10;
@@ -271,7 +286,18 @@ pub fn refusal(s: &Study, call: &Call) -> u64 {
         Call::ReadRows(joint) => *joint as usize >= s.joint_count(),
         _ => false,
     };
-    if absent { 11 } else { 0 }
+    if absent {
+        return 11;
+    }
+    match call {
+        Call::SetTargets(table) => table_refusal(table, s.joint_count()),
+        _ => 0,
+    }
+}
+
+/// With which number a model of so many joints refuses a table; 0 if it does not.
+pub fn table_refusal(table: &[u8], joints: usize) -> u64 {
+    tables::read(table, joints as u32).map_or_else(u64::from, |_| 0)
 }
 
 /// Makes the call; a refused one changes nothing.
@@ -327,6 +353,12 @@ pub fn call(s: &mut Study, call: &Call) -> Answer {
             answer
                 .out
                 .copy_from_slice(&s.bodies[body as usize * BODY + 7..][..3]);
+        }
+        Call::SetTargets(table) => {
+            for ((joint, axis, thousandths), _) in tables::read(table, s.joint_count() as u32).unwrap() {
+                let at = joint as usize * JOINT + TARGET + axis as usize * MOTOR;
+                s.numbers[at] = tables::target(thousandths);
+            }
         }
     }
     answer

@@ -14,7 +14,7 @@ pub fn carry(number: u32) {
 }
 
 /// Fault k is entry k − 1.
-pub const FAULTS: [&str; 104] = [
+pub const FAULTS: [&str; 123] = [
     // The order of the rules.
     "rules 1 and 2 exchanged",
     "rules 2 and 3 exchanged",
@@ -129,6 +129,26 @@ pub const FAULTS: [&str; 104] = [
     "12 looks at typed cosines",
     "12 looks only at joints with an angular limit row",
     "a velocity read passes over 12",
+    // Motor tables.
+    "the first record for an axis wins",
+    "a target goes to the next axis",
+    "a target goes to the target position",
+    "a target goes to the next joint",
+    "a table clears the mark",
+    "a table that is refused sets the targets before the faulty record",
+    "thousandths are multiplied by 0.001",
+    "13 is looked for in the whole table before 14 and 15",
+    "14 is looked for in the whole table before 15",
+    "15 is tried before 14 in a record",
+    "the last faulty record decides",
+    "a joint whose number is the joint count is present in a table",
+    "a record for a joint that is switched off is refused",
+    "an axis of 3 is present",
+    "a table tries rule 8",
+    "a table needs a build",
+    "a last CRLF opens a record",
+    "4097 records are not refused",
+    "a table's refusal comes before the model's",
 ];
 
 fn fault(number: u32) -> bool {
@@ -241,6 +261,134 @@ fn joint_wild(joint: &Joint) -> bool {
         || wild(&n[40..or!(99, 42 - typed_angle(joint) as usize, 42)]) && !fault(35)
 }
 
+/// A table's records byte by byte: each record's three numbers, or what it breaks; the rest of the bytes is
+/// not read after a break of the grammar.
+fn table_records(bytes: &[u8]) -> Vec<Result<[i64; 3], u64>> {
+    let mut all = Vec::new();
+    let mut rest = bytes;
+    while !rest.is_empty() {
+        if all.len() == or!(122, 4096, 4097) {
+            all.push(Err(13));
+            break;
+        }
+        let mut fields = vec![Vec::new()];
+        // 0 before a field's first byte, 1 in a plain field, 2 between quotes, 3 after a second quote
+        let mut state = 0;
+        let mut good = true;
+        loop {
+            let Some((&b, after)) = rest.split_first() else {
+                good = state != 2;
+                break;
+            };
+            rest = after;
+            let plain = (32..127).contains(&b) && b != 34 && b != 44;
+            match (state, b) {
+                (0, 34) => state = 2,
+                (2, 34) => state = 3,
+                (3, 34) => {
+                    fields.last_mut().unwrap().push(34);
+                    state = 2;
+                }
+                (2, _) if plain || [10, 13, 44].contains(&b) => fields.last_mut().unwrap().push(b),
+                (0 | 1, _) if plain => {
+                    fields.last_mut().unwrap().push(b);
+                    state = 1;
+                }
+                (0 | 1 | 3, 44) => {
+                    fields.push(Vec::new());
+                    state = 0;
+                }
+                (0 | 1 | 3, 13) => {
+                    good = rest.first() == Some(&10);
+                    rest = rest.get(1..).unwrap_or(&[]);
+                    break;
+                }
+                _ => {
+                    good = false;
+                    break;
+                }
+            }
+        }
+        if !good {
+            all.push(Err(13));
+            break;
+        }
+        let parsed: Vec<i64> = fields.iter().filter_map(|f| whole(f)).collect();
+        all.push(match (fields.len(), <[i64; 3]>::try_from(parsed)) {
+            (3, Ok(numbers)) => Ok(numbers),
+            _ => Err(14),
+        });
+    }
+    if fault(121) && bytes.ends_with(b"\r\n") {
+        all.push(Err(14));
+    }
+    all
+}
+
+/// The whole number that a field spells, digit by digit.
+fn whole(field: &[u8]) -> Option<i64> {
+    let (sign, digits) = match field {
+        [b'-', digits @ ..] => (-1, digits),
+        [b'+', digits @ ..] => (1, digits),
+        digits => (1, digits),
+    };
+    let mut size = (!digits.is_empty()).then_some(0i64)?;
+    for b in digits {
+        let digit = (b'0'..=b'9').contains(b).then(|| (b - b'0') as i64)?;
+        size = (10 * size + digit).min(8_000_001);
+    }
+    (size <= 8_000_000).then_some(sign * size)
+}
+
+/// The records that a table sets, and the number that refuses it; 0 for none.
+fn table(all: &[Joint], bytes: &[u8]) -> (Vec<[i64; 3]>, u64) {
+    let joints = or!(116, all.len(), all.len() + 1) as i64;
+    let axes = or!(118, 3, 4);
+    let mut set = Vec::new();
+    let mut faults = Vec::new();
+    for record in table_records(bytes) {
+        let absent = |n: &[i64; 3]| {
+            n[0] < 0
+                || n[0] >= joints
+                || n[1] < 0
+                || n[1] >= axes
+                || fault(117) && all[n[0] as usize].off
+        };
+        match record {
+            Ok(numbers) if absent(&numbers) => faults.push(15),
+            Ok(numbers) if faults.is_empty() => set.push(numbers),
+            Ok(_) => {}
+            Err(k) => faults.push(or!(114, k, if k == 14 { 15 } else { k })),
+        }
+    }
+    let first = faults.first().copied().unwrap_or(0);
+    let number = if fault(112) && faults.contains(&13) {
+        13
+    } else if fault(113) && first == 15 && faults.contains(&14) {
+        14
+    } else {
+        or!(115, first, faults.last().copied().unwrap_or(0))
+    };
+    (set, number)
+}
+
+fn set_targets(s: &mut Study, records: &[[i64; 3]]) {
+    let mut done = Vec::new();
+    for [joint, axis, thousandths] in records {
+        let place = [*joint, *axis];
+        if fault(105) && done.contains(&place) {
+            continue;
+        }
+        done.push(place);
+        let joint = *joint as usize + fault(108) as usize;
+        let axis = or!(106, *axis as usize, (*axis as usize + 1) % 3);
+        let value = or!(111, *thousandths as f32 / 1000.0, *thousandths as f32 * 0.001);
+        if let Some(n) = s.numbers.chunks_exact_mut(42).nth(joint) {
+            n[MOTORS[axis.min(2)] + fault(107) as usize] = value;
+        }
+    }
+}
+
 /// The rules in checking order, and whether each refuses.
 fn rules(s: &Study, call: &Call) -> Vec<(u64, bool)> {
     let all = joints(s);
@@ -298,6 +446,7 @@ fn rules(s: &Study, call: &Call) -> Vec<(u64, bool)> {
     let lent = match call {
         Call::Place { .. } => fault(49),
         Call::ReadVelocity(_) => fault(51),
+        Call::SetTargets(_) => fault(119),
         Call::Load => !fault(50),
         _ => true,
     };
@@ -308,6 +457,7 @@ fn rules(s: &Study, call: &Call) -> Vec<(u64, bool)> {
     let first_needed = match call {
         Call::Load | Call::ReadVelocity(_) => false,
         Call::Place { .. } => fault(57),
+        Call::SetTargets(_) => fault(120),
         Call::Build { warm, substep, .. } => match (warm, substep) {
             (true, 0) => fault(58),
             (true, 1) => !fault(60),
@@ -353,7 +503,14 @@ fn rules(s: &Study, call: &Call) -> Vec<(u64, bool)> {
     }
     let large = all.iter().any(angle_large)
         && !(fault(104) && matches!(call, Call::ReadVelocity(_)));
+    let faulty = match call {
+        Call::SetTargets(bytes) => table(&all, bytes).1,
+        _ => 0,
+    };
     let mut order = vec![(1, too_many), (2, too_jointed)];
+    if fault(123) {
+        order.insert(0, (faulty, faulty != 0));
+    }
     order.extend(of_joints);
     order.extend([
         (12, large),
@@ -362,6 +519,9 @@ fn rules(s: &Study, call: &Call) -> Vec<(u64, bool)> {
         (9, too_long),
         (10, unbuilt),
         (11, absent),
+        (13, faulty == 13),
+        (14, faulty == 14),
+        (15, faulty == 15),
     ]);
     let mut exchange = |one: u64, two: u64| {
         let [one, two] = [one, two].map(|k| order.iter().position(|rule| rule.0 == k).unwrap());
@@ -494,6 +654,10 @@ pub fn call(s: &mut Study, call: &Call) -> Answer {
         if matches!(call, Call::Build { .. }) {
             s.built = or!(65, or!(66, s.built, false), true);
         }
+        if let (Call::SetTargets(bytes), true) = (call, fault(110) && rule > 12) {
+            let set = table(&joints(s), bytes).0;
+            set_targets(s, &set);
+        }
         return answer;
     }
     let all = joints(s);
@@ -547,6 +711,10 @@ pub fn call(s: &mut Study, call: &Call) -> Answer {
             let [x, y, angular] = velocity(s, body);
             let read = or!(86, [x, y, angular], [angular, x, y]);
             answer.out.copy_from_slice(&read);
+        }
+        Call::SetTargets(bytes) => {
+            set_targets(s, &table(&all, bytes).0);
+            s.built = s.built && !fault(109);
         }
     }
     s.rows.truncate(length);

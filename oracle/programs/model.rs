@@ -33,6 +33,8 @@ mod library;
 mod model;
 #[path = "../model_rendering.rs"]
 mod model_rendering;
+#[path = "../motor_table_rendering.rs"]
+mod motor_table_rendering;
 #[path = "model/pairs.rs"]
 mod pairs;
 #[path = "../rendering.rs"]

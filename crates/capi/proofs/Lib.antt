@@ -1,1 +1,2 @@
 pub mod CallExportsLaws
+pub mod TableExportsLaws

@@ -6,7 +6,7 @@
 ghost use mathlib.Core.Path.{_≡_};
 ghost use mathlib.Core.List.{[]};
 ghost use Rattle.model.specs.Calls.{run};
-ghost use Rattle.model.specs.Calls.Call.{load, place, build, warmStart, sweep, removeBias, writeBack, readRows, readVelocity};
+ghost use Rattle.model.specs.Calls.Call.{load, place, build, warmStart, sweep, removeBias, writeBack, readRows, readVelocity, setTargets};
 ghost use Rattle.model.specs.Answers.{plainAnswer, loadAnswer, loadHeader, buildAnswer, buildHeader};
 ghost use Rattle.model.specs.declared.header.Header.{Header};
 ghost use Rattle.capi.specs.CallExports.{headerOf, lent, poseFrom, warmOf, number, marked, markedNumber, rowsReadAt, rowsGrantedOr, rowsNumber, rowsOut, idsOut, rowsIfRoom, idsIfRoom, putVelocity, velocityOut};
@@ -26,6 +26,7 @@ use model::calls::place;
 use model::calls::read_rows;
 use model::calls::read_velocity;
 use model::calls::remove_bias;
+use model::calls::set_targets;
 use model::calls::sweep;
 use model::calls::warm_start;
 use model::calls::write_back;
@@ -322,4 +323,23 @@ pub extern "C" fn katydidzinc_read_velocity(
         }
         VelocityAnswer::Refused(k) => k,
     }
+}
+
+// A motor table's bytes.
+#[no_mangle]
+pub extern "C" fn katydidzinc_set_targets(
+    dt: f32,
+    length_unit: f32,
+    normalized: f32,
+    built: bool,
+    bodies: &[f32],
+    words: &[u32],
+    numbers: &mut [f32],
+    table: &[u8],
+) -> u32
+    ensures { λ r. ⌜ r ≡ number (run (setTargets (now (table .entry))) (lent dt «length_unit» normalized built (now (bodies .entry)) (now (words .entry)) (now (numbers .entry))) [] .answer) ⌝ }
+    ensures { λ _. ⌜ now (numbers .exit) ≡ run (setTargets (now (table .entry))) (lent dt «length_unit» normalized built (now (bodies .entry)) (now (words .entry)) (now (numbers .entry))) [] .after .numbers ⌝ }
+{
+    let h = header(dt, length_unit, normalized, built);
+    plain_number(set_targets(h, bodies, words, numbers, table))
 }

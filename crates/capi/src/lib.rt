@@ -32,6 +32,7 @@ use floats::vector::Vector;
 pub mod calls;
 pub mod joint;
 pub mod sin_cos;
+pub mod tables;
 
 #[no_mangle]
 pub extern "C" fn katydidzinc_inv(val: f32) -> f32

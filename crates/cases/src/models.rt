@@ -16,6 +16,7 @@ use model::calls::place;
 use model::calls::read_rows;
 use model::calls::read_velocity;
 use model::calls::remove_bias;
+use model::calls::set_targets;
 use model::calls::sweep;
 use model::calls::warm_start;
 use model::calls::write_back;
@@ -467,6 +468,70 @@ fn switched_off(bodies: &[f32], words: &mut [u32], numbers: &[f32], rows: &mut [
     set_word(words, 9, 0);
 }
 
+// ---- motor tables
+
+fn table(name: &[u8], bodies: &[f32], words: &[u32], numbers: &mut [f32], bytes: &[u8]) {
+    plain(
+        name,
+        set_targets(header(0.5, true), bodies, words, numbers, bytes),
+    );
+}
+
+// The target velocity of joint 0 along x, in bits.
+fn target(name: &[u8], numbers: &[f32]) {
+    if numbers.len() < 18 {
+        return;
+    }
+    text(name);
+    text(b" = ");
+    io::print_hex(STDOUT_FILENO, to_bits(numbers[17]) as u64, 8);
+    text(b"\n");
+}
+
+fn targets(bodies: &[f32], words: &[u32], numbers: &mut [f32]) {
+    table(
+        b"a table with two records for an axis",
+        bodies,
+        words,
+        numbers,
+        b"0,0,1000\r\n127,2,3\r\n0,0,-1500\r\n",
+    );
+    target(b"the later target", numbers);
+    table(b"an empty table", bodies, words, numbers, b"");
+    target(b"the target after it", numbers);
+}
+
+fn faulty_tables(bodies: &[f32], words: &[u32], numbers: &mut [f32]) {
+    table(
+        b"a table with a bare line feed",
+        bodies,
+        words,
+        numbers,
+        b"0,0,7\n",
+    );
+    table(
+        b"a table with 8000001",
+        bodies,
+        words,
+        numbers,
+        b"0,0,7\r\n0,0,8000001\r\n128,0,7\r\n",
+    );
+    table(
+        b"a table for joint 128 of 128",
+        bodies,
+        words,
+        numbers,
+        b"0,0,7\r\n128,0,7\r\n0,0,8000001\r\n",
+    );
+    table(b"a table for axis 3", bodies, words, numbers, b"0,3,7");
+    target(b"the target after all four", numbers);
+}
+
+fn tables(bodies: &[f32], words: &[u32], numbers: &mut [f32]) {
+    targets(bodies, words, numbers);
+    faulty_tables(bodies, words, numbers);
+}
+
 // ---- a sweep
 
 fn mixed(h: u32, x: u32) -> u32 {
@@ -566,6 +631,7 @@ fn edges(bodies: &mut [f32], words: &mut [u32], numbers: &mut [f32], rows: &mut 
     models_checked(bodies, words, numbers, rows);
     too_soon(bodies, words, numbers, rows);
     indices(bodies, words, numbers, rows);
+    tables(bodies, words, numbers);
 }
 
 pub fn models() {

@@ -7,6 +7,5 @@ pub mod TargetLaws
 pub mod TextLaws
 pub mod WriteLaws
 pub mod RoundTrip
-pub mod ExportLaws
 pub mod GrammarLaws
 pub mod GrammarSound

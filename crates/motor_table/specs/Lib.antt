@@ -6,4 +6,3 @@ pub mod Scan
 pub mod Tables
 pub mod Text
 pub mod Targets
-pub mod Exports

@@ -19,6 +19,7 @@ use model::calls::place;
 use model::calls::read_rows;
 use model::calls::read_velocity;
 use model::calls::remove_bias;
+use model::calls::set_targets;
 use model::calls::sweep;
 use model::calls::warm_start;
 use model::calls::write_back;
@@ -84,6 +85,14 @@ fn read_words(s: &mut [u32]) {
     let mut i = 0usize;
     while i < s.len() {
         s[i] = token();
+        i += 1;
+    }
+}
+
+fn read_bytes(s: &mut [u8]) {
+    let mut i = 0usize;
+    while i < s.len() {
+        s[i] = (token() % 256) as u8;
         i += 1;
     }
 }
@@ -351,6 +360,24 @@ fn run_read_velocity(
     }
 }
 
+// A motor table, whose bytes stand after the line, a token each.
+fn run_set_targets(
+    header: Header,
+    bodies: &[f32],
+    words: &[u32],
+    numbers: &mut [f32],
+    table: &mut [u8],
+) -> Done {
+    read_bytes(table);
+    plain(header, set_targets(header, bodies, words, numbers, table))
+}
+
+fn run_table(l: Line, header: Header, bodies: &[f32], words: &[u32], numbers: &mut [f32]) -> Done {
+    let mut table = [0u8; 400];
+    let n = least(l.a as usize, 400);
+    run_set_targets(header, bodies, words, numbers, &mut table[0..n])
+}
+
 // A call on what is handed over.
 fn call(
     l: Line,
@@ -370,6 +397,7 @@ fn call(
         5 => plain(header, remove_bias(header, bodies, words, numbers, rows)),
         6 => plain(header, write_back(header, bodies, words, numbers, rows)),
         7 => run_read_rows(l, header, bodies, words, numbers, rows),
+        11 => run_table(l, header, bodies, words, numbers),
         _ => run_read_velocity(l, header, bodies, words, numbers),
     }
 }

@@ -5,12 +5,16 @@ use crate::bits::bits;
 use crate::generator::{ANGLES, Generator, LARGE, Size, total};
 use crate::library::{ORACLE, Side};
 use crate::model::{
-    Answer, BODY, CHOICE, Call, ENABLED, FINITE, GRANTED, JOINT, KINDS, NUMBER, ROW, Study, WORDS, WORLD,
+    Answer, BODY, CHOICE, COLUMNS, Call, ENABLED, FINITE, GRANTED, JOINT, KINDS, NUMBER, ROW, Study, WORDS, WORLD,
 };
 use std::fmt::Write;
 
 const SEED: u64 = 20;
 const STUDIES: usize = 140;
+
+/// The opcode of a motor table, and the largest one that is stored.
+const TABLE: u32 = 11;
+const LARGEST: usize = 400;
 
 /// One line of a list.
 #[derive(Copy, Clone)]
@@ -64,6 +68,7 @@ impl Line {
                     Call::Sweep(i) | Call::ReadRows(i) | Call::ReadVelocity(i) => {
                         [op, i, 0, 0, 0, 0]
                     }
+                    Call::SetTargets(table) => [TABLE, table.len() as u32, 0, 0, 0, 0],
                     _ => [op, 0, 0, 0, 0, 0],
                 }
             }
@@ -76,7 +81,15 @@ impl Line {
         }
     }
 
-    fn from_tokens([op, a, b, c, d, e]: [u32; 6]) -> Line {
+    /// The bytes of its table, where it has one; they stand after the line.
+    fn table(&self) -> &'static [u8] {
+        match self {
+            Line::Call(Call::SetTargets(table)) => table,
+            _ => &[],
+        }
+    }
+
+    fn from_tokens([op, a, b, c, d, e]: [u32; 6], table: Vec<u8>) -> Line {
         let call = match op {
             0 => Call::Load,
             1 => Call::Place {
@@ -94,6 +107,7 @@ impl Line {
             6 => Call::WriteBack,
             7 => Call::ReadRows(a),
             8 => Call::ReadVelocity(a),
+            TABLE => Call::SetTargets(table.leak()),
             9 => {
                 return Line::Set {
                     slice: SLICES[a as usize],
@@ -203,7 +217,7 @@ impl Held {
 struct Writer {
     text: String,
     lines: u32,
-    by_kind: [[u64; 13]; 9],
+    by_kind: [[u64; COLUMNS]; KINDS.len()],
 }
 
 impl Writer {
@@ -216,6 +230,7 @@ impl Writer {
         let tokens = line.tokens();
         let answer = [(code >> 32) as u32, code as u32, checksum];
         self.tokens(tokens.into_iter().chain(answer));
+        self.records(line.table().iter().map(|b| *b as u32).collect(), 16);
         self.lines += 1;
         code
     }
@@ -381,6 +396,9 @@ fn any_list(g: &mut Generator, w: &mut Writer, h: &mut Held) {
         }
         let s = h.handed();
         let mut call = g.call(&s);
+        while matches!(call, Call::SetTargets(table) if table.len() > LARGEST) {
+            call = g.call(&s);
+        }
         if g.d.one_in(16) {
             let rule = g.d.pick(&[9, 10, 11]);
             let mut s = s.clone();
@@ -452,6 +470,14 @@ fn many(g: &mut Generator, w: &mut Writer) {
         Call::Sweep(63),
         Call::Sweep(64),
     ];
+    let tables: [&[u8]; 6] = [
+        b"127,2,1500\r\n0,0,1\r\n127,2,-250\r\n",
+        b"128,0,1",
+        b"0,0,1\r\n128,0,1\r\n0,0,x",
+        b"0,0,1\r\n0,0\r\n",
+        b"0,0,\"1",
+        b"",
+    ];
     w.study(s, |w, h| {
         let all = h.lengths.map(|x| x as u32);
         let [bodies, words] = [128 * BODY as u32 + 9, 128 * WORDS as u32 + 9];
@@ -466,6 +492,9 @@ fn many(g: &mut Generator, w: &mut Writer) {
             w.line(h, Line::Hand(handed));
             for call in calls {
                 w.line(h, Line::Call(call));
+            }
+            for table in tables {
+                w.line(h, Line::Call(Call::SetTargets(table)));
             }
         }
 
@@ -486,6 +515,7 @@ fn many(g: &mut Generator, w: &mut Writer) {
                 body: WORLD,
                 pose: [1.0, 0.0, 0.0, 0.0],
             },
+            Call::SetTargets(b"0,0,1\r\n128,0,1\r\n"),
         ];
         let short = (total(&h.handed()) * ROW - 1) as u32;
         let mut mends = vec![
@@ -584,7 +614,7 @@ fn made() -> Writer {
     let mut w = Writer {
         text: String::new(),
         lines: 0,
-        by_kind: [[0; 13]; 9],
+        by_kind: [[0; COLUMNS]; KINDS.len()],
     };
     w.tokens([STUDIES as u32]);
     many(g, &mut w);
@@ -608,7 +638,7 @@ pub fn answers() {
     let w = made();
     print!("{}", w.text);
     eprintln!("{} lines, {} bytes", w.lines, w.text.len());
-    eprintln!("granted, then refused by 1 to 12:");
+    eprintln!("granted, then refused by 1 to 15:");
     for (kind, by) in KINDS.iter().zip(&w.by_kind) {
         eprintln!("  {kind:13} {by:?}");
     }
@@ -652,7 +682,9 @@ pub fn replay(side: Side, text: &str) -> (u64, Option<String>) {
         for k in 0..lines {
             let tokens = [0; 6].map(|_| r.token());
             let [high, low, checksum] = [0; 3].map(|_| r.token());
-            let (code, sum) = h.run(side, &Line::from_tokens(tokens));
+            let bytes = if tokens[0] == TABLE { tokens[1] } else { 0 };
+            let table = r.words(bytes).into_iter().map(|b| b as u8).collect();
+            let (code, sum) = h.run(side, &Line::from_tokens(tokens, table));
             if (code, sum) != ((high as u64) << 32 | low as u64, checksum) {
                 let what = format!(
                     "study {study}, line {k}: {tokens:X?} answers {code}, checksum {sum:08X}; \

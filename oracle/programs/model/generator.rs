@@ -459,7 +459,7 @@ impl Generator {
             2
         } else {
             self.d.pick(&[
-                0, 1, 1, 1, 2, 2, 2, 2, 2, 3, 3, 3, 4, 4, 4, 4, 4, 5, 5, 6, 6, 6, 7, 7, 7, 8, 8,
+                0, 1, 1, 1, 2, 2, 2, 2, 2, 3, 3, 3, 4, 4, 4, 4, 4, 5, 5, 6, 6, 6, 7, 7, 7, 8, 8, 9, 9, 9,
             ])
         };
         match kind {
@@ -471,8 +471,68 @@ impl Generator {
             5 => Call::RemoveBias,
             6 => Call::WriteBack,
             7 => Call::ReadRows(self.index(s.joint_count())),
-            _ => Call::ReadVelocity(self.index(s.body_count())),
+            8 => Call::ReadVelocity(self.index(s.body_count())),
+            _ => self.table(s),
         }
+    }
+
+    /// A whole number in one of its spellings.
+    fn spelling(&mut self, n: i64) -> String {
+        let sign = match n {
+            n if n < 0 => "-",
+            0 => self.d.pick(&["", "", "", "+", "-"]),
+            _ => self.d.pick(&["", "", "", "+"]),
+        };
+        let zeros = "0".repeat(if self.d.one_in(6) { 1 + self.at(9) } else { 0 });
+        let text = format!("{sign}{zeros}{}", n.abs());
+        if self.d.one_in(5) { format!("\"{text}\"") } else { text }
+    }
+
+    /// A motor table for the study: mostly a few records of joints and axes that are there, often the same ones.
+    fn table(&mut self, s: &Study) -> Call {
+        let joints = s.joint_count() as i64;
+        let records = match self.d.below(200) {
+            0 => 4095 + self.at(3),
+            1..=9 => 0,
+            _ => 1 + self.at(6),
+        };
+        let mut text = Vec::new();
+        for k in 0..records {
+            let mut joint = self.d.below(joints.max(1) as u64) as i64;
+            let mut axis = self.d.below(3) as i64;
+            let any = self.d.below(16_000_001) as i64 - 8_000_000;
+            let thousandths = self.d.pick(&[any, any % 10_000, any % 100, 0, 1000, -1000, 8_000_000, -8_000_000]);
+            if records < 100 && self.d.one_in(20) {
+                joint = self.d.pick(&[joints, joints + 1, -1, 127, 128, 8_000_000]);
+            }
+            if records < 100 && self.d.one_in(30) {
+                axis = self.d.pick(&[3, -1, 4, 8_000_000]);
+            }
+            let mut fields = [joint, axis, thousandths].map(|n| self.spelling(n)).to_vec();
+            if records < 100 && self.d.one_in(24) {
+                match self.d.below(4) {
+                    0 => drop(fields.pop()),
+                    1 => fields.push("0".into()),
+                    2 => fields[2] = self.d.pick(&["", "8000001", "-8000001", "1.5", "\"1,2\"", "x", "-"]).into(),
+                    _ => fields = vec![String::new()],
+                }
+            }
+            text.extend(fields.join(",").bytes());
+            if k + 1 < records || !self.d.one_in(3) {
+                text.extend(b"\r\n");
+            }
+        }
+        // A byte put in, changed or taken out.
+        if self.d.one_in(8) && !text.is_empty() {
+            let at = self.at(text.len());
+            let byte = self.d.pick(b"\"\r\n, 019-+\x7F\x80\t");
+            match self.d.below(3) {
+                0 => text[at] = byte,
+                1 => text.insert(at, byte),
+                _ => drop(text.remove(at)),
+            }
+        }
+        Call::SetTargets(text.leak())
     }
 
     /// Breaks one to three rules.

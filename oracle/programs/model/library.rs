@@ -195,6 +195,20 @@ mod exported {
             out: *mut f32,
             out_len: usize,
         ) -> u32;
+        fn katydidzinc_set_targets(
+            dt: f32,
+            length_unit: f32,
+            normalized: f32,
+            built: bool,
+            bodies: *const f32,
+            bodies_len: usize,
+            words: *const u32,
+            words_len: usize,
+            numbers: *mut f32,
+            numbers_len: usize,
+            table: *const u8,
+            table_len: usize,
+        ) -> u32;
     }
 
     /// The mark follows from the answer: a granted load clears it, a granted build sets it.
@@ -264,6 +278,20 @@ mod exported {
                 ),
                 Call::ReadVelocity(body) => katydidzinc_read_velocity(
                     dt, unit, most, built, b, bs, w, ws, n, ns, body, out, outs,
+                ) as u64,
+                Call::SetTargets(table) => katydidzinc_set_targets(
+                    dt,
+                    unit,
+                    most,
+                    built,
+                    b,
+                    bs,
+                    w,
+                    ws,
+                    n,
+                    ns,
+                    table.as_ptr(),
+                    table.len(),
                 ) as u64,
             }
         };

@@ -6,6 +6,7 @@ use crate::generator::{Generator, STORED, total};
 use crate::library::{ORACLE, RENDERING, Side, same};
 use crate::model::{
     Answer, BODY, CHOICE, Call, ENABLED, FINITE, JOINT, KINDS, ROW, Study, WORDS, WORLD, refusal,
+    table_refusal,
 };
 use crate::run::show_study;
 use crate::sines;
@@ -16,8 +17,8 @@ use std::process::exit;
 struct Tally {
     pairs: u64,
     calls: u64,
-    granted: [u64; 9],
-    refused: [u64; 9],
+    granted: [u64; KINDS.len()],
+    refused: [u64; KINDS.len()],
     /// Sets: empty, of some bodies, of all in both studies.
     sets: [u64; 3],
     /// Pairs that differ in their numbers of bodies or joints.
@@ -105,7 +106,7 @@ impl Pair {
         let mut two = other_study(g, &one, &set, &own);
         let room = total(&one).max(total(&two));
 
-        let list = draw_list(g, &one, room);
+        let list = draw_list(g, &one, &two, room);
         let mut trial = one.clone();
         trial.rows = vec![0.0; room * ROW];
         let mut made = false;
@@ -360,8 +361,9 @@ fn other_study(g: &mut Generator, one: &Study, set: &[bool], own: &[bool]) -> St
     two
 }
 
-/// Calls as they may come; each is drawn for the study as the calls before it left it.
-fn draw_list(g: &mut Generator, one: &Study, room: usize) -> Vec<Call> {
+/// Calls as they may come; each is drawn for the study as the calls before it left it. A table that only
+/// one of the studies refuses is left out.
+fn draw_list(g: &mut Generator, one: &Study, two: &Study, room: usize) -> Vec<Call> {
     let mut s = one.clone();
     s.rows = vec![0.0; room * ROW];
     let builds = !g.d.one_in(8);
@@ -370,6 +372,12 @@ fn draw_list(g: &mut Generator, one: &Study, room: usize) -> Vec<Call> {
         let call = g.call(&s);
         if matches!(call, Call::Build { .. }) && !builds {
             continue;
+        }
+        if let Call::SetTargets(table) = call {
+            let by = |s: &Study| table_refusal(table, s.joint_count());
+            if by(one) != by(two) {
+                continue;
+            }
         }
         ORACLE(&mut s, &call);
         list.push(call);

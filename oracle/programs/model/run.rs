@@ -4,9 +4,11 @@ use crate::answers;
 use crate::bits::{bits, hex};
 use crate::generator::Generator;
 use crate::library::{ORACLE, RENDERING, Side, same_answer, same_study};
-use crate::model::{Answer, CHOICE, Call, ENABLED, KINDS, ROW, Study, WORDS, refusal};
+use crate::model::{Answer, CHOICE, COLUMNS, Call, ENABLED, KINDS, ROW, Study, WORDS, refusal};
 use crate::model_rendering;
+use crate::motor_table_rendering;
 use crate::pairs;
+use std::collections::HashSet;
 use std::process::exit;
 
 /// What the lists have met.
@@ -15,7 +17,7 @@ struct Tally {
     calls: u64,
     alterations: u64,
     /// By kind of call: granted, then refused by rule.
-    by_kind: [[u64; 13]; 9],
+    by_kind: [[u64; COLUMNS]; KINDS.len()],
     /// Mask choices of joints that were built.
     choices: Vec<bool>,
     rows: u64,
@@ -29,6 +31,8 @@ struct Tally {
     /// Joints that were built, by whether their centre is typed as an angle; and those of each that
     /// have an angular limit row.
     typed: [[u64; 2]; 2],
+    /// Tables that were granted: their records, and those that a later one for the same axis overrides.
+    records: [u64; 2],
 }
 
 /// A call on which the sides differ: what was handed over, and what each side answered and left.
@@ -55,7 +59,7 @@ impl Run {
                 studies: 0,
                 calls: 0,
                 alterations: 0,
-                by_kind: [[0; 13]; 9],
+                by_kind: [[0; COLUMNS]; KINDS.len()],
                 choices: vec![false; 4096],
                 rows: 0,
                 rows_with_nan: 0,
@@ -64,6 +68,7 @@ impl Run {
                 largest: [0; 3],
                 off: [0; 3],
                 typed: [[0; 2]; 2],
+                records: [0; 2],
             },
             limit,
         }
@@ -119,6 +124,12 @@ impl Run {
                 {
                     *most = now.max(*most);
                 }
+            }
+            Call::SetTargets(table) => {
+                let read = motor_table_rendering::read(table, s.joint_count() as u32).unwrap();
+                let places: HashSet<_> = read.iter().map(|(r, _)| (r.0, r.1)).collect();
+                t.records[0] += read.len() as u64;
+                t.records[1] += (read.len() - places.len()) as u64;
             }
             Call::Sweep(n) if *n > 0 => {
                 t.sweeps += 1;
@@ -256,7 +267,7 @@ pub fn compare(other: Side, seed: u64, calls: u64) {
         "{} calls on {} studies, {} alterations, no difference, seed {seed}",
         t.calls, t.studies, t.alterations
     );
-    println!("granted, then refused by 1 to 12:");
+    println!("granted, then refused by 1 to 15:");
     for (kind, by) in KINDS.iter().zip(&t.by_kind) {
         println!("  {kind:13} {by:?}");
     }
@@ -271,6 +282,8 @@ pub fn compare(other: Side, seed: u64, calls: u64) {
     println!(
         "centres typed as cosine and sine: {pairs}, {of_pairs} with an angular limit row; as an angle: {angles}, {of_angles}"
     );
+    let [records, overridden] = t.records;
+    println!("{records} records of tables set, {overridden} of them overridden by a later one");
     println!(
         "{} rows built, with a NaN {:.1} %; {} sweeps, with a NaN in a velocity {:.1} %",
         t.rows,

@@ -1,8 +1,8 @@
 -- `number_word` meets its contract, test by test.
-use Rattle.motor_table.proofs.ExportLaws.{word-below, word-zero, word-above}
+use Rattle.capi.proofs.TableExportsLaws.{word-below, word-zero, word-above}
 use borrow.Author.Needs.{needs}
-use Rattle.motor_table.proofs.exports.number_word.Statement.{statement}
-use Rattle.motor_table.proofs.exports.number_word.Tie as tie
+use Rattle.capi.proofs.tables.number_word.Statement.{statement}
+use Rattle.capi.proofs.tables.number_word.Tie as tie
 
 sub-result : tie.Need-sub-result
 sub-result c = search needs

@@ -1,10 +1,10 @@
 -- `put_words` meets its contract: three stores where there is room.
 use native.Mathlib.Omega.{arith}
 use lib.ListN.{length-set}
-use Rattle.motor_table.proofs.ExportLaws.{words-put, words-kept}
+use Rattle.capi.proofs.TableExportsLaws.{words-put, words-kept}
 use borrow.Author.Needs.{needs}
-use Rattle.motor_table.proofs.exports.put_words.Statement.{statement}
-use Rattle.motor_table.proofs.exports.put_words.Tie as tie
+use Rattle.capi.proofs.tables.put_words.Statement.{statement}
+use Rattle.capi.proofs.tables.put_words.Tie as tie
 
 number-word-requires : tie.Need-number-word-requires
 number-word-requires c κs = search needs

@@ -1,9 +1,9 @@
 -- The export of `write_table` meets its contract.
 use mathlib.Core.Path.{sym, _∙_}
-use Rattle.motor_table.proofs.ExportLaws.{written-length, written-refused}
+use Rattle.capi.proofs.TableExportsLaws.{written-length, written-refused}
 use borrow.Author.Needs.{needs}
-use Rattle.motor_table.proofs.exports.katydidzinc_motor_table_write.Statement.{statement}
-use Rattle.motor_table.proofs.exports.katydidzinc_motor_table_write.Tie as tie
+use Rattle.capi.proofs.tables.katydidzinc_motor_table_write.Statement.{statement}
+use Rattle.capi.proofs.tables.katydidzinc_motor_table_write.Tie as tie
 
 write-table-requires : tie.Need-write-table-requires
 write-table-requires c κs = search needs

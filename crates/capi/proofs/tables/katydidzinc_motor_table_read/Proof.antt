@@ -1,9 +1,9 @@
 -- The export of `read_table` meets its contract.
 use mathlib.Core.Path.{sym, _∙_}
-use Rattle.motor_table.proofs.ExportLaws.{read-count, read-refused}
+use Rattle.capi.proofs.TableExportsLaws.{read-count, read-refused}
 use borrow.Author.Needs.{needs}
-use Rattle.motor_table.proofs.exports.katydidzinc_motor_table_read.Statement.{statement}
-use Rattle.motor_table.proofs.exports.katydidzinc_motor_table_read.Tie as tie
+use Rattle.capi.proofs.tables.katydidzinc_motor_table_read.Statement.{statement}
+use Rattle.capi.proofs.tables.katydidzinc_motor_table_read.Tie as tie
 
 read-table-requires : tie.Need-read-table-requires
 read-table-requires c κs = search needs

@@ -1,9 +1,9 @@
 -- The export of `record_at` meets its contract.
 use mathlib.Core.Path.{sym, ap, _∙_}
-use Rattle.motor_table.specs.Exports.{nextPosition, wordsRead}
+use Rattle.capi.specs.TableExports.{nextPosition, wordsRead}
 use borrow.Author.Needs.{needs}
-use Rattle.motor_table.proofs.exports.katydidzinc_motor_table_record.Statement.{statement}
-use Rattle.motor_table.proofs.exports.katydidzinc_motor_table_record.Tie as tie
+use Rattle.capi.proofs.tables.katydidzinc_motor_table_record.Statement.{statement}
+use Rattle.capi.proofs.tables.katydidzinc_motor_table_record.Tie as tie
 
 record-at-requires : tie.Need-record-at-requires
 record-at-requires c κs = search needs

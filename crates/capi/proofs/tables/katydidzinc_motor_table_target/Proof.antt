@@ -1,9 +1,9 @@
 -- The export of `target_velocity` meets its contract.
 use mathlib.Core.Path.{ap, _∙_}
 use Rattle.motor_table.specs.Targets.{targetOf}
 use borrow.Author.Needs.{needs}
-use Rattle.motor_table.proofs.exports.katydidzinc_motor_table_target.Statement.{statement}
-use Rattle.motor_table.proofs.exports.katydidzinc_motor_table_target.Tie as tie
+use Rattle.capi.proofs.tables.katydidzinc_motor_table_target.Statement.{statement}
+use Rattle.capi.proofs.tables.katydidzinc_motor_table_target.Tie as tie
 
 word-number-requires : tie.Need-word-number-requires
 word-number-requires c κs = search needs

@@ -1,21 +1,21 @@
 // Tables for C and Rust callers, over bytes and words; a slice is passed as its pointer, then its length. A refusal with
 // number k is answered as 4294967296 + k.
 ghost use mathlib.Core.Path.{_≡_};
 ghost use Rattle.motor_table.specs.Records.{readAt};
 ghost use Rattle.motor_table.specs.Tables.{readTable};
 ghost use Rattle.motor_table.specs.Targets.{targetOf};
 ghost use Rattle.motor_table.specs.Text.{wordNumber, entriesOf, tableOf, writtenText};
-ghost use Rattle.motor_table.specs.Exports.{refusedNumber, numberWord, wordsAfter, nextPosition, wordsRead, tableNumber, writtenNumber};
-use crate::record::Entry;
-use crate::record::RecordRead;
-use crate::record::record_at;
-use crate::table::TableAnswer;
-use crate::table::read_table;
-use crate::target::target_velocity;
-use crate::text::Written;
-use crate::text::word_number;
-use crate::text::write_table;
-use crate::whole_number::Number;
+ghost use Rattle.capi.specs.TableExports.{refusedNumber, numberWord, wordsAfter, nextPosition, wordsRead, tableNumber, writtenNumber};
+use motor_table::record::Entry;
+use motor_table::record::RecordRead;
+use motor_table::record::record_at;
+use motor_table::table::TableAnswer;
+use motor_table::table::read_table;
+use motor_table::target::target_velocity;
+use motor_table::text::Written;
+use motor_table::text::word_number;
+use motor_table::text::write_table;
+use motor_table::whole_number::Number;
 
 fn refused_number(k: u32) -> u64
     ensures { λ r. ⌜ r ≡ refusedNumber k ⌝ }

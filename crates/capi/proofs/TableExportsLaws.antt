@@ -8,14 +8,14 @@ use native.Mathlib.Omega.{arith}
 use borrow.Author.Tests.{lt-ltb, le-ltb, le-leb, lt-leb}
 use lib.Dec.{leb, ltb}
 use lib.ListN.{length, set}
 use Rattle.motor_table.specs.Tables.{Table, tableAnswer}
 use Rattle.motor_table.specs.Tables.Table.{granted, refused}
 use Rattle.motor_table.specs.Text.{writtenAnswer, textOf}
-use Rattle.motor_table.specs.Exports.{refusedNumber, tableNumber, writtenNumber, numberWord, wordsAfter}
+use Rattle.capi.specs.TableExports.{refusedNumber, tableNumber, writtenNumber, numberWord, wordsAfter}
 use Rattle.motor_table.specs.declared.whole_number.Number.{Number}
 use Rattle.motor_table.specs.declared.record.Entry.{Entry}
 use Rattle.motor_table.specs.declared.table.TableAnswer.{TableAnswer}
 use Rattle.motor_table.specs.declared.text.Written.{Written}
 
 pub read-count : (t : Table) (n : ℕ) → tableAnswer 0 t ≡ TableAnswer.Granted n → n ≡ tableNumber t
 unfolding tableAnswer tableNumber
