@@ -1,11 +1,11 @@
 -- The records of a motor table set in joints' numbers. The numbers stay as many, and each is as it was or finite (`records-steady`); a joint that passes rules 6
--- and 12 still passes them. Two joints with equal contents, unnamed numbers aside, still have them after the same records (`records-named`): a target on an axis whose
+-- and 12 still passes them. A later record for the same axis wins (`last-wins`). Two joints with equal contents, unnamed numbers aside, still have them after the same records (`records-named`): a target on an axis whose
 -- motor is not named may be set or not.
 use Prim.Native.Nat.{ℕ, zero, suc, _+_, _*_, _-_, _≤_, _<_}
 use mathlib.Core.Path.{_≡_, refl, sym, ap, _∙_}
 use mathlib.Core.Logic.{_≢_, _⊎_, inl, inr, ⊎-elim}
 use mathlib.Core.Bool.{Bool, true, false, not, cond, _&&_, false≢true}
-use mathlib.Core.List.{List, [], _∷_}
+use mathlib.Core.List.{List, [], _∷_, _++_}
 use native.Mathlib.Nat.{add-zero, add-assoc}
 use native.Mathlib.Omega.{arith}
 use borrow.Author.Tests.{eqb-true, eqb-false}
@@ -117,6 +117,46 @@ module _ (joints m n i : ℕ) (bytes : List ℕ) (at : ℕ) (whole : tableAnswer
   record-there s room =
       let p = present-parts joints e (is-there joints m n i bytes at whole l h e next q) in
       (p .1, omega (arith, p .0, room))
+
+-- ---- a later record for the same axis wins
+
+-- a record is for another joint or another axis
+abbrev Apart : Entry → Entry → Type 0
+Apart e r = (e .joint .size ≢ r .joint .size) ⊎ (e .axis .size ≢ r .axis .size)
+
+abbrev pub AllApart : Entry → List Entry → Type 0
+AllApart e [] = Unit
+AllApart e (r ∷ rs) = Apart e r × AllApart e rs
+
+-- the target velocity of a record's joint and axis
+abbrev pub targetIn : List Float → Entry → Float
+targetIn s e = num numbersWidth s (e .joint .size) (targetPlace (e .axis .size))
+
+apart-kept : (s : List Float) (e r : Entry) → e .axis .size < 3 → r .axis .size < 3 → Apart e r → targetIn (setRecord s r) e ≡ targetIn s e
+apart-kept s e r h k (inl ne) =
+    num-putTarget-other s (r .joint .size) (r .axis .size) (targetOf (r .thousandths)) (e .joint .size) (targetPlace (e .axis .size)) k ne (omega arith)
+apart-kept s e r h k (inr ne) = by-cases (eqb (e .joint .size) (r .joint .size))
+    (λ t.
+    rw (eqb-true (e .joint .size) (r .joint .size) t)
+    (num-putTarget-kept s (r .joint .size) (r .axis .size) (targetOf (r .thousandths)) (targetPlace (e .axis .size)) (λ q. ne (omega arith))))
+    (λ t.
+    num-putTarget-other s (r .joint .size) (r .axis .size) (targetOf (r .thousandths)) (e .joint .size) (targetPlace (e .axis .size)) k
+    (eqb-false (e .joint .size) (r .joint .size) t) (omega arith))
+
+all-apart-kept : (joints : ℕ) (e : Entry) (rs : List Entry) (s : List Float) → e .axis .size < 3 → AllFit joints rs → AllApart e rs → targetIn (setRecords s rs) e ≡ targetIn s e
+unfolding setRecords
+all-apart-kept joints e [] s h a p = refl
+all-apart-kept joints e (r ∷ rs) s h a p = all-apart-kept joints e rs (setRecord s r) h (a .1) (p .1) ∙ apart-kept s e r h (a .0 .axis) (p .0)
+
+pub last-wins : (joints : ℕ) (es : List Entry) (e : Entry) (rs : List Entry) (s : List Float) → AllFit joints (es ++ (e ∷ rs)) → AllApart e rs → joints * numbersWidth ≤ length s
+    → targetIn (setRecords s (es ++ (e ∷ rs))) e ≡ targetOf (e .thousandths)
+unfolding setRecords
+last-wins joints [] e rs s a p room =
+    let f = a .0 in
+    all-apart-kept joints e rs (setRecord s e) (f .axis) (a .1) p
+    ∙ num-putTarget s (e .joint .size) (e .axis .size) (targetOf (e .thousandths)) (f .axis) (omega (arith, f .joint, room))
+last-wins joints (d ∷ es) e rs s a p room =
+    last-wins joints es e rs (setRecord s d) (a .1) p (rw (length-putTarget s (d .joint .size) (d .axis .size) (targetOf (d .thousandths))) room)
 
 -- ---- rules 6 and 12
 
