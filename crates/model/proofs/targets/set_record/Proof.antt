@@ -1,4 +1,6 @@
+use mathlib.Core.Path.{ap, _∙_}
 use borrow.Author.Needs.{needs}
+use Rattle.model.specs.Store.{putTarget}
 use Rattle.model.proofs.targets.set_record.Statement.{statement}
 use Rattle.model.proofs.targets.set_record.Tie as tie
 
@@ -18,7 +20,11 @@ same-length : tie.Need-same-length
 same-length c = search needs
 
 returns : tie.Need-returns
-returns c = cc
+returns c =
+    let st = c .before .before .before .before .before .before .before .before .before .before .before in
+    let e = st .args .e in
+    c .before .before .put-target .ensures
+    ∙ ap (putTarget (st .args .numbers .now) (e .joint .size) (e .axis .size)) (c .before .before .before .before .before .before .target-velocity .ensures)
 
 pub set-record-spec : {M : Type 1} → statement M
 set-record-spec =
