@@ -20,7 +20,7 @@ const MASKS: [([u32; 4], &[&str]); 8] = [
 
 /// Two bodies of mass and inertia 1, the second at (x, 0); identity frames; dt 1; all motors of
 /// force `max_force`; all limits [low, high].
-fn numbers(x: f32, [low, high]: [f32; 2], max_force: f32) -> [f32; rows::NUMBERS] {
+pub fn numbers(x: f32, [low, high]: [f32; 2], max_force: f32) -> [f32; rows::NUMBERS] {
     let mut n = [0.0; rows::NUMBERS];
     n[..3].copy_from_slice(&[1.0, 1.0, 3.0]);
     n[3..10].copy_from_slice(&[1.0, 0.0, 0.0, 0.0, 1.0, 1.0, 1.0]);
@@ -38,7 +38,7 @@ fn numbers(x: f32, [low, high]: [f32; 2], max_force: f32) -> [f32; rows::NUMBERS
 }
 
 /// The rows of a joint with these masks, and their ids.
-fn built(masks: [u32; 4], n: &[f32]) -> (Vec<[f32; 18]>, Vec<String>) {
+pub fn built(masks: [u32; 4], n: &[f32]) -> (Vec<[f32; 18]>, Vec<String>) {
     let mut words = [0; rows::WORDS];
     words[..4].copy_from_slice(&masks);
     let (mut storage, mut ids) = ([0.0; rows::ROWS], [0; 6]);

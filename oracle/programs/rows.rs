@@ -2,6 +2,8 @@
 //! and with the second rendering.
 //!
 //!   rows cases                     document 01's cases
+//!   rows catalogue                 the catalogue of joints, printed by the unchanged Rust
+//!   rows catalogue-compare         one handed over on standard input, line by line against the Rust
 //!   rows compare SEED COUNT        against the Rattle library (built with RATTLE_LIB)
 //!   rows rendering SEED COUNT      against the second rendering
 //!   rows fault NUMBER SEED COUNT   against the second rendering with one fault
@@ -9,6 +11,7 @@
 
 mod bits;
 mod cases;
+mod catalogue;
 mod draw;
 mod fenced;
 mod library;
@@ -37,6 +40,8 @@ fn main() {
     let count = 100_000;
     match arguments.first().map(String::as_str) {
         Some("cases") => cases::cases(),
+        Some("catalogue") => catalogue::print(),
+        Some("catalogue-compare") => catalogue::compare(),
         Some("compare") => match RATTLE {
             Some(rattle) => run::compare(rattle, number(1, 1), number(2, count)),
             None => {
@@ -57,7 +62,7 @@ fn main() {
         Some("faults") => run::faults(number(1, 1), number(2, count)),
         _ => {
             eprintln!(
-                "rows: cases | compare SEED COUNT | rendering SEED COUNT | \
+                "rows: cases | catalogue | catalogue-compare | compare SEED COUNT | rendering SEED COUNT | \
                  fault NUMBER SEED COUNT | faults SEED COUNT"
             );
             exit(2)

@@ -1,0 +1,3 @@
+pub mod FlatLaws
+pub mod ChoicesLaws
+pub mod TextLaws
