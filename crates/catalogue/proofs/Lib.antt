@@ -1,3 +1,5 @@
 pub mod FlatLaws
 pub mod ChoicesLaws
 pub mod TextLaws
+pub mod BuildLaws
+pub mod Built
