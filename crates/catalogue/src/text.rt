@@ -100,14 +100,14 @@ fn put_ids(out: &mut [u8], at: usize, k: Masks) -> usize
 {
     let ids = row_ids(k);
     let all = ids.ids;
-    let len = ids.len;
-    let mut i: usize = 0;
+    let count = ids.len;
+    let mut next: usize = 0;
     let mut end = at;
-    while i < len {
-        let named = all[i];
+    while next < count {
+        let named = all[next];
         let id = named.id;
         end = put_id(&mut *out, end, id);
-        i += 1;
+        next += 1;
     }
     end
 }
@@ -174,10 +174,10 @@ pub fn write_line(n: u32, out: &mut [u8]) -> usize
 pub fn write_catalogue(out: &mut [u8]) -> usize
     ensures { λ r. ⌜ (r ≡ length catalogueText) × (now (out .exit) ≡ written (now (out .entry)) catalogueText) ⌝ }
 {
-    let len = catalogue_length();
-    if len <= out.len() {
+    let total = catalogue_length();
+    if total <= out.len() {
         put_catalogue(&mut *out);
-        return len;
+        return total;
     }
-    len
+    total
 }

@@ -1,4 +1,4 @@
--- `put_ids` meets its contract: after i ids, the slice holds their texts from `at` on.
+-- `put_ids` meets its contract: after `next` ids, the slice holds their texts from `at` on.
 use Prim.Native.Nat.{_-_, _≤_}
 use mathlib.Core.List.{flatMap}
 use native.Mathlib.Omega.{arith}
@@ -10,10 +10,10 @@ use Rattle.catalogue.proofs.text.put_ids.Statement.{statement}
 use Rattle.catalogue.proofs.text.put_ids.Tie as tie
 
 abbrev Inv-loop : tie.InvT-loop
-Inv-loop out₀ at all len i₀ end₀ out i end = (i ≤ len) × Put out₀ at (flatMap named (take i (take len all))) out end
+Inv-loop out₀ at all count next₀ end₀ out next end = (next ≤ count) × Put out₀ at (flatMap named (take next (take count all))) out end
 
 abbrev μ-loop : tie.MeasureT-loop
-μ-loop out₀ at all len i₀ end₀ out i end = len - i
+μ-loop out₀ at all count next₀ end₀ out next end = count - next
 
 row-ids-requires : tie.Need-row-ids-requires Inv-loop μ-loop
 row-ids-requires c κs = search needs
@@ -30,8 +30,8 @@ array-copy-out-named c = omega (arith, ids-few (c .before .before .before .befor
 put-id-requires : tie.Need-put-id-requires Inv-loop μ-loop
 put-id-requires c κs = (ids-axis (c .before .before .before .before .before .before .before .args .k) (c .before .before .before .before .before .row-ids .ensures) _ _ (c .before .before .loop-test .taken), ids-room (c .before .before .before .before .before .before .before .args .k) (c .before .before .before .before .before .row-ids .ensures) _ _ (c .before .before .before .before .before .before .before .pre) _ _ _ (c .before .before .before .loop .inv .1) (c .before .before .loop-test .taken))
 
-add-i : tie.Need-add-i Inv-loop μ-loop
-add-i c = omega arith
+add-next : tie.Need-add-next Inv-loop μ-loop
+add-next c = omega arith
 
 loop-less : tie.Need-loop-less Inv-loop μ-loop
 loop-less c = omega arith
@@ -56,7 +56,7 @@ put-ids-spec =
     mul-named
     array-copy-out-named
     put-id-requires
-    add-i
+    add-next
     loop-less
     loop-again
     same-length
