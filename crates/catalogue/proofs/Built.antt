@@ -36,15 +36,15 @@ use Rattle.catalogue.proofs.BuildLaws.{final-length, built-rows}
 
 -- ---- rules one after the other
 
-hold-first : (qs rs : List Rule) → Hold (qs ++ rs) → Hold qs
+pub hold-first : (qs rs : List Rule) → Hold (qs ++ rs) → Hold qs
 hold-first [] rs h = tt
 hold-first (q ∷ qs) rs h = (h .0, hold-first qs rs (h .1))
 
-hold-second : (qs rs : List Rule) → Hold (qs ++ rs) → Hold rs
+pub hold-second : (qs rs : List Rule) → Hold (qs ++ rs) → Hold rs
 hold-second [] rs h = h
 hold-second (q ∷ qs) rs h = hold-second qs rs (h .1)
 
-hold-both : (qs rs : List Rule) → Hold qs → Hold rs → Hold (qs ++ rs)
+pub hold-both : (qs rs : List Rule) → Hold qs → Hold rs → Hold (qs ++ rs)
 hold-both [] rs h k = k
 hold-both (q ∷ qs) rs h k = (h .0, hold-both qs rs (h .1) k)
 

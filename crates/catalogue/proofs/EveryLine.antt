@@ -1,0 +1,83 @@
+-- Every line of the catalogue is some joint's: between a body and the world a joint with the line's masks is built (`every-line`), so that `catalogued` says something
+-- of each line.
+use Prim.Native.Nat.{ℕ, _<_}
+use mathlib.Core.Path.{_≡_, refl, ap, _∙_}
+use mathlib.Core.Bool.{false, not}
+use mathlib.Core.List.{List, [], _∷_}
+use native.Mathlib.Omega.{arith}
+use borrow.Author.Tests.{le-ltb}
+use lib.IntN.{pos}
+use lib.ListN.{length, replicate}
+use lib.Ieee.{Float, fin, lt, isNan, ofBits}
+use Rattle.floats.specs.Scalar.{isFinite}
+use Rattle.floats.specs.Sign.{absOf}
+use Rattle.rows.specs.declared.generic_joint.Masks.{Masks}
+use Rattle.rows.specs.declared.integration_parameters.IntegrationParameters.{IntegrationParameters}
+use Rattle.rows.specs.declared.joint_constraint_builder.Warmstart.the-variants.{Cold}
+use Rattle.model.specs.Store.{world, masksAt, enabledAt, body1At, body2At, centerAt}
+use Rattle.model.specs.Model.{Model, model, bodyCount, jointCount, rowCapacity, rowsBefore, Room}
+use Rattle.model.specs.Refusals.{all, masksFit, presentOrWorld, bodiesPresent, bodiesApart, finiteFrom, noNanFrom, finiteParams, finiteWarm, finiteBody, finiteMotor, finiteCenter, finiteJoint, angleFits, centerFits, modelRules, storageRule, seedsRule, readsRows}
+use Rattle.model.specs.Calls.{refusalOf, firstRules, ownRules, rulesOf, run}
+use Rattle.model.specs.Calls.Call.{build}
+use Rattle.model.proofs.JointRowsLaws.{few-rows}
+use Rattle.model.proofs.RefusalLaws.{Hold, all-hold, hold-granted, model-numbered, RulesHold, rules-granted}
+use Rattle.model.proofs.RefusedExactly.{told}
+use Rattle.catalogue.specs.Choices.{choices, entry, Legal}
+use Rattle.catalogue.specs.Built.{OnLine}
+use Rattle.catalogue.proofs.ChoicesLaws.{legal}
+use Rattle.catalogue.proofs.Built.{hold-both}
+
+abbrev o : Float
+o = fin false 0 (pos 0)
+
+abbrev one : Float
+one = fin false 1 (pos 0)
+
+abbrev params : IntegrationParameters
+params = record { dt = one; «length_unit» = one; «normalized_max_corrective_velocity» = one }
+
+-- a body at the origin, and an enabled joint with these masks between it and the world
+abbrev pub sample : Masks → Model
+sample k =
+    model params false (one ∷ o ∷ o ∷ o ∷ one ∷ one ∷ one ∷ o ∷ o ∷ o ∷ [])
+    (0 ∷ world ∷ k .«locked_axes» ∷ k .«limit_axes» ∷ k .«motor_axes» ∷ k .«coupled_axes» ∷ 0 ∷ 0 ∷ 0 ∷ 0 ∷ 0 ∷ [])
+    (one ∷ o ∷ o ∷ o ∷ one ∷ o ∷ o ∷ o ∷ replicate 34 o)
+
+-- row storage of six rows
+abbrev pub storage : List Float
+storage = replicate 108 o
+
+module _ (k : Masks) (h : Legal k) where
+  rules : RulesHold (sample k)
+  unfolding all masksFit presentOrWorld bodiesPresent bodiesApart finiteFrom noNanFrom finiteParams finiteBody finiteMotor finiteCenter finiteJoint angleFits centerFits centerAt absOf isFinite isNan lt ofBits bodyCount jointCount body1At body2At
+  rules = record {
+    bodies = refl;
+    joints = refl;
+    masks = rw (le-ltb 7 _ (h .locked), le-ltb 7 _ (h .limit), le-ltb 7 _ (h .motor), le-ltb 7 _ (h .coupled));
+    present = refl;
+    apart = refl;
+    finite-params = refl;
+    finite-bodies = refl;
+    finite-joints = refl;
+    angles = refl;
+    dt = refl;
+  }
+
+  room : Room (sample k) storage
+  unfolding jointCount rowCapacity rowsBefore
+  room = omega (arith, few-rows (sample k .words) 0 refl)
+
+  granted : Hold (rulesOf (build Cold 0) (sample k) storage)
+  unfolding rulesOf storageRule seedsRule readsRows finiteWarm
+  granted =
+      hold-both (firstRules (build Cold 0) (sample k) storage) (ownRules (build Cold 0) (sample k))
+      (hold-both (modelRules (sample k) _) (storageRule (sample k) storage ∷ [])
+      (all-hold (modelRules (sample k) _) (model-numbered (sample k) _) (rules-granted (sample k) _ rules refl)) (ap not (le-ltb _ _ room), tt))
+      (refl, tt)
+
+pub every-line : (n : ℕ) → n < length choices → (refusalOf (run (build Cold 0) (sample (entry n)) storage .answer) ≡ 0) × OnLine (sample (entry n)) 0 n
+unfolding jointCount enabledAt masksAt
+every-line n h = (
+  told (build Cold 0) (sample (entry n)) storage ∙ hold-granted (rulesOf (build Cold 0) (sample (entry n)) storage) (granted (entry n) (legal n h)),
+  record { there = omega arith; enabled = refl; masks = refl },
+)
