@@ -4,8 +4,8 @@ use crate::cases::{built, numbers};
 use std::io::Read;
 use std::process::exit;
 
-/// Numbers under which a choice's rows are made: a limit passed, at both ends, strictly inside and without ends; a motor of
-/// no force, of some and of any.
+/// Numbers under which a choice's rows are made: the distance along axis 0 past its limits, at both ends, strictly inside, and limits without
+/// ends; motors of some force, of f32 MAX, of none and of any.
 fn all_numbers() -> [[f32; rapier2d::pipeline::rows::NUMBERS]; 4] {
     let inf = f32::INFINITY;
     [
@@ -83,7 +83,10 @@ pub fn compare() {
         seen[masks.iter().fold(0, |sum, k| 8 * sum + *k as usize)] += 1;
     }
     if seen != [1; 4096] {
-        fail(lines.len(), "not every choice stands there just once".into())
+        fail(
+            lines.len(),
+            "not every choice stands there just once".into(),
+        )
     }
     for (n, (printed, masks)) in lines.iter().zip(choices()).enumerate() {
         if masks_of(printed) != Some(masks) {
@@ -93,5 +96,8 @@ pub fn compare() {
     if masks_of(lines[1824]) != Some([3, 4, 4, 0]) {
         fail(1824, format!("{:?} is not 3, 4, 4, 0", lines[1824]))
     }
-    println!("{} lines of the catalogue, each as the Rust has it", lines.len());
+    println!(
+        "{} lines of the catalogue, each as the Rust has it",
+        lines.len()
+    );
 }
