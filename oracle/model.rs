@@ -15,6 +15,8 @@ pub const CHOICE: usize = 10;
 pub const JOINT: usize = 42;
 pub const ROW: usize = 18;
 pub const WORLD: u32 = u32::MAX;
+/// As many joints as a model may have: so long is the lent array of a sweep's counts.
+pub const MOST_JOINTS: usize = 128;
 /// A sweep has at most so many rounds.
 pub const MOST_ROUNDS: u32 = 64;
 
@@ -120,6 +122,7 @@ pub struct Answer {
     /// The refusal's number; where it is granted, 0, or `GRANTED` plus the number of rows.
     pub code: u64,
     pub out: Vec<f32>,
+    /// A row read's ids; a sweep's counts, zeros past the joints.
     pub ids: Vec<u32>,
     /// Whether something was written outside the lent storage.
     pub outside: bool,
@@ -131,6 +134,7 @@ impl Answer {
         let (out, ids) = match call {
             Call::ReadRows(_) => (6 * ROW, 6),
             Call::ReadVelocity(_) => (3, 0),
+            Call::Sweep(_) => (0, MOST_JOINTS),
             _ => (0, 0),
         };
         Answer {
@@ -335,7 +339,9 @@ pub fn call(s: &mut Study, call: &Call) -> Answer {
             rust::warmstart(&mut s.bodies[..bodies], &s.words[..words], &s.rows);
         }
         Call::Sweep(n) => {
-            rust::solve(&mut s.bodies[..bodies], &s.words[..words], &mut s.rows, n);
+            let counts = rust::solve(&mut s.bodies[..bodies], &s.words[..words], &mut s.rows, n);
+            answer.ids.fill(0);
+            answer.ids[..counts.len()].copy_from_slice(&counts);
         }
         Call::RemoveBias => rust::remove_bias(&s.words[..words], &mut s.rows),
         Call::WriteBack => {

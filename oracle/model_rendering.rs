@@ -14,7 +14,7 @@ pub fn carry(number: u32) {
 }
 
 /// Fault k is entry k − 1.
-pub const FAULTS: [&str; 123] = [
+pub const FAULTS: [&str; 130] = [
     // The order of the rules.
     "rules 1 and 2 exchanged",
     "rules 2 and 3 exchanged",
@@ -149,6 +149,14 @@ pub const FAULTS: [&str; 123] = [
     "a last CRLF opens a record",
     "4097 records are not refused",
     "a table's refusal comes before the model's",
+    // Motors at a bound.
+    "a motor just at a bound counts",
+    "every row at a bound counts",
+    "the first round's counts are returned",
+    "a NaN counts",
+    "counts are added up over the rounds",
+    "only an impulse above the upper bound counts",
+    "counts of one joint stand at the next",
 ];
 
 fn fault(number: u32) -> bool {
@@ -618,17 +626,60 @@ fn pass(s: &mut Study, joint: &Joint, by: fn(&mut [f32], &mut [f32])) {
     }
 }
 
-fn sweep(s: &mut Study, all: &[Joint], n: u32) {
+/// Whether an impulse is wanted that the row's bounds do not allow.
+fn stopped(row: &[f32], vels: &[f32]) -> bool {
+    let wanted = rendering::wanted(row, vels);
+    let [low, high] = [row[1], row[2]];
+    let below = or!(129, or!(124, wanted < low, wanted <= low), false);
+    let above = or!(124, wanted > high, wanted >= high);
+    below || above || fault(127) && wanted.is_nan()
+}
+
+/// Each joint's motor rows that a pass finds at a bound, then the pass.
+fn counted_pass(s: &mut Study, joint: &Joint) -> u32 {
+    let mut count = 0;
+    let [one, two] = [joint.words[0], joint.words[1]];
+    // Row by row on a copy, so that the pass itself stays as it is for every call.
+    let mut copy = s.clone();
+    for (k, id) in joint.ids.iter().enumerate() {
+        let single = Joint {
+            words: joint.words,
+            numbers: joint.numbers,
+            ids: vec![*id],
+            off: joint.off,
+            takes: joint.takes,
+            first: joint.first + k,
+        };
+        let vels = [velocity(&copy, one), velocity(&copy, two)].concat();
+        let row = copy.rows[18 * single.first..][..18].to_vec();
+        let motor = or!(125, id / 4 == 2, true);
+        count += u32::from(motor && stopped(&row, &vels));
+        pass(&mut copy, &single, rendering::step);
+    }
+    pass(s, joint, rendering::step);
+    count
+}
+
+fn sweep(s: &mut Study, all: &[Joint], n: u32) -> Vec<u32> {
     let rounds = or!(75, n, n.min(1));
     let [outer, inner] = or!(77, [rounds, 1], [1, rounds]);
-    for _ in 0..outer {
+    let mut counts = vec![0; all.len()];
+    for round in 0..outer {
         for k in 0..all.len() {
-            let joint = &all[or!(76, k, all.len() - 1 - k)];
-            for _ in 0..inner {
-                pass(s, joint, rendering::step);
+            let j = or!(76, k, all.len() - 1 - k);
+            for turn in 0..inner {
+                let last = or!(126, round + 1 == outer && turn + 1 == inner, round + turn == 0);
+                if last || fault(128) {
+                    let count = counted_pass(s, &all[j]);
+                    let at = or!(130, j, (j + 1) % all.len());
+                    counts[at] = count + or!(128, 0, counts[at]);
+                } else {
+                    pass(s, &all[j], rendering::step);
+                }
             }
         }
     }
+    counts
 }
 
 fn write_back(s: &mut Study, all: &[Joint]) {
@@ -686,7 +737,13 @@ pub fn call(s: &mut Study, call: &Call) -> Answer {
                 pass(s, joint, rendering::warmstart);
             }
         }
-        Call::Sweep(n) => sweep(s, &all, n),
+        Call::Sweep(n) => {
+            let counts = sweep(s, &all, n);
+            answer.ids.fill(0);
+            for (to, count) in answer.ids.iter_mut().zip(counts) {
+                *to = count;
+            }
+        }
         Call::RemoveBias => {
             let rows = or!(82, count_of(&all), length / 18);
             for row in s.rows.chunks_exact_mut(18).take(rows) {

@@ -785,18 +785,30 @@ fn moved(row: &Row, impulse: f32, vels: &mut [f32]) {
     vels[5] -= row.ii_ang_jac[1] * impulse;
 }
 
-pub fn step(n: &mut [f32], vels: &mut [f32]) {
-    let mut r = row(n);
+/// The impulse that a row wants, before its bounds.
+pub fn wanted(n: &[f32], vels: &[f32]) -> f32 {
+    let r = row(n);
     let dlinvel = dot(r.lin_jac, [vels[3] - vels[0], vels[4] - vels[1]]);
     let dangvel = r.ang_jac[1] * vels[5] - r.ang_jac[0] * vels[2];
     let rhs = or!(73, dlinvel + dangvel + r.rhs, dlinvel + (dangvel + r.rhs));
     let held = r.cfm_gain * r.impulse;
-    let wanted = r.impulse
+    r.impulse
         + or!(
             74,
             r.inv_lhs * (rhs - held),
             r.inv_lhs * rhs - r.inv_lhs * held
-        );
+        )
+}
+
+/// Which bound a step meets.
+pub fn side(n: &[f32], vels: &[f32]) -> usize {
+    let wanted = wanted(n, vels);
+    usize::from(wanted < n[1]).max(2 * usize::from(!(wanted < n[1]) && wanted > n[2]))
+}
+
+pub fn step(n: &mut [f32], vels: &mut [f32]) {
+    let mut r = row(n);
+    let wanted = wanted(n, vels);
     let total = or!(75, clamp, clamp_high_first)(wanted, r.bounds[0], r.bounds[1]);
     let delta = or!(76, total, wanted) - r.impulse;
     r.impulse = total;

@@ -281,6 +281,7 @@ mod rattle {
         fn katydidzinc_max(a: f32, b: f32) -> f32;
         fn katydidzinc_min(a: f32, b: f32) -> f32;
         fn katydidzinc_clamp(x: f32, low: f32, high: f32) -> f32;
+        fn katydidzinc_clamp_side(x: f32, low: f32, high: f32) -> u32;
         // A byte here, so that a value other than 0 and 1 shows as a difference.
         fn katydidzinc_is_finite(x: f32) -> u8;
         fn katydidzinc_sqrt(x: f32) -> f32;
@@ -431,6 +432,26 @@ mod rattle {
             triple,
             |x| [ours::clamp(x[0], x[1], x[2])],
             |x| [unsafe { katydidzinc_clamp(x[0], x[1], x[2]) }],
+        );
+        // Inside is 0, low 1 and high 2; a number that equals a bound is inside.
+        each(
+            "which bound clamp met",
+            d,
+            count,
+            |d| {
+                let x = d.number();
+                match d.below(4) {
+                    0 => [x, x, d.related(x)],
+                    1 => [x, d.related(x), x],
+                    _ => [x, d.related(x), d.related(x)],
+                }
+            },
+            |x| match x {
+                [x, low, _] if x < low => [1.0],
+                [x, _, high] if high < x => [2.0],
+                _ => [0.0],
+            },
+            |x| [unsafe { katydidzinc_clamp_side(x[0], x[1], x[2]) } as f32],
         );
         each(
             "is_finite",

@@ -31,7 +31,7 @@ pub struct Call {
     pub lent: Vec<f32>,
     pub vels: Vec<f32>,
     pub ids: Vec<u32>,
-    /// What `Build` returns; 0 for the others.
+    /// What `Build` returns, and which bound a `Step` met; 0 for the others.
     pub count: usize,
     /// Whether something was written outside the lent storage.
     pub outside: bool,
@@ -82,7 +82,10 @@ macro_rules! made_by(
                 lent.copy_from_slice(&$by::angular_limit(n[0], n[1], n[2], n[3]))
             }
             Function::Build => $call.count = $by::build(w, n, lent, &mut $call.ids),
-            Function::Step => $by::step(lent, &mut $call.vels),
+            Function::Step => {
+                $call.count = $by::side(lent, &$call.vels);
+                $by::step(lent, &mut $call.vels)
+            }
             Function::Warmstart => $by::warmstart(lent, &mut $call.vels),
             Function::RemoveBias => $by::remove_bias(lent),
             Function::Writeback => $by::writeback(w[0], n[0], lent),
@@ -149,7 +152,12 @@ mod exported {
             ids: *mut u32,
             ids_len: usize,
         ) -> usize;
-        fn katydidzinc_rows_step(row: *mut f32, row_len: usize, vels: *mut f32, vels_len: usize);
+        fn katydidzinc_rows_step(
+            row: *mut f32,
+            row_len: usize,
+            vels: *mut f32,
+            vels_len: usize,
+        ) -> u32;
         fn katydidzinc_rows_warmstart(
             row: *mut f32,
             row_len: usize,
@@ -196,7 +204,9 @@ mod exported {
                         ids_len,
                     )
                 }
-                Function::Step => katydidzinc_rows_step(lent, lents, vels, vels_len),
+                Function::Step => {
+                    call.count = katydidzinc_rows_step(lent, lents, vels, vels_len) as usize
+                }
                 Function::Warmstart => katydidzinc_rows_warmstart(lent, lents, vels, vels_len),
                 Function::RemoveBias => katydidzinc_rows_remove_bias(lent, lents),
                 Function::Writeback => katydidzinc_rows_writeback(w[0], n[0], lent, lents),

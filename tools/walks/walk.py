@@ -123,6 +123,11 @@ def typed(kind, value, known):
     return f"(LL.lawful {kind}.the-type {kind}′.the-laws 𝓤 H A W .typed {value} _ {known} .0)"
 
 
+def chosen(kind, value, known):
+    """The same of an enum."""
+    return f"(EL.lawful {kind}.the-type {kind}′.the-laws 𝓤 H A W tt .typed {value} _ {known} .0)"
+
+
 def whole(value):
     """An operand as a whole right-hand side."""
     return f"(of-opd ! {value})"

@@ -1,9 +1,9 @@
 -- The exported calls of the model: a header from its numbers, an answer as a number, and what is stored of a row read and of a velocity read.
 use Prim.Native.Nat.{ℕ, _+_, _%_}
 use mathlib.Core.Bool.{Bool, true, false, cond, _&&_}
-use mathlib.Core.List.{List}
+use mathlib.Core.List.{List, _++_}
 use lib.Dec.{leb}
-use lib.ListN.{length}
+use lib.ListN.{length, drop}
 use lib.Ieee.{Float}
 use Rattle.floats.specs.declared.pose.Pose.{Pose}
 use Rattle.rows.specs.declared.joint_constraint_builder.Warmstart.{Warmstart}
@@ -14,12 +14,13 @@ use Rattle.rows.specs.declared.row_ids.RowIds.{RowIds}
 use Rattle.model.specs.JointRows.{rowMasksAt}
 use Rattle.model.specs.Model.{Model, modelOf}
 use Rattle.model.specs.Calls.{Answer, Outcome, run}
-use Rattle.model.specs.Calls.Answer.{granted, total, rowsRead, velocityRead, refused}
-use Rattle.model.specs.Calls.Call.{readRows}
-use Rattle.model.specs.Answers.{rowsAnswerOf}
+use Rattle.model.specs.Calls.Answer.{granted, total, rowsRead, velocityRead, swept, refused}
+use Rattle.model.specs.Calls.Call.{sweep, readRows}
+use Rattle.model.specs.Answers.{rowsAnswerOf, sweepAnswerOf}
 use Rattle.model.specs.declared.header.Header.{Header}
 use Rattle.model.specs.declared.calls.Plain.{Plain}
 use Rattle.model.specs.declared.calls.RowsAnswer.{RowsAnswer}
+use Rattle.model.specs.declared.calls.SweepAnswer.{SweepAnswer}
 use Rattle.capi.specs.JointExports.{paramsOf, putThree, putFirst, putIds}
 
 -- ---- what is handed over
@@ -47,6 +48,7 @@ number granted = 0
 number (total n) = rowsGranted n
 number (rowsRead ids rows) = rowsGranted (length rows)
 number (velocityRead v) = 0
+number (swept counts) = 0
 number (refused k) = k
 
 -- the same, where a granted load that left the mark set, or a build that left it clear, would show
@@ -57,6 +59,7 @@ marked (total n) true = rowsGranted n
 marked (total n) false = 8589934592 + n % 4294967296
 marked (rowsRead ids rows) built = 0
 marked (velocityRead v) built = 0
+marked (swept counts) built = 0
 marked (refused k) built = k
 
 abbrev pub markedNumber : Outcome → ℕ
@@ -89,6 +92,23 @@ rowsOut r out ids = rowsIfRoom (r .rows) out ids
 abbrev pub idsOut : RowsAnswer → List Float → List ℕ → List ℕ
 idsOut r out ids = idsIfRoom (r .ids) out ids
 
+-- ---- a sweep's counts, stored
+
+abbrev pub sweptAt : ℕ → Model → List Float → SweepAnswer
+sweptAt n m rows = sweepAnswerOf (run (sweep n) m rows .answer)
+
+-- all 128 where it is granted, and nothing where it is refused
+abbrev pub countsIf : Plain → List ℕ → List ℕ → List ℕ
+countsIf Plain.Granted counts out = counts ++ drop 128 out
+countsIf (Plain.Refused k) counts out = out
+
+abbrev pub countsOut : SweepAnswer → List ℕ → List ℕ
+countsOut r out = countsIf (r .answer) (r .counts) out
+
+-- where fewer than 128 bytes are lent for them, nothing is done
+abbrev pub roomForCounts : List ℕ → Bool
+roomForCounts counts = leb 128 (length counts)
+
 -- ---- a velocity, stored
 
 unfoldable pub putVelocity : SolverVel → List Float → List Float
@@ -99,4 +119,5 @@ velocityOut (velocityRead v) out = putVelocity v out
 velocityOut granted out = out
 velocityOut (total n) out = out
 velocityOut (rowsRead ids rows) out = out
+velocityOut (swept counts) out = out
 velocityOut (refused k) out = out

@@ -14,6 +14,8 @@ use Rattle.floats.specs.MicroReport.{microReportOf}
 use Rattle.floats.specs.declared.vector.Vector.{Vector}
 use Rattle.floats.specs.declared.rotation_ops.Rotation.{Rotation}
 use Rattle.floats.specs.declared.pose.Pose.{Pose}
+use Rattle.floats.specs.declared.scalar.Side.{Side}
+use Rattle.floats.specs.declared.scalar.Side.the-variants.{Low, High, Inside}
 use Rattle.floats.specs.declared.micro_report.MicroReport.{MicroReport}
 use Rattle.floats.specs.declared.micro_report.MicroReport.the-variants.{Whole, Over, Nan}
 
@@ -25,6 +27,12 @@ numberOf Nan = pos (2 ^ 33)
 
 abbrev pub microNumber : Float → ℤ
 microNumber x = numberOf (microReportOf x)
+
+-- what a clamp or a row's step says, as a number: inside is 0, low 1 and high 2
+abbrev pub sideNumber : Side → ℕ
+sideNumber Inside = 0
+sideNumber Low = 1
+sideNumber High = 2
 
 -- number i of a slice
 abbrev pub at : List Float → ℕ → Float

@@ -33,6 +33,7 @@ use Rattle.rows.specs.declared.joint_velocity_constraint.SolverVels.{SolverVels
 use Rattle.rows.specs.declared.joint_velocity_constraint.Solved.{Solved}
 use Rattle.model.specs.Layout.{rowWidth, numbersWidth}
 use Rattle.model.specs.Store.{rowOf, rowAt, putRow, putSeed, modelOf, jointAt}
+use Rattle.capi.specs.Exports.{sideNumber}
 
 -- ---- one row between two velocities
 
@@ -63,6 +64,10 @@ stepRow row vels = cond (hasRow row vels) (putRow row 0 (stepped row vels .row))
 
 unfoldable pub stepVels : List Float → List Float → List Float
 stepVels row vels = cond (hasRow row vels) (putVels vels (stepped row vels .vels)) vels
+
+-- and which bound the step met; 3 where they are not there
+unfoldable pub stepSide : List Float → List Float → ℕ
+stepSide row vels = cond (hasRow row vels) (sideNumber (stepped row vels .side)) 3
 
 -- the velocities after the row's warm start
 unfoldable pub warmstart : List Float → List Float → List Float

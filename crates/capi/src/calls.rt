@@ -4,12 +4,15 @@
 // are too short, nothing is stored. A header that came back with the wrong mark would show as 100
 // after a load and as 2^33 plus the number of rows after a build.
 ghost use mathlib.Core.Path.{_≡_};
-ghost use mathlib.Core.List.{[]};
+ghost use mathlib.Core.List.{[], _++_};
+ghost use mathlib.Core.Bool.{cond};
+ghost use Prim.Native.Nat.{_≤_};
+ghost use lib.ListN.{length, drop};
 ghost use Rattle.model.specs.Calls.{run};
 ghost use Rattle.model.specs.Calls.Call.{load, place, build, warmStart, sweep, removeBias, writeBack, readRows, readVelocity, setTargets};
 ghost use Rattle.model.specs.Answers.{plainAnswer, loadAnswer, loadHeader, buildAnswer, buildHeader};
 ghost use Rattle.model.specs.declared.header.Header.{Header};
-ghost use Rattle.capi.specs.CallExports.{headerOf, lent, poseFrom, warmOf, number, marked, markedNumber, rowsReadAt, rowsGrantedOr, rowsNumber, rowsOut, idsOut, rowsIfRoom, idsIfRoom, putVelocity, velocityOut};
+ghost use Rattle.capi.specs.CallExports.{headerOf, lent, poseFrom, warmOf, number, marked, markedNumber, rowsReadAt, rowsGrantedOr, rowsNumber, rowsOut, idsOut, rowsIfRoom, idsIfRoom, sweptAt, countsOut, roomForCounts, putVelocity, velocityOut};
 use crate::joint::put_first;
 use crate::joint::put_ids;
 use crate::joint::put_three;
@@ -191,6 +194,19 @@ pub extern "C" fn katydidzinc_warm_start(
     plain_number(warm_start(h, bodies, words, numbers, rows))
 }
 
+// The counts, stored.
+fn put_counts(out: &mut [u8], counts: [u8; 128])
+    requires { ⌜ 128 ≤ length (now out) ⌝ }
+    ensures { λ _. ⌜ now (out .exit) ≡ counts ++ drop 128 (now (out .entry)) ⌝ }
+{
+    let mut i = 0usize;
+    while i < 128 {
+        out[i] = counts[i];
+        i += 1;
+    }
+}
+
+// 128 bytes are lent for the counts, one a joint. Where there are fewer the answer is 101, which is no refusal's number, and nothing is done.
 #[no_mangle]
 pub extern "C" fn katydidzinc_sweep(
     dt: f32,
@@ -202,13 +218,27 @@ pub extern "C" fn katydidzinc_sweep(
     numbers: &[f32],
     rows: &mut [f32],
     n: u32,
+    counts: &mut [u8],
 ) -> u32
-    ensures { λ r. ⌜ r ≡ number (run (sweep n) (lent dt «length_unit» normalized built (now (bodies .entry)) (now (words .entry)) (now (numbers .entry))) (now (rows .entry)) .answer) ⌝ }
-    ensures { λ _. ⌜ now (bodies .exit) ≡ run (sweep n) (lent dt «length_unit» normalized built (now (bodies .entry)) (now (words .entry)) (now (numbers .entry))) (now (rows .entry)) .after .bodies ⌝ }
-    ensures { λ _. ⌜ now (rows .exit) ≡ run (sweep n) (lent dt «length_unit» normalized built (now (bodies .entry)) (now (words .entry)) (now (numbers .entry))) (now (rows .entry)) .rows ⌝ }
+    ensures { λ r. ⌜ r ≡ cond (roomForCounts (now (counts .entry))) (number (run (sweep n) (lent dt «length_unit» normalized built (now (bodies .entry)) (now (words .entry)) (now (numbers .entry))) (now (rows .entry)) .answer)) 101 ⌝ }
+    ensures { λ _. ⌜ now (bodies .exit) ≡ cond (roomForCounts (now (counts .entry))) (run (sweep n) (lent dt «length_unit» normalized built (now (bodies .entry)) (now (words .entry)) (now (numbers .entry))) (now (rows .entry)) .after .bodies) (now (bodies .entry)) ⌝ }
+    ensures { λ _. ⌜ now (rows .exit) ≡ cond (roomForCounts (now (counts .entry))) (run (sweep n) (lent dt «length_unit» normalized built (now (bodies .entry)) (now (words .entry)) (now (numbers .entry))) (now (rows .entry)) .rows) (now (rows .entry)) ⌝ }
+    ensures { λ _. ⌜ now (counts .exit) ≡ cond (roomForCounts (now (counts .entry))) (countsOut (sweptAt n (lent dt «length_unit» normalized built (now (bodies .entry)) (now (words .entry)) (now (numbers .entry))) (now (rows .entry))) (now (counts .entry))) (now (counts .entry)) ⌝ }
 {
+    if counts.len() < 128 {
+        return 101;
+    }
     let h = header(dt, length_unit, normalized, built);
-    plain_number(sweep(h, bodies, words, numbers, rows, n))
+    let swept = sweep(h, bodies, words, numbers, rows, n);
+    let answer = swept.answer;
+    let made = swept.counts;
+    match answer {
+        Plain::Granted => {
+            put_counts(counts, made);
+            0
+        }
+        Plain::Refused(k) => k,
+    }
 }
 
 #[no_mangle]

@@ -5,7 +5,7 @@
 ghost use mathlib.Core.Path.{_≡_};
 ghost use Prim.Native.Nat.{_+_, _*_, _≤_, _<_};
 ghost use lib.ListN.{length};
-ghost use Rattle.capi.specs.JointExports.{velAt, putThree, putVels, stepRow, stepVels, warmstart, removeBias, idOf, writeback, rowsAt, putSix, finalize, combineCoefficients, spring, paramsOf, angularLimit, bodyAt, jointFrom, warmFrom, impulsesFrom, madeFrom, putIf, putFirst, idNumber, putId, putIds, masksFrom, buildRows, buildIds, buildCount, roomyRows, roomyIds, roomyCount};
+ghost use Rattle.capi.specs.JointExports.{velAt, putThree, putVels, stepRow, stepVels, stepSide, warmstart, removeBias, idOf, writeback, rowsAt, putSix, finalize, combineCoefficients, spring, paramsOf, angularLimit, bodyAt, jointFrom, warmFrom, impulsesFrom, madeFrom, putIf, putFirst, idNumber, putId, putIds, masksFrom, buildRows, buildIds, buildCount, roomyRows, roomyIds, roomyCount};
 ghost use Rattle.model.specs.Layout.{rowWidth};
 ghost use Rattle.model.specs.Store.{rowAt, putRow, modelOf};
 ghost use Rattle.floats.specs.Operators.{bits};
@@ -13,6 +13,7 @@ ghost use Rattle.rows.specs.IntegrationParameters.{invDtOf, maxCorrectiveVeloci
 ghost use Rattle.rows.specs.GenericJoint.{maxImpulseOf};
 ghost use Rattle.rows.specs.RowIds.{rowIdsArray};
 ghost use Rattle.rows.specs.Update.{rowsArray};
+use crate::side_number;
 use floats::pose::Pose;
 use floats::rotation_ops::Rotation;
 use floats::vector::Vector;
@@ -94,16 +95,18 @@ fn put_vels(out: &mut [f32], v: SolverVels)
     put_three(out, 3, linear2.x, linear2.y, v2.angular);
 }
 
+// Which bound the step met comes back, as `katydidzinc_clamp_side` has it; 3 where a slice is too short, and then nothing is done.
 #[no_mangle]
-pub extern "C" fn katydidzinc_rows_step(row: &mut [f32], vels: &mut [f32])
+pub extern "C" fn katydidzinc_rows_step(row: &mut [f32], vels: &mut [f32]) -> u32
+    ensures { λ r. ⌜ r ≡ stepSide (now (row .entry)) (now (vels .entry)) ⌝ }
     ensures { λ _. ⌜ now (row .exit) ≡ stepRow (now (row .entry)) (now (vels .entry)) ⌝ }
     ensures { λ _. ⌜ now (vels .exit) ≡ stepVels (now (row .entry)) (now (vels .entry)) ⌝ }
 {
     if row.len() < ROW_WIDTH {
-        return;
+        return 3;
     }
     if vels.len() < 6 {
-        return;
+        return 3;
     }
     let c = row_at(row, 0);
     let solved = solve_row(c, vel_at(vels, 0), vel_at(vels, 3));
@@ -111,6 +114,7 @@ pub extern "C" fn katydidzinc_rows_step(row: &mut [f32], vels: &mut [f32])
     let after = solved.vels;
     put_row(row, 0, stepped);
     put_vels(vels, after);
+    side_number(solved.side)
 }
 
 #[no_mangle]

@@ -5,10 +5,10 @@
 ghost use mathlib.Core.Path.{_≡_};
 ghost use Prim.Native.Nat.{_+_, _<_};
 ghost use lib.ListN.{length};
-ghost use Rattle.capi.specs.Exports.{microNumber, vectorAt, rotationAt, putTwo, putVector, putRotation, vectorProducts, vectorSums, rotationProducts, rotationColumns, poseProduct};
+ghost use Rattle.capi.specs.Exports.{sideNumber, microNumber, vectorAt, rotationAt, putTwo, putVector, putRotation, vectorProducts, vectorSums, rotationProducts, rotationColumns, poseProduct};
 ghost use Rattle.floats.specs.Utils.{invOf, simdInvOf, smallestAbsDiffBetweenAnglesOf};
 ghost use Rattle.floats.specs.Sign.{signumOf};
-ghost use Rattle.floats.specs.Scalar.{maxOf, minOf, clampOf, isFinite};
+ghost use Rattle.floats.specs.Scalar.{maxOf, minOf, clampOf, sideOf, isFinite};
 ghost use Rattle.floats.specs.Sqrt.{sqrtOf};
 ghost use Rattle.floats.specs.Angle.{seriesSumUpTo, angleOf};
 use floats::angle::angle;
@@ -18,6 +18,7 @@ use floats::micro_report::MicroReport;
 use floats::micro_report::micro_report;
 use floats::pose::Pose;
 use floats::rotation_ops::Rotation;
+use floats::scalar::Side;
 use floats::scalar::clamp;
 use floats::scalar::is_finite;
 use floats::scalar::max;
@@ -80,7 +81,27 @@ pub extern "C" fn katydidzinc_min(a: f32, b: f32) -> f32
 pub extern "C" fn katydidzinc_clamp(x: f32, low: f32, high: f32) -> f32
     ensures { λ r. ⌜ r ≡ clampOf x low high ⌝ }
 {
-    clamp(x, low, high)
+    let clamped = clamp(x, low, high);
+    clamped.value
+}
+
+pub fn side_number(side: Side) -> u32
+    ensures { λ r. ⌜ r ≡ sideNumber side ⌝ }
+{
+    match side {
+        Side::Inside => 0,
+        Side::Low => 1,
+        Side::High => 2,
+    }
+}
+
+// Which bound the clamp met: inside is 0, low 1 and high 2.
+#[no_mangle]
+pub extern "C" fn katydidzinc_clamp_side(x: f32, low: f32, high: f32) -> u32
+    ensures { λ r. ⌜ r ≡ sideNumber (sideOf x low high) ⌝ }
+{
+    let clamped = clamp(x, low, high);
+    side_number(clamped.side)
 }
 
 #[no_mangle]

@@ -7,6 +7,8 @@ use floats::bits::from_bits;
 use floats::bits::to_bits;
 use floats::pose::Pose;
 use floats::rotation_ops::Rotation;
+use floats::scalar::Clamped;
+use floats::scalar::Side;
 use floats::scalar::clamp;
 use floats::scalar::is_finite;
 use floats::scalar::max;
@@ -116,12 +118,29 @@ fn orders() {
     show(b"min 1 nan", min(1.0, from_bits(NAN)));
 }
 
+fn show_clamp(name: &[u8], c: Clamped) {
+    show(name, c.value);
+    let side = c.side;
+    match side {
+        Side::Low => text(b"  low\n"),
+        Side::High => text(b"  high\n"),
+        Side::Inside => text(b"  inside\n"),
+    }
+}
+
 fn clamps() {
-    show(b"clamp 3 in [1, 2]", clamp(3.0, 1.0, 2.0));
-    show(b"clamp 0 in [1, 2]", clamp(0.0, 1.0, 2.0));
-    show(b"clamp 0 in [1, -1], low wins", clamp(0.0, 1.0, -1.0));
-    show(b"clamp nan in [1, 2]", clamp(from_bits(NAN), 1.0, 2.0));
-    show(b"clamp 3 in [nan, 2]", clamp(3.0, from_bits(NAN), 2.0));
+    show_clamp(b"clamp 3 in [1, 2]", clamp(3.0, 1.0, 2.0));
+    show_clamp(b"clamp 0 in [1, 2]", clamp(0.0, 1.0, 2.0));
+    show_clamp(b"clamp 0 in [1, -1], low wins", clamp(0.0, 1.0, -1.0));
+    show_clamp(b"clamp nan in [1, 2]", clamp(from_bits(NAN), 1.0, 2.0));
+    show_clamp(b"clamp 3 in [nan, 2]", clamp(3.0, from_bits(NAN), 2.0));
+}
+
+// A number that equals a bound is inside.
+fn clamps_at_a_bound() {
+    show_clamp(b"clamp 1 in [1, 2]", clamp(1.0, 1.0, 2.0));
+    show_clamp(b"clamp 2 in [1, 2]", clamp(2.0, 1.0, 2.0));
+    show_clamp(b"clamp -0 in [0, 0]", clamp(from_bits(NEG_ZERO), 0.0, 0.0));
 }
 
 fn finite() {
@@ -244,6 +263,7 @@ fn main() {
     differences();
     orders();
     clamps();
+    clamps_at_a_bound();
     finite();
     roots();
     lengths();

@@ -345,18 +345,16 @@ fn velocities_too_soon(bodies: &mut [f32], words: &[u32], numbers: &[f32], rows:
         b"warm start before a build",
         warm_start(h, bodies, words, numbers, rows),
     );
-    plain(
-        b"sweep 64 before a build",
-        sweep(h, bodies, words, numbers, rows, 64),
-    );
+    let swept = sweep(h, bodies, words, numbers, rows, 64);
+    let answer = swept.answer;
+    plain(b"sweep 64 before a build", answer);
 }
 
 fn rows_too_soon(bodies: &mut [f32], words: &[u32], numbers: &[f32], rows: &mut [f32]) {
     let h = header(0.5, false);
-    plain(
-        b"sweep 65 before a build",
-        sweep(h, bodies, words, numbers, rows, 65),
-    );
+    let swept = sweep(h, bodies, words, numbers, rows, 65);
+    let answer = swept.answer;
+    plain(b"sweep 65 before a build", answer);
     plain(
         b"bias removal before a build",
         remove_bias(h, bodies, words, numbers, rows),
@@ -564,10 +562,11 @@ fn limit(bodies: &[f32], words: &[u32], numbers: &[f32], rows: &[f32]) {
 
 fn no_sweep(bodies: &mut [f32], words: &[u32], numbers: &[f32], rows: &mut [f32]) {
     let before = checksum(checksum(0, bodies), rows);
-    plain(
-        b"sweep 0",
-        sweep(header(0.5, true), bodies, words, numbers, rows, 0),
-    );
+    let swept = sweep(header(0.5, true), bodies, words, numbers, rows, 0);
+    let answer = swept.answer;
+    let counts = swept.counts;
+    plain(b"sweep 0", answer);
+    number(b"motors of joint 0 at a bound after sweep 0", counts[0] as u64);
     let after = checksum(checksum(0, bodies), rows);
     if before == after {
         text(b"sweep 0 changes nothing = true\n");
@@ -578,8 +577,12 @@ fn no_sweep(bodies: &mut [f32], words: &[u32], numbers: &[f32], rows: &mut [f32]
 
 fn sweeps(bodies: &mut [f32], words: &[u32], numbers: &[f32], rows: &mut [f32]) {
     let h = header(0.5, true);
-    plain(b"sweep 65", sweep(h, bodies, words, numbers, rows, 65));
-    plain(b"sweep 64", sweep(h, bodies, words, numbers, rows, 64));
+    let long = sweep(h, bodies, words, numbers, rows, 65);
+    let refused = long.answer;
+    plain(b"sweep 65", refused);
+    let swept = sweep(h, bodies, words, numbers, rows, 64);
+    let granted = swept.answer;
+    plain(b"sweep 64", granted);
 }
 
 // Rules 3 to 5, then 6 to 8.

@@ -2,7 +2,20 @@
 ghost use mathlib.Core.Path.{_≡_};
 ghost use mathlib.Core.Bool.{false};
 ghost use lib.Ieee.{inf};
-ghost use Rattle.floats.specs.Scalar.{maxOf, minOf, clampOf, isFinite};
+ghost use Rattle.floats.specs.Scalar.{maxOf, minOf, clampedOf, isFinite};
+
+// Which bound a clamp met. A number that equals a bound is inside, and so is a NaN.
+pub enum Side {
+    Low,
+    High,
+    Inside,
+}
+
+// A number within its bounds, and which of them it met.
+pub struct Clamped {
+    pub value: f32,
+    pub side: Side,
+}
 
 // Rattle has no name for it.
 pub fn infinity() -> f32
@@ -23,16 +36,25 @@ pub fn min(a: f32, b: f32) -> f32
     if a <= b { a } else { b }
 }
 
-pub fn clamp(x: f32, low: f32, high: f32) -> f32
-    ensures { λ r. ⌜ r ≡ clampOf x low high ⌝ }
+pub fn clamp(x: f32, low: f32, high: f32) -> Clamped
+    ensures { λ r. ⌜ r ≡ clampedOf x low high ⌝ }
 {
     if x < low {
-        return low;
+        return Clamped {
+            value: low,
+            side: Side::Low,
+        };
     }
     if x > high {
-        return high;
+        return Clamped {
+            value: high,
+            side: Side::High,
+        };
     }
-    x
+    Clamped {
+        value: x,
+        side: Side::Inside,
+    }
 }
 
 // Whether x is neither a NaN nor an infinity.

@@ -266,7 +266,9 @@ fn plain(name: &[u8], answer: Plain) {
 // ---- the step
 
 fn swept(h: Header, bodies: &mut [f32], words: &[u32], numbers: &[f32], rows: &mut [f32]) {
-    plain(b"sweep 20", sweep(h, bodies, words, numbers, rows, 20));
+    let loose = sweep(h, bodies, words, numbers, rows, 20);
+    let answer = loose.answer;
+    plain(b"sweep 20", answer);
     plain(
         b"bias removal",
         remove_bias(h, bodies, words, numbers, rows),
@@ -280,7 +282,12 @@ fn swept_again(
     numbers: &mut [f32],
     rows: &mut [f32],
 ) {
-    plain(b"sweep 4", sweep(h, bodies, words, numbers, rows, 4));
+    let last = sweep(h, bodies, words, numbers, rows, 4);
+    let answer = last.answer;
+    let counts = last.counts;
+    plain(b"sweep 4", answer);
+    number(b"hip motors out of force", counts[0] as u64);
+    number(b"ankle motors out of force", counts[2] as u64);
     plain(b"write-back", write_back(h, bodies, words, numbers, rows));
 }
 

@@ -4,6 +4,7 @@ use Prim.Native.Nat.{ℕ, _<_, _≤_}
 use mathlib.Core.Path.{_≡_, refl, sym, ap, _∙_}
 use mathlib.Core.Bool.{Bool, true, false, not, _||_}
 use mathlib.Core.List.{List, [], _∷_, _++_}
+use lib.ListN.{take, replicate}
 use mathlib.Core.Logic.{_≢_, _⊎_, inl, inr}
 use native.Mathlib.Omega.{arith}
 use borrow.Author.Tests.{ne-eqb, eqb-true, eqb-false, lt-ltb, le-ltb}
@@ -17,17 +18,20 @@ use Rattle.rows.specs.declared.joint_velocity_constraint.Rows.{Rows}
 use Rattle.rows.specs.declared.row_ids.RowIds.{RowIds}
 use Rattle.rows.specs.RowIds.{rowIdsArray}
 use Rattle.rows.specs.Update.{rowsArray}
+use Rattle.rows.proofs.Filled.{take-filled}
 use Rattle.rows.proofs.RowArrays.{rowsArray-rows, rowIdsArray-ids}
-use Rattle.model.specs.JointRows.{jointIds, rowCount, rowsList, rowMasksAt}
-use Rattle.model.specs.Model.{mostJoints, Model, bodyCount, jointCount, rowsBefore, Sound, Room}
+use Rattle.model.specs.JointRows.{state, jointIds, rowCount, rowsList, rowMasksAt}
+use Rattle.model.specs.Model.{Model, mostJoints, withBodies, bodyCount, jointCount, rowsBefore, Sound, Room}
 use Rattle.model.specs.Refusals.{mostRounds, Rule, refusal, modelRules, storageRule, sweepRule, builtRule, readsRows, seedsRule, bodyRule, jointRule, faultRule, firstFault, tableRules}
-use Rattle.model.specs.Calls.{Call, outcome, firstRules, ownRules, rulesOf, grantedOf, run, rowsFrom, rowsOf}
-use Rattle.model.specs.Calls.Call.{readRows}
-use Rattle.model.specs.Calls.Answer.{rowsRead, refused}
-use Rattle.model.specs.Answers.{idsList, rowsAnswer, noRows, rowsAnswerOf}
+use Rattle.model.specs.Calls.{Call, outcome, firstRules, ownRules, rulesOf, grantedOf, run, rowsFrom, rowsOf, rounds, sweepCounts, Counted, counted, countedRound}
+use Rattle.model.specs.Calls.Call.{sweep, readRows}
+use Rattle.model.specs.Calls.Answer.{rowsRead, swept, refused}
+use Rattle.model.specs.Answers.{idsList, rowsAnswer, noRows, rowsAnswerOf, sweepAnswer, sweptAs, sweepAnswerOf}
 use Rattle.model.specs.declared.calls.Plain.{Plain}
 use Rattle.model.specs.declared.calls.RowsAnswer.{RowsAnswer}
+use Rattle.model.specs.declared.calls.SweepAnswer.{SweepAnswer}
 use Rattle.model.proofs.JointRowsLaws.{few-rows}
+use Rattle.model.proofs.MotorCounts.{length-sweepCounts, last-counts}
 use Rattle.model.proofs.StoredRows.{rowsFrom-length}
 use Rattle.model.proofs.Tests.{by-cases}
 use Rattle.model.proofs.RefusalLaws.{Numbered, rule-holds, rule-fails, granted-append, refused-append, model-numbered, first-numbered, call-numbered, Hold, all-hold, ruleOf, hold-number, at-most, rules-hold, sound-of, room-of}
@@ -100,6 +104,9 @@ module _ (m : Model) (arguments : Bool) (rows : List Float) {k : ℕ} (e : k ≡
   pub call-sound : Sound m
   call-sound = sound-of m arguments (parts .0)
 
+  pub call-few-joints : jointCount (m .words) (m .numbers) ≤ mostJoints
+  call-few-joints = at-most mostJoints (jointCount (m .words) (m .numbers)) (rules-hold m arguments (parts .0) .joints)
+
   pub call-room : Room m rows
   call-room = room-of m rows (parts .1)
 
@@ -166,6 +173,35 @@ module _ (m : Model) (bytes : List ℕ) {joints : ℕ} (e : joints ≡ jointCoun
 -- rule 2
 pub few-joints : (m : Model) (arguments : Bool) {k : ℕ} → k ≡ refusal (modelRules m arguments) → k ≡ 0 → jointCount (m .words) (m .numbers) ≤ mostJoints
 few-joints m arguments e z = at-most mostJoints (jointCount (m .words) (m .numbers)) (rules-hold m arguments (sym e ∙ z) .joints)
+
+-- ---- a sweep's answer: the outcome as every call's, and how its array is filled
+
+module _ (n : ℕ) (m : Model) (rows : List Float) where
+  abbrev joints : ℕ
+  joints = jointCount (m .words) (m .numbers)
+
+  abbrev Swept : List Float → List Float → SweepAnswer → Type 0
+  Swept bodies′ rows′ r = (outcome (sweepAnswer joints r) (withBodies m bodies′) rows′ ≡ run (sweep n) m rows) × (r ≡ sweepAnswerOf (run (sweep n) m rows .answer))
+
+  pub sweep-refused : {k : ℕ} {r : SweepAnswer} → r ≡ sweptAs (Plain.Refused k) [] → outcome (refused k) m rows ≡ run (sweep n) m rows → Swept (m .bodies) rows r
+  unfolding sweepAnswerOf
+  sweep-refused e o = (rw e o, e ∙ ap (λ o. sweepAnswerOf (o .answer)) o)
+
+  abbrev swept-as : List ℕ → SweepAnswer
+  swept-as counts = record { answer = Plain.Granted; counts = counts }
+
+  pub sweep-granted : {bodies′ rows′ : List Float} {counts : List ℕ} → joints ≤ mostJoints
+      → counted (state rows′ bodies′) counts ≡ rounds (countedRound (m .words) joints) n (counted (state rows (m .bodies)) (replicate 128 0))
+      → grantedOf (sweep n) m rows ≡ run (sweep n) m rows → Swept bodies′ rows′ (swept-as counts)
+  unfolding sweepAnswerOf grantedOf
+  sweep-granted {bodies′} {rows′} {counts} few e o =
+      let last : List ℕ = sweepCounts (m .words) joints n (state rows (m .bodies)) in
+      let all = e ∙ last-counts (m .words) joints n (state rows (m .bodies)) few in
+      let told : take joints counts ≡ last =
+      ap (λ (s : Counted). take joints (s .counts)) all ∙ take-filled 0 128 joints last (length-sweepCounts (m .words) joints n (state rows (m .bodies))) few in (
+        ap (λ cs. outcome (swept cs) (withBodies m bodies′) rows′) told ∙ ap (λ (s : Counted). outcome (swept last) (withBodies m (s .state .bodies)) (s .state .rows)) all ∙ o,
+        ap (λ (s : Counted). swept-as (s .counts)) all ∙ ap (λ o. sweepAnswerOf (o .answer)) o,
+      )
 
 -- ---- a row read's answer: the outcome as every call's, and how its arrays are filled
 

@@ -1,14 +1,15 @@
 -- The calls on rows and velocities keep what two studies share of a closed set: where they agree on it, a warm start and a sweep leave the set's velocities the
 -- same (`warm-start-same`, `sweep-same`), a sweep and a bias removal the rows of its joints (`sweep-same`, `bias-same`), and a build makes these rows the
--- same, from the same rows where it reads any (`build-same`). The two models may differ in all else, their numbers of bodies, joints and rows too.
-use Prim.Native.Nat.{ℕ, zero, suc, _+_, _<_}
+-- same, from the same rows where it reads any (`build-same`). A sweep counts the same motors of the set's joints at a bound (`counts-same`). The two models may differ in all else, their numbers of bodies, joints and rows too.
+use Prim.Native.Nat.{ℕ, zero, suc, _+_, _≤_, _<_}
 use mathlib.Core.Path.{_≡_, refl, sym, ap, _∙_}
 use mathlib.Core.Logic.{⊎-elim}
 use mathlib.Core.Bool.{Bool, true}
-use mathlib.Core.List.{List, map, List·Memᴰ}
+use mathlib.Core.List.{List, [], _∷_, map, List·Memᴰ}
+use native.Mathlib.Nat.{add-assoc, add-zero}
 use native.Mathlib.Omega.{arith}
 use borrow.Author.Tests.{lt-ltb}
-use lib.ListN.{length, getD}
+use lib.ListN.{length, getD, getD-replicate}
 use lib.Ieee.{Float}
 use Rattle.floats.specs.Operators.{bits}
 use Rattle.rows.specs.RowIds.{filled}
@@ -26,18 +27,19 @@ use Rattle.rows.specs.declared.joint_velocity_constraint.WritebackId.{Writeback
 use Rattle.rows.proofs.NamedRows.{same-named}
 use Rattle.rows.proofs.WritebackNamed.{fewer-named}
 use Rattle.model.specs.Store.{world, rowAt, velAt, solverPoseAt, jointAt, masksAt, body1At, body2At, enabledAt}
-use Rattle.model.specs.JointRows.{State, state, jointIds, rowCount, impulsesAt, buildJoint, sweepRow, warmstartRow, builtRows}
+use Rattle.model.specs.JointRows.{State, state, jointIds, rowCount, impulsesAt, buildJoint, sweepRow, sweepSide, countIds, warmstartRow, builtRows}
 use Rattle.model.specs.Model.{Model, bodyCount, jointCount, rowsBefore, Sound, Room}
 use Rattle.model.specs.Refusals.{readsRows}
-use Rattle.model.specs.Calls.{eachJoint, rounds, buildOne, warmstartOne, removeBiasOne, rowsOf, sweepRound}
+use Rattle.model.specs.Calls.{eachJoint, rounds, buildOne, warmstartOne, removeBiasOne, rowsOf, sweepRound, countOne, sweepCounts}
 use Rattle.model.specs.Studies.{Inside, OfSet, Agree}
 use Rattle.model.proofs.Tests.{by-cases}
-use Rattle.model.proofs.JointRowsLaws.{masks-enabled}
+use Rattle.model.proofs.JointRowsLaws.{masks-enabled, sides-same}
+use Rattle.model.proofs.MotorCounts.{count-at}
 use Rattle.model.proofs.StoreLaws.{velAt-world, solverPoseAt-world}
 use Rattle.model.proofs.StoredRows.{rowsFrom-at, rowsFrom-same, impulses-of}
 use Rattle.model.proofs.SameStudies.{RowsSame, VelsSame}
-use Rattle.model.proofs.JointLocality.{Split, Alike, sideOf, joints-alike, rows-alike, rounds-together}
-use Rattle.model.proofs.ClosedSet.{same-enabled, layoutOf, InSet, IsWorld, split}
+use Rattle.model.proofs.JointLocality.{Split, Alike, sideOf, Matched, row-together, rows-together, until-alike, joints-alike, rows-alike, rounds-together}
+use Rattle.model.proofs.ClosedSet.{same-ids, same-enabled, layoutOf, InSet, IsWorld, split}
 use Rattle.model.proofs.RowWorks.{sweepRows, warmRows, biasRows, warm-all, sweep-all, bias-all, lastOf, six-last, pose1, pose2, madeOf, buildSide, row-made}
 
 -- last impulses count only where the build reads them
@@ -103,6 +105,9 @@ module _ (set : ℕ → Bool) {named : ℕ → WritebackId → Type 0} (m m′ :
       (record { ok = refl; ok′ = refl; rows = λ j t r. each-row rows rows′ same j t; vels = λ b s. refl })
       .rows j t (λ h. tt)))
 
+  vel-still : (b : ℕ) → b ≡ world → (st st′ : State) → velAt (st .bodies) b ≡ velAt (st′ .bodies) b
+  vel-still b e st st′ = still b e (st .bodies) (st′ .bodies)
+
   -- what each round of a sweep keeps
   SweepAlike : State → State → Type 0
   SweepAlike = Alike (sideOf (sweepRows set m ok here rows room)) (sideOf (sweepRows set m′ ok′ here′ rows′ room′)) (InSet set) (OfSet set m) Unit 0
@@ -115,17 +120,93 @@ module _ (set : ℕ → Bool) {named : ℕ → WritebackId → Type 0} (m m′ :
       (rows-alike (sweepRows set m ok here rows room) (sweepRows set m′ ok′ here′ rows′ room′) IsWorld (OfSet set m)
       (λ b e st st′. still b e (st .bodies) (st′ .bodies)) parted st st′ k)
 
+  rounds-same : (n : ℕ) → RowsSame set m m′ rows rows′
+      → SweepAlike (rounds (sweepRound (m .words) (jointCount (m .words) (m .numbers))) n (state rows (m .bodies)))
+      (rounds (sweepRound (m′ .words) (jointCount (m′ .words) (m′ .numbers))) n (state rows′ (m′ .bodies)))
+  unfolding SweepAlike sweepRows sweepRow
+  rounds-same n same =
+      rounds-together SweepAlike (sweepRound (m .words) (jointCount (m .words) (m .numbers))) (sweepRound (m′ .words) (jointCount (m′ .words) (m′ .numbers))) round-same
+      n (state rows (m .bodies)) (state rows′ (m′ .bodies))
+      (record { ok = (refl, refl); ok′ = (refl, refl); rows = λ j t r. each-row rows rows′ same j t; vels = agree .velocities })
+
   pub sweep-same : (n : ℕ) → RowsSame set m m′ rows rows′ →
       let st = rounds (sweepRound (m .words) (jointCount (m .words) (m .numbers))) n (state rows (m .bodies)) in
       let st′ = rounds (sweepRound (m′ .words) (jointCount (m′ .words) (m′ .numbers))) n (state rows′ (m′ .bodies)) in
       VelsSame set (st .bodies) (st′ .bodies) × RowsSame set m m′ (st .rows) (st′ .rows)
   unfolding SweepAlike sweepRows sweepRow
   sweep-same n same =
-      let k =
-      rounds-together SweepAlike (sweepRound (m .words) (jointCount (m .words) (m .numbers))) (sweepRound (m′ .words) (jointCount (m′ .words) (m′ .numbers))) round-same
-      n (state rows (m .bodies)) (state rows′ (m′ .bodies))
-      (record { ok = (refl, refl); ok′ = (refl, refl); rows = λ j t r. each-row rows rows′ same j t; vels = agree .velocities }) in
+      let k = rounds-same n same in
       (k .vels, whole-rows _ _ (λ j t. k .rows j t (λ h. tt)))
+
+  -- A joint of the set's counts the same motors at a bound, from its rows and velocities: before each row's turn these are the same in both.
+  module _ (j : ℕ) (t : OfSet set m j) where
+    abbrev first : ℕ
+    first = rowsBefore (m .words) j
+
+    abbrev first′ : ℕ
+    first′ = rowsBefore (m′ .words) j
+
+    -- before each row's turn
+    SweepMatched : State → State → Type 0
+    unfolding sweepRows sweepRow
+    SweepMatched = Matched (sweepRows set m ok here rows room) (sweepRows set m′ ok′ here′ rows′ room′) IsWorld (λ b e st st′. vel-still b e st st′) j (parted .joint j t)
+
+    matched-side : (i : ℕ) (st st′ : State) → i < rowCount (m .words) j → SweepMatched st st′
+        → sweepSide (first + i) (body1At (m .words) j) (body2At (m .words) j) st ≡ sweepSide (first′ + i) (body1At (m .words) j) (body2At (m .words) j) st′
+    unfolding SweepMatched sweepRows
+    matched-side i st st′ g k =
+        sides-same st st′ (first + i) (first′ + i) (body1At (m .words) j) (body2At (m .words) j) (k .alike .rows i g) (k .alike .first) (k .alike .second)
+
+    matched-count : (ids : List WritebackId) (i : ℕ) (st st′ : State) → i + length ids ≤ rowCount (m .words) j → SweepMatched st st′
+        → countIds ids (first + i) (body1At (m .words) j) (body2At (m .words) j) st ≡ countIds ids (first′ + i) (body1At (m .words) j) (body2At (m .words) j) st′
+    unfolding SweepMatched sweepRows countIds
+    matched-count [] i st st′ h k = refl
+    matched-count (id ∷ ids) i st st′ h k =
+        let g : i < rowCount (m .words) j = omega arith in
+        let b1 : ℕ = body1At (m .words) j in
+        let b2 : ℕ = body2At (m .words) j in
+        let next =
+        matched-count ids (i + 1) (sweepRow (first + i) b1 b2 st) (sweepRow (first′ + i) b1 b2 st′) (omega arith)
+        (row-together (sweepRows set m ok here rows room) (sweepRows set m′ ok′ here′ rows′ room′) IsWorld (λ b e st st′. vel-still b e st st′) j (parted .joint j t) i g st st′ k) in
+        rw (matched-side i st st′ g k, add-assoc first i 1, add-assoc first′ i 1, next)
+
+    matched-one : (st st′ : State) → SweepMatched st st′ → countOne (m .words) j st ≡ countOne (m′ .words) j st′
+    unfolding countOne rowCount
+    matched-one st st′ k =
+        let same = matched-count (jointIds (m .words) j) 0 st st′ (omega arith) k in
+        rw (← (same-ids m m′ j (agree .contents j t)), ← (agree .bodies1 j t), ← (agree .bodies2 j t)) (rw (add-zero, add-zero) at same)
+
+    -- where the round reaches it
+    counted-same : (st st′ : State) → SweepAlike st st′
+        → countOne (m .words) j (sweepRound (m .words) j st) ≡ countOne (m′ .words) j (sweepRound (m′ .words) j st′)
+    unfolding SweepAlike SweepMatched
+    counted-same st st′ k =
+        let w = sweepRows set m ok here rows room in
+        let w′ = sweepRows set m′ ok′ here′ rows′ room′ in
+        let e =
+        until-alike (sideOf w) (sideOf w′) (InSet set) IsWorld (OfSet set m) Unit parted (λ b e st st′. vel-still b e st st′)
+        (λ j t. rows-together w w′ IsWorld (λ b e st st′. vel-still b e st st′) j (parted .joint j t)) j t st st′ k .holds in
+        let q = parted .joint j t in
+        rw (sweep-all set m ok here rows room, sweep-all set m′ ok′ here′ rows′ room′)
+        (matched-one _ _
+        (record {
+          ok = e .ok;
+          ok′ = e .ok′;
+          alike = record {
+            rows = e .rows j t (λ _. tt);
+            first = ⊎-elim (e .vels (body1At (m .words) j)) (λ f. still (body1At (m .words) j) f _ _) (q .inside1);
+            second = ⊎-elim (e .vels (body2At (m .words) j)) (λ f. still (body2At (m .words) j) f _ _) (q .inside2);
+          };
+        }))
+
+    pub counts-same : (n : ℕ) → RowsSame set m m′ rows rows′
+        → getD (sweepCounts (m .words) (jointCount (m .words) (m .numbers)) n (state rows (m .bodies))) j 0
+        ≡ getD (sweepCounts (m′ .words) (jointCount (m′ .words) (m′ .numbers)) n (state rows′ (m′ .bodies))) j 0
+    unfolding sweepCounts
+    counts-same zero same = getD-replicate (jointCount (m .words) (m .numbers)) j 0 0 (t .there) ∙ sym (getD-replicate (jointCount (m′ .words) (m′ .numbers)) j 0 0 (agree .joints j t .there))
+    counts-same (suc n) same =
+        count-at (m .words) (jointCount (m .words) (m .numbers)) j _ (t .there) ∙ counted-same _ _ (rounds-same n same)
+        ∙ sym (count-at (m′ .words) (jointCount (m′ .words) (m′ .numbers)) j _ (agree .joints j t .there))
 
   -- a joint of the set's: its last impulses are the same where its rows are, and so are the rows that a build makes of it
   module _ (j : ℕ) (t : OfSet set m j) where

@@ -238,6 +238,16 @@ module _ {S Row Vel : Type 0} {l l′ : Layout} (a : Side S Row Vel l) (a′ : S
         passed j f s (a′ .work j s′) (outside′ j f j s s′ h′ k);
   }
 
+  -- before the turn of one of the set's joints
+  pub until-alike : (j : ℕ) → ofSet j → (s s′ : S) → AlikeAt 0 s s′ → Ended AlikeAt (a .work) (a′ .work) j j (eachJoint (a .work) 0 j s) (eachJoint (a′ .work) 0 j s′)
+  until-alike j m s s′ k =
+      each-apart AlikeAt (a .work) (a′ .work) j j s s′
+      (record {
+        both = λ q s s′ h h′. turns .both q s s′ (omega (arith, p .joint j m .there)) (omega (arith, p .joint j m .there′));
+        left = λ q s s′ h g. absurd (omega arith);
+        right = λ q s s′ g h′. absurd (omega arith);
+      }) k
+
   -- The work on all joints: the set's velocities stay the same, and so do its joints' rows, or they become the same where they were not read.
   pub joints-alike : (s s′ : S) → AlikeAt 0 s s′ → Alike a a′ set ofSet Unit 0 (eachJoint (a .work) 0 (l .joints) s) (eachJoint (a′ .work) 0 (l′ .joints) s′)
   joints-alike s s′ k =
@@ -323,7 +333,7 @@ module _ {S Row Vel : Type 0} {act : Row → Vel → Vel → Acted Row Vel} {set
       same : act (w .row s k) (w .vel s b1) (w .vel s b2) ≡ act (w′ .row s′ k′) (w′ .vel s′ b1) (w′ .vel s′ b2)
       same = rw (m .alike .rows i h, m .alike .first, m .alike .second)
 
-      row-together : Matched (w .work b1 b2 k s) (w′ .work b1 b2 k′ s′)
+      pub row-together : Matched (w .work b1 b2 k s) (w′ .work b1 b2 k′ s′)
       row-together = record {
         ok = w .kept b1 b2 k s (m .ok);
         ok′ = w′ .kept b1 b2 k′ s′ (m .ok′);

@@ -36,7 +36,7 @@ use Rattle.rows.proofs.RowIdsLaws.{no-ids}
 use Rattle.rows.proofs.RowArrays.{rowsArray-len, rowsArray-rows, rowIdsArray-len, rowIdsArray-id, length-builderUpdateOf}
 use Rattle.model.specs.Layout.{rowWidth}
 use Rattle.model.specs.Store.{rowAt, putRow, velAt, putVel, solverPoseAt, jointAt, masksAt, body1At, body2At, putSeed, enabledAt}
-use Rattle.model.specs.JointRows.{State, state, jointIds, rowCount, rowsList, putRows, buildJoint, impulsesAt, sweepRow, sweepJoint, warmstartRow, warmstartJoint, removeBiasJoint, writeBackIds, rowMasksAt, builtRows}
+use Rattle.model.specs.JointRows.{State, state, jointIds, rowCount, rowsList, putRows, buildJoint, impulsesAt, sweepRow, sweepSide, sweepJoint, warmstartRow, warmstartJoint, removeBiasJoint, writeBackIds, rowMasksAt, builtRows}
 use Rattle.model.proofs.Tests.{by-cases}
 
 pub less : (n i : ℕ) → i < n → n - i ≡ suc (n - (i + 1))
@@ -184,6 +184,18 @@ pub sweep-steps : (rows bodies : List Float) (k b1 b2 : ℕ) {row : JointConstra
     → state rows′ bodies″ ≡ sweepRow k b1 b2 (state rows bodies)
 unfolding sweepRow
 sweep-steps rows bodies k b1 b2 r u v t s b d = cc
+
+-- and which bound it met
+pub sweep-side : (rows bodies : List Float) (k b1 b2 : ℕ) {row : JointConstraint} {v1 v2 : SolverVel} {t : Solved}
+    → row ≡ rowAt rows k → v1 ≡ velAt bodies b1 → v2 ≡ velAt bodies b2 → t ≡ stepOf row v1 v2 → t .side ≡ sweepSide k b1 b2 (state rows bodies)
+unfolding sweepSide
+sweep-side rows bodies k b1 b2 r u v t = cc
+
+-- it is the same where the row and both velocities are
+pub sides-same : (st st′ : State) (k k′ b1 b2 : ℕ) → rowAt (st .rows) k ≡ rowAt (st′ .rows) k′ → velAt (st .bodies) b1 ≡ velAt (st′ .bodies) b1
+    → velAt (st .bodies) b2 ≡ velAt (st′ .bodies) b2 → sweepSide k b1 b2 st ≡ sweepSide k′ b1 b2 st′
+unfolding sweepSide
+sides-same st st′ k k′ b1 b2 r u v = cc
 
 -- the rows left at turn i are row k + i and those left at turn i + 1
 pub sweep-turn : (n i k b1 b2 : ℕ) (st : State) → i < n → sweepJoint (k + i) (n - i) b1 b2 st ≡ sweepJoint (k + (i + 1)) (n - (i + 1)) b1 b2 (sweepRow (k + i) b1 b2 st)

@@ -3,6 +3,7 @@ pub mod Strided
 pub mod StoreLaws
 pub mod WritebackLaws
 pub mod JointRowsLaws
+pub mod MotorCounts
 pub mod CountLaws
 pub mod SingleRecordsLaws
 pub mod RefusalLaws

@@ -19,7 +19,7 @@ use Rattle.model.specs.Store.{world, Present, body1At, body2At, enabledA
 use Rattle.model.specs.Model.{Model, bodyCount, Sound, Room}
 use Rattle.model.specs.Calls.{Call, Answer, Outcome, outcome, table, grantedOf, run, refusalOf}
 use Rattle.model.specs.Calls.Call.{load}
-use Rattle.model.specs.Calls.Answer.{granted, total, rowsRead, velocityRead, refused}
+use Rattle.model.specs.Calls.Answer.{granted, total, rowsRead, velocityRead, swept, refused}
 use Rattle.model.specs.Traces.{Study, Position, left, handed, AtEach, Returned}
 use Rattle.model.specs.Studies.{planar, Loaded, Enough, Ties, Agree, MakesRows, NamesAt, Names, withoutTotal, Compared, HasRow}
 use Rattle.model.proofs.JointRowsLaws.{ids-disabled}
@@ -91,13 +91,14 @@ nothing-named ps s s′ n j id h =
 
 -- ---- answers
 
--- an answer that is no build's total is compared whole
-pub whole-answer : (a : Answer) → ((n : ℕ) → a ≢ total n) → withoutTotal a ≡ a
-whole-answer granted h = refl
-whole-answer (total n) h = absurd (h n refl)
-whole-answer (rowsRead ids rows) h = refl
-whole-answer (velocityRead v) h = refl
-whole-answer (refused k) h = refl
+-- an answer that is no build's total and no sweep's counts is compared whole, and of counts each joint's
+pub whole-answer : (a : Answer) → ((n : ℕ) → a ≢ total n) → ((cs : List ℕ) → a ≢ swept cs) → withoutTotal a ≡ a
+whole-answer granted h g = refl
+whole-answer (total n) h g = absurd (h n refl)
+whole-answer (rowsRead ids rows) h g = refl
+whole-answer (velocityRead v) h g = refl
+whole-answer (swept counts) h g = absurd (g counts refl)
+whole-answer (refused k) h g = refl
 
 -- a joint that is not enabled ties nothing: bodies between which there is no other may be in separate sets
 pub disabled-ties-nothing : (m : Model) (j : ℕ) → isEnabled (enabledAt (m .words) j) ≡ false → Ties m j → ⊥

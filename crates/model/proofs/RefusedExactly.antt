@@ -13,7 +13,7 @@ use Rattle.model.specs.Model.{Model}
 use Rattle.model.specs.Refusals.{refusal}
 use Rattle.model.specs.Calls.{Call, Answer, Outcome, outcome, refusalOf, rulesOf, grantedOf, run}
 use Rattle.model.specs.Calls.Call.{load, place, build, warmStart, sweep, removeBias, writeBack, readRows, readVelocity, setTargets}
-use Rattle.model.specs.Calls.Answer.{granted, total, rowsRead, velocityRead, refused}
+use Rattle.model.specs.Calls.Answer.{granted, total, rowsRead, velocityRead, swept, refused}
 use Rattle.model.proofs.Tests.{by-cases}
 use Rattle.model.proofs.RefusalLaws.{First, Hold, refused-first, first-refused, all-hold, hold-granted, call-numbered}
 use Rattle.model.proofs.CallLaws.{run-granted, run-refused}
@@ -24,6 +24,7 @@ isRefusal granted = false
 isRefusal (total n) = false
 isRefusal (rowsRead ids rows) = false
 isRefusal (velocityRead v) = false
+isRefusal (swept counts) = false
 isRefusal (refused k) = true
 
 -- and what is none has no number
@@ -32,6 +33,7 @@ no-number granted e = refl
 no-number (total n) e = refl
 no-number (rowsRead ids rows) e = refl
 no-number (velocityRead v) e = refl
+no-number (swept counts) e = refl
 no-number (refused k) e = absurd (false≢true (sym e))
 
 module _ (m : Model) (rows : List Float) where

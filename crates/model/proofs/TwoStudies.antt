@@ -32,7 +32,7 @@ use Rattle.model.specs.Calls.Call.{load, place, build, warmStart, sweep,
 use Rattle.model.specs.Calls.Answer.{granted, velocityRead, refused}
 use Rattle.model.specs.Calls.Asked.{nothing, body, joint, records}
 use Rattle.model.specs.Traces.{Study, Position, left, handed, AtEach, after, after′, Returned}
-use Rattle.model.specs.Studies.{planar, Loaded, Enough, Agree, MakesRows, NamesAt, Names, RefusedAlike, withoutTotal, AboutSet, SameAnswer, Shared, Compared, SameNumbers, TwoStudies, SameAsked, RefusedWhereAsked, SameTable, TablesAlike}
+use Rattle.model.specs.Studies.{planar, Loaded, Enough, OfSet, Agree, MakesRows, NamesAt, Names, RefusedAlike, withoutTotal, countOf, AboutSet, SameAnswer, Shared, Compared, SameNumbers, TwoStudies, SameAsked, RefusedWhereAsked, SameTable, TablesAlike}
 use Rattle.model.proofs.StoreLaws.{withPose, solverPoseAt-cong, solverPoseAt-putPose, solverPoseAt-putPose-other, velAt-putPose, length-putPose}
 use Rattle.model.proofs.CountLaws.{body-there, joint-numbers}
 use Rattle.model.proofs.MotorTargetLaws.{table-size, records-named}
@@ -45,7 +45,7 @@ use Rattle.model.proofs.SameStudies.{RowsSame, VelsSame}
 use Rattle.model.proofs.ClosedSet.{same-ids}
 use Rattle.model.proofs.Agrees.{of-set-before, agree-after}
 use Rattle.model.proofs.WriteBackLocality.{write-back-agrees}
-use Rattle.model.proofs.CallLocality.{warm-start-same, sweep-same, bias-same, build-same}
+use Rattle.model.proofs.CallLocality.{warm-start-same, sweep-same, counts-same, bias-same, build-same}
 use Rattle.model.proofs.SameRefusals.{about-asked, same-refusal}
 use Rattle.model.proofs.TraceLaws.{each-map, each-both, each-of-some, Kept, kept-through}
 
@@ -339,6 +339,38 @@ module _ (set : ℕ → Bool) {named : ℕ → WritebackId → Type 0} (m m′ :
   turn (readVelocity i) t r d = read-velocity-next i
   turn (setTargets bytes) t r d = alike (setTargets bytes) t r (λ z z′. targets-next bytes z z′)
 
+  -- a call that counts nothing
+  module _ (j : ℕ) where
+    counts-none : (c : Call) (m : Model) (rows : List Float) → countOf j (grantedOf c m rows .answer) ≡ 0 → countOf j (run c m rows .answer) ≡ 0
+    counts-none c m rows e = run-cases c m rows (λ o. countOf j (o .answer) ≡ 0) (λ _. e) refl
+
+    both-none : (c : Call) → countOf j (grantedOf c m rows .answer) ≡ 0 → countOf j (grantedOf c m′ rows′ .answer) ≡ 0
+        → countOf j (run c m rows .answer) ≡ countOf j (run c m′ rows′ .answer)
+    both-none c e e′ = counts-none c m rows e ∙ sym (counts-none c m′ rows′ e′)
+
+    -- what a call counts for a joint of the set's is the same
+    counts-alike : (c : Call) → (table c .rowStorage ≡ true → Room m rows × Room m′ rows′) → OfSet set m j → countOf j (run c m rows .answer) ≡ countOf j (run c m′ rows′ .answer)
+    unfolding grantedOf
+    counts-alike (sweep n) r t =
+        let e = same-refusal m m′ (b .held) (b .held′) (b .mark) rows rows′ (sweep n) tt r in
+        by-cases (eqb (refusal (rulesOf (sweep n) m rows)) 0)
+        (λ d.
+        let z = eqb-true (refusal (rulesOf (sweep n) m rows)) 0 d in
+        rw (← (run-granted (sweep n) m rows z), ← (run-granted (sweep n) m′ rows′ (sym e ∙ z)))
+        (counts-same set m m′ (b .agree) (sound-held m (b .held)) (sound-held m′ (b .held′)) rows rows′ (r refl .0) (r refl .1) j t n (b .same-rows (built-sweep m rows n z))))
+        (λ d.
+        let x = eqb-false (refusal (rulesOf (sweep n) m rows)) 0 d in
+        rw (← (run-refused (sweep n) m rows refl x), ← (run-refused (sweep n) m′ rows′ refl (λ z. x (e ∙ z)))))
+    counts-alike load r t = both-none load refl refl
+    counts-alike (place i pose) r t = both-none (place i pose) refl refl
+    counts-alike (build warm substep) r t = both-none (build warm substep) refl refl
+    counts-alike warmStart r t = both-none warmStart refl refl
+    counts-alike removeBias r t = both-none removeBias refl refl
+    counts-alike writeBack r t = both-none writeBack refl refl
+    counts-alike (readRows i) r t = both-none (readRows i) refl refl
+    counts-alike (readVelocity i) r t = both-none (readVelocity i) refl refl
+    counts-alike (setTargets bytes) r t = both-none (setTargets bytes) refl refl
+
   -- it is refused alike where both models have what it asks for, or neither has it
   refused-alike : (c : Call) → (table c .rowStorage ≡ true → Room m rows × Room m′ rows′) → SameAsked m m′ (table c .asked)
       → refusalOf (run c m rows .answer) ≡ refusalOf (run c m′ rows′ .answer)
@@ -364,7 +396,7 @@ module _ (set : ℕ → Bool) (named : ℕ → WritebackId → Type 0) where
       let rows = handed s (p .lent) in
       let rows′ = handed s′ (p .lent′) in
       let x = turn set m m′ rows rows′ b c (a .1 .0) (a .0) (λ k j id i. a .1 .1 (j, id) (inl (rw (ret .one) k, i))) in (
-        (rw (ret .one, ret .other) (refused-alike set m m′ rows rows′ b c (a .0)), rw (ret .one, ret .other) (x .answer)),
+        (rw (ret .one, ret .other) (refused-alike set m m′ rows rows′ b c (a .0)), (rw (ret .one, ret .other) (x .answer), rw (ret .one, ret .other) (λ j t. counts-alike set m m′ rows rows′ b j c (a .0) t))),
         rw (ret .one, ret .other)
             (record {
               held = run-holds c m rows (b .held);

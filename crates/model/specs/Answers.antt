@@ -1,9 +1,10 @@
 -- The answers of the program's calls as document 01 has them: for each case of an enum its number and values.
 use mathlib.Core.Path.{_≡_}
+use Prim.Native.Nat.{ℕ}
 use mathlib.Core.List.{List, [], map}
 use lib.ListN.{take}
 use lib.Ieee.{Float}
-use Rattle.rows.specs.RowIds.{rowIdsArray, noMasks}
+use Rattle.rows.specs.RowIds.{rowIdsArray, noMasks, filled}
 use Rattle.rows.specs.Update.{rowsArray}
 use Rattle.rows.specs.declared.generic_joint.Masks.{Masks}
 use Rattle.rows.specs.declared.row_ids.RowId.{RowId}
@@ -12,13 +13,14 @@ use Rattle.rows.specs.declared.joint_velocity_constraint.Rows.{Rows}
 use Rattle.rows.specs.declared.joint_velocity_constraint.WritebackId.{WritebackId}
 use Rattle.model.specs.JointRows.{rowsList}
 use Rattle.model.specs.Calls.{Answer, Outcome}
-use Rattle.model.specs.Calls.Answer.{granted, total, rowsRead, velocityRead, refused}
+use Rattle.model.specs.Calls.Answer.{granted, total, rowsRead, velocityRead, swept, refused}
 use Rattle.model.specs.declared.header.Header.{Header}
 use Rattle.model.specs.declared.calls.Plain.{Plain}
 use Rattle.model.specs.declared.calls.LoadAnswer.{LoadAnswer}
 use Rattle.model.specs.declared.calls.BuildAnswer.{BuildAnswer}
 use Rattle.model.specs.declared.calls.RowsAnswer.{RowsAnswer}
 use Rattle.model.specs.declared.calls.VelocityAnswer.{VelocityAnswer}
+use Rattle.model.specs.declared.calls.SweepAnswer.{SweepAnswer}
 
 -- a call that is handed no row storage: the same whatever storage there is
 abbrev pub WithoutRows : (List Float → Outcome) → (List Float → Outcome) → Type 0
@@ -49,6 +51,27 @@ abbrev pub velocityAnswer : VelocityAnswer → Answer
 velocityAnswer (VelocityAnswer.Velocity v) = velocityRead v
 velocityAnswer (VelocityAnswer.Refused k) = refused k
 
+-- a sweep's counts, one for each of so many joints, held in an array of 128
+abbrev pub countsAnswer : ℕ → Plain → List ℕ → Answer
+countsAnswer joints Plain.Granted counts = swept (take joints counts)
+countsAnswer joints (Plain.Refused k) counts = refused k
+
+abbrev pub sweepAnswer : ℕ → SweepAnswer → Answer
+sweepAnswer joints r = countsAnswer joints (r .answer) (r .counts)
+
+-- Past the joints the array holds zeros, and beside a refusal zeros alone.
+abbrev pub sweptAs : Plain → List ℕ → SweepAnswer
+sweptAs a counts = record { answer = a; counts = filled 128 0 counts }
+
+unfoldable pub sweepAnswerOf : Answer → SweepAnswer
+sweepAnswerOf (swept counts) = sweptAs Plain.Granted counts
+sweepAnswerOf (refused k) = sweptAs (Plain.Refused k) []
+-- a sweep answers none of these
+sweepAnswerOf granted = sweptAs Plain.Granted []
+sweepAnswerOf (total n) = sweptAs Plain.Granted []
+sweepAnswerOf (rowsRead ids rows) = sweptAs Plain.Granted []
+sweepAnswerOf (velocityRead v) = sweptAs Plain.Granted []
+
 -- a row read's ids and rows, held in arrays of six with a count
 abbrev pub idsList : RowIds → List WritebackId
 idsList r = map (λ (i : RowId). i .id) (take (r .len) (r .ids))
@@ -71,3 +94,4 @@ rowsAnswerOf masks (refused k) = noRows (Plain.Refused k)
 rowsAnswerOf masks granted = noRows Plain.Granted
 rowsAnswerOf masks (total n) = noRows Plain.Granted
 rowsAnswerOf masks (velocityRead v) = noRows Plain.Granted
+rowsAnswerOf masks (swept counts) = noRows Plain.Granted

@@ -12,7 +12,8 @@ use Rattle.rows.specs.declared.joint_velocity_constraint.JointConstraint.{Joint
 use Rattle.rows.specs.declared.joint_velocity_constraint.SolverVel.{SolverVel}
 use Rattle.rows.specs.declared.joint_velocity_constraint.WritebackId.{WritebackId}
 use Rattle.model.specs.Store.{rowAt, velAt, putPose, body1At, body2At}
-use Rattle.model.specs.JointRows.{State, state, jointIds, rowCount, buildJoint, sweepJoint, warmstartJoint, removeBiasJoint, writeBackJoint}
+use lib.ListN.{set, replicate}
+use Rattle.model.specs.JointRows.{State, state, jointIds, rowCount, countIds, buildJoint, sweepJoint, warmstartJoint, removeBiasJoint, writeBackJoint}
 use Rattle.model.specs.Model.{Model, withMark, withBodies, withNumbers, jointCount, rowsBefore, totalRows}
 use Rattle.model.specs.Refusals.{Rule, refusal, finitePose, finiteWarm, modelRules, storageRule, sweepRule, builtRule, seedsRule, bodyRule, jointRule, tableRules}
 use Rattle.model.specs.MotorTargets.{setTable}
@@ -58,6 +59,36 @@ rowsOf words rows j = rowsFrom rows (rowsBefore words j) (rowCount words j)
 unfoldable pub sweepRound : List ℕ → ℕ → State → State
 sweepRound words joints st = eachJoint (sweepOne words) 0 joints st
 
+-- ---- motors at a bound (document 02, R-9)
+
+-- how many of joint j's motor rows a round finds low or high, where it reaches the joint in state st
+unfoldable pub countOne : List ℕ → ℕ → State → ℕ
+countOne words j st = countIds (jointIds words j) (rowsBefore words j) (body1At words j) (body2At words j) st
+
+-- those of n joints from joint j on, each reached as the joints before it leave the state
+unfoldable pub countRound : List ℕ → ℕ → ℕ → State → List ℕ
+countRound words j zero st = []
+countRound words j (suc n) st = countOne words j st ∷ countRound words (j + 1) n (sweepOne words j st)
+
+-- those of the last of n rounds; no round gives zero for every joint
+unfoldable pub sweepCounts : List ℕ → ℕ → ℕ → State → List ℕ
+sweepCounts words joints zero st = replicate joints 0
+sweepCounts words joints (suc n) st = countRound words 0 joints (rounds (sweepRound words joints) n st)
+
+-- The same as the program counts: every round writes each joint's count over the last round's. (`last-counts` in proofs/MotorCounts.antt: what stays is the same.)
+pub record Counted : Type 0 where
+  pub state : State
+  pub counts : List ℕ
+
+abbrev pub counted : State → List ℕ → Counted
+counted st cs = record { state = st; counts = cs }
+
+unfoldable pub countedOne : List ℕ → ℕ → Counted → Counted
+countedOne words j s = counted (sweepOne words j (s .state)) (set (s .counts) j (countOne words j (s .state)))
+
+unfoldable pub countedRound : List ℕ → ℕ → Counted → Counted
+countedRound words joints s = eachJoint (countedOne words) 0 joints s
+
 -- ---- the calls
 
 -- a call with its arguments beside the model and the row storage
@@ -86,6 +117,8 @@ pub data Answer : Type 0 where
   -- a joint's ids and rows, in order
   rowsRead : List WritebackId → List JointConstraint → Answer
   velocityRead : SolverVel → Answer
+  -- for each joint, how many of its motor rows a sweep's last round found low or high
+  swept : List ℕ → Answer
   refused : ℕ → Answer
 
 -- the number of a refusal; 0 of what is granted
@@ -94,6 +127,7 @@ refusalOf granted = 0
 refusalOf (total n) = 0
 refusalOf (rowsRead ids rows) = 0
 refusalOf (velocityRead v) = 0
+refusalOf (swept counts) = 0
 refusalOf (refused k) = k
 
 -- what a call answers, and how it leaves the model and the row storage
@@ -184,8 +218,9 @@ grantedOf (build warm substep) m rows =
 grantedOf warmStart m rows =
     outcome granted (withBodies m (eachJoint (warmstartOne (m .words) rows) 0 (jointCount (m .words) (m .numbers)) (m .bodies))) rows
 grantedOf (sweep n) m rows =
-    let st = rounds (sweepRound (m .words) (jointCount (m .words) (m .numbers))) n (state rows (m .bodies)) in
-    outcome granted (withBodies m (st .bodies)) (st .rows)
+    let joints = jointCount (m .words) (m .numbers) in
+    let st = rounds (sweepRound (m .words) joints) n (state rows (m .bodies)) in
+    outcome (swept (sweepCounts (m .words) joints n (state rows (m .bodies)))) (withBodies m (st .bodies)) (st .rows)
 grantedOf removeBias m rows = outcome granted m (eachJoint (removeBiasOne (m .words)) 0 (jointCount (m .words) (m .numbers)) rows)
 grantedOf writeBack m rows =
     outcome granted (withNumbers m (eachJoint (writeBackOne rows (m .words)) 0 (jointCount (m .words) (m .numbers)) (m .numbers))) rows

@@ -1,11 +1,14 @@
 -- One joint's rows in storage: made, stepped, warm started, freed of their bias, written back. A joint's rows stand one after the other, from row `first` on.
-use Prim.Native.Nat.{ℕ, zero, suc, _+_}
+use Prim.Native.Nat.{ℕ, zero, suc, _+_, _-_}
 use mathlib.Core.Bool.{cond}
+use lib.Dec.{ltb}
 use mathlib.Core.List.{List, [], _∷_}
 use lib.ListN.{length, take}
 use lib.Ieee.{Float}
 use Rattle.floats.specs.Operators.{bits}
-use Rattle.rows.specs.RowIds.{noMasks, rowIds, filled}
+use Rattle.floats.specs.declared.scalar.Side.{Side}
+use Rattle.floats.specs.declared.scalar.Side.the-variants.{Low, High, Inside}
+use Rattle.rows.specs.RowIds.{noMasks, groupOne, rowIds, filled}
 use Rattle.rows.specs.Step.{stepOf, warmstartOf, removeBiasOf}
 use Rattle.rows.specs.GenericJoint.{isEnabled}
 use Rattle.rows.specs.Builder.{builderUpdateOf}
@@ -14,6 +17,7 @@ use Rattle.rows.specs.declared.joint_constraint_builder.Warmstart.{Warmstart}
 use Rattle.rows.specs.declared.generic_joint.Masks.{Masks}
 use Rattle.rows.specs.declared.joint_velocity_constraint.JointConstraint.{JointConstraint}
 use Rattle.rows.specs.declared.joint_velocity_constraint.WritebackId.{WritebackId}
+use Rattle.rows.specs.declared.joint_velocity_constraint.WritebackId.the-variants.{Dof, Limit, Motor}
 use Rattle.rows.specs.declared.joint_velocity_constraint.Rows.{Rows}
 use Rattle.model.specs.Store.{rowAt, putRow, velAt, putVel, solverPoseAt, jointAt, masksAt, enabledAt, body1At, body2At, putSeed}
 
@@ -36,6 +40,10 @@ jointIds words j = rowIds 2 1 (rowMasksAt words j)
 -- and their number
 unfoldable pub rowCount : List ℕ → ℕ → ℕ
 rowCount words j = length (jointIds words j)
+
+-- how many of them are motors', the first ones
+unfoldable pub motorCount : List ℕ → ℕ → ℕ
+motorCount words j = length (groupOne 2 1 (rowMasksAt words j))
 
 -- ---- making rows
 
@@ -72,6 +80,35 @@ sweepRow k b1 b2 st =
 unfoldable pub sweepJoint : ℕ → ℕ → ℕ → ℕ → State → State
 sweepJoint k zero b1 b2 st = st
 sweepJoint k (suc n) b1 b2 st = sweepJoint (k + 1) n b1 b2 (sweepRow k b1 b2 st)
+
+-- which bound row k's step between bodies b1 and b2 meets
+unfoldable pub sweepSide : ℕ → ℕ → ℕ → State → Side
+sweepSide k b1 b2 st = stepOf (rowAt (st .rows) k) (velAt (st .bodies) b1) (velAt (st .bodies) b2) .side
+
+-- 1 where a step says low or high
+unfoldable pub atBound : Side → ℕ
+atBound Low = 1
+atBound High = 1
+atBound Inside = 0
+
+-- and that of a motor's row
+unfoldable pub motorAtBound : WritebackId → Side → ℕ
+motorAtBound (Motor i) side = atBound side
+motorAtBound (Dof i) side = 0
+motorAtBound (Limit i) side = 0
+
+-- of the rows from row k on, which have these ids: how many are a motor's whose step says low or high, each row stepped in turn
+unfoldable pub countIds : List WritebackId → ℕ → ℕ → ℕ → State → ℕ
+countIds [] k b1 b2 st = 0
+countIds (i ∷ is) k b1 b2 st = motorAtBound i (sweepSide k b1 b2 st) + countIds is (k + 1) b1 b2 (sweepRow k b1 b2 st)
+
+-- The same as the program counts: of n rows from row k on, the first `motors` alone. (`count-by-number` in proofs/MotorCounts.antt: it is the same.)
+unfoldable pub countRow : ℕ → ℕ → Side → ℕ
+countRow i motors side = cond (ltb i motors) (atBound side) 0
+
+unfoldable pub countRows : ℕ → ℕ → ℕ → ℕ → ℕ → State → ℕ
+countRows motors k zero b1 b2 st = 0
+countRows motors k (suc n) b1 b2 st = countRow 0 motors (sweepSide k b1 b2 st) + countRows (motors - 1) (k + 1) n b1 b2 (sweepRow k b1 b2 st)
 
 -- row k's warm start between bodies b1 and b2
 unfoldable pub warmstartRow : List Float → ℕ → ℕ → ℕ → List Float → List Float

@@ -5,6 +5,7 @@ use mathlib.Core.Logic.{_⊎_, _≢_}
 use mathlib.Core.Bool.{Bool, true}
 use mathlib.Core.List.{List, List·Memᴰ}
 use lib.Dec.{ltb}
+use lib.ListN.{getD}
 use lib.Ieee.{Float}
 use Rattle.rows.specs.GenericJoint.{isEnabled}
 use Rattle.rows.specs.Named.{SameNamed}
@@ -16,7 +17,7 @@ use Rattle.model.specs.Model.{Model, bodyCount, jointCount, Room}
 use Rattle.model.specs.Refusals.{firstFault}
 use Rattle.model.specs.Calls.{Call, Answer, Outcome, Asked, outcome, table, run, refusalOf, rowsOf}
 use Rattle.model.specs.Calls.Call.{load}
-use Rattle.model.specs.Calls.Answer.{granted, total, rowsRead, velocityRead, refused}
+use Rattle.model.specs.Calls.Answer.{granted, total, rowsRead, velocityRead, swept, refused}
 use Rattle.model.specs.Calls.Asked.{nothing, body, joint, records}
 use Rattle.model.specs.Traces.{Machine, Study, Position, handed, AtEach, AtSome, after, after′, Returned}
 
@@ -107,13 +108,23 @@ Names ps s s′ j id = AtSome (NamesAt j id) ps s s′
 abbrev pub RefusedAlike : Position planar → Study planar → Study planar → Type 0
 RefusedAlike p s s′ = refusalOf (p .outcome .answer) ≡ refusalOf (p .outcome′ .answer)
 
--- a build's total may differ
+-- a build's total may differ, and so may a sweep's counts of joints outside the set
 abbrev pub withoutTotal : Answer → Answer
 withoutTotal granted = granted
 withoutTotal (total n) = granted
 withoutTotal (rowsRead ids rows) = rowsRead ids rows
 withoutTotal (velocityRead v) = velocityRead v
+withoutTotal (swept counts) = granted
 withoutTotal (refused k) = refused k
+
+-- what an answer counts for joint j: a sweep's count of it
+abbrev pub countOf : ℕ → Answer → ℕ
+countOf j granted = 0
+countOf j (total n) = 0
+countOf j (rowsRead ids rows) = 0
+countOf j (velocityRead v) = 0
+countOf j (swept counts) = getD counts j 0
+countOf j (refused k) = 0
 
 -- a call that asks for a body or a joint by index asks for one of the set's; a table's answer is about no single joint
 abbrev pub AboutSet : (ℕ → Bool) → Model → Asked → Type 0
@@ -124,7 +135,8 @@ AboutSet set m (records bytes) = Unit
 
 -- what a call answers about the set's joints and bodies
 abbrev pub SameAnswer : (ℕ → Bool) → Position planar → Study planar → Study planar → Type 0
-SameAnswer set p s s′ = AboutSet set (s .model) (table (p .call) .asked) → withoutTotal (p .outcome .answer) ≡ withoutTotal (p .outcome′ .answer)
+SameAnswer set p s s′ = (AboutSet set (s .model) (table (p .call) .asked) → withoutTotal (p .outcome .answer) ≡ withoutTotal (p .outcome′ .answer))
+    × ((j : ℕ) → OfSet set (s .model) j → countOf j (p .outcome .answer) ≡ countOf j (p .outcome′ .answer))
 
 -- Shared after the list: the mark; while it says built, the rows of the set's joints, each whole and in order; the set's velocities; the stored impulses of its
 -- joints, save unnamed ones.

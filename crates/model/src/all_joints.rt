@@ -6,11 +6,12 @@ ghost use Rattle.rows.specs.Update.{rowsArray, blankRow};
 ghost use Rattle.model.specs.Layout.{rowWidth};
 ghost use Rattle.model.specs.JointRows.{state};
 ghost use Rattle.model.specs.Model.{modelOf, Sound, Room, jointCount, totalRows};
-ghost use Rattle.model.specs.Calls.{eachJoint, rounds, buildOne, warmstartOne, sweepOne, sweepRound, removeBiasOne, writeBackOne, rowsFrom};
+ghost use Rattle.model.specs.Calls.{eachJoint, rounds, buildOne, warmstartOne, counted, countedRound, removeBiasOne, writeBackOne, rowsFrom};
 use crate::counts::joint_count;
 use crate::header::Header;
 use crate::joint_rows::build_joint;
 use crate::joint_rows::count_at;
+use crate::joint_rows::motors_at;
 use crate::joint_rows::remove_bias_joint;
 use crate::joint_rows::sweep_joint;
 use crate::joint_rows::warmstart_joint;
@@ -83,17 +84,19 @@ pub fn warmstart_all(
     }
 }
 
-// One round of a sweep.
+// One round of a sweep, which stores each joint's count.
 pub fn sweep_round(
     header: Header,
     bodies: &mut [f32],
     words: &[u32],
     numbers: &[f32],
     rows: &mut [f32],
+    counts: &mut [u8],
 )
     requires { ⌜ Sound (modelOf header (now bodies) (now words) (now numbers)) ⌝ }
     requires { ⌜ Room (modelOf header (now bodies) (now words) (now numbers)) (now rows) ⌝ }
-    ensures { λ _. ⌜ state (now (rows .exit)) (now (bodies .exit)) ≡ sweepRound (now (words .entry)) (jointCount (now (words .entry)) (now (numbers .entry))) (state (now (rows .entry)) (now (bodies .entry))) ⌝ }
+    requires { ⌜ jointCount (now words) (now numbers) ≤ length (now counts) ⌝ }
+    ensures { λ _. ⌜ counted (state (now (rows .exit)) (now (bodies .exit))) (now (counts .exit)) ≡ countedRound (now (words .entry)) (jointCount (now (words .entry)) (now (numbers .entry))) (counted (state (now (rows .entry)) (now (bodies .entry))) (now (counts .entry))) ⌝ }
 {
     let n = joint_count(words, numbers);
     let mut j = 0usize;
@@ -102,7 +105,8 @@ pub fn sweep_round(
         let count = count_at(words, j);
         let b1 = body1_at(words, j);
         let b2 = body2_at(words, j);
-        sweep_joint(rows, first, count, bodies, b1, b2);
+        let motors = motors_at(words, j);
+        counts[j] = sweep_joint(rows, first, count, motors, bodies, b1, b2);
         first += count;
         j += 1;
     }
@@ -115,15 +119,17 @@ pub fn sweep_all(
     words: &[u32],
     numbers: &[f32],
     rows: &mut [f32],
+    counts: &mut [u8],
     n: u32,
 )
     requires { ⌜ Sound (modelOf header (now bodies) (now words) (now numbers)) ⌝ }
     requires { ⌜ Room (modelOf header (now bodies) (now words) (now numbers)) (now rows) ⌝ }
-    ensures { λ _. ⌜ state (now (rows .exit)) (now (bodies .exit)) ≡ rounds (sweepRound (now (words .entry)) (jointCount (now (words .entry)) (now (numbers .entry)))) n (state (now (rows .entry)) (now (bodies .entry))) ⌝ }
+    requires { ⌜ jointCount (now words) (now numbers) ≤ length (now counts) ⌝ }
+    ensures { λ _. ⌜ counted (state (now (rows .exit)) (now (bodies .exit))) (now (counts .exit)) ≡ rounds (countedRound (now (words .entry)) (jointCount (now (words .entry)) (now (numbers .entry)))) n (counted (state (now (rows .entry)) (now (bodies .entry))) (now (counts .entry))) ⌝ }
 {
     let mut round = 0u32;
     while round < n {
-        sweep_round(header, bodies, words, numbers, rows);
+        sweep_round(header, bodies, words, numbers, rows, counts);
         round += 1;
     }
 }

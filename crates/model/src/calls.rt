@@ -1,12 +1,13 @@
 // Document 01's calls on a model, and the one that reads a motor table. Each takes whatever it is lent, of any length and contents, and answers what is granted or the number of the refusal; a
 // refused call changes nothing.
 ghost use mathlib.Core.Path.{_≡_};
-ghost use Rattle.model.specs.Model.{modelOf};
+ghost use mathlib.Core.List.{[]};
+ghost use Rattle.model.specs.Model.{modelOf, jointCount};
 ghost use Rattle.model.specs.Calls.{outcome, run};
 ghost use Rattle.model.specs.Calls.Call.{load, place, build, warmStart, sweep, removeBias, writeBack, readRows, readVelocity, setTargets};
 ghost use Rattle.model.specs.JointRows.{rowMasksAt};
 ghost use Rattle.model.specs.Refusals.{readsRows};
-ghost use Rattle.model.specs.Answers.{WithoutRows, loadAnswer, loadHeader, plainAnswer, buildAnswer, buildHeader, rowsAnswer, noRows, rowsAnswerOf, velocityAnswer};
+ghost use Rattle.model.specs.Answers.{WithoutRows, loadAnswer, loadHeader, plainAnswer, buildAnswer, buildHeader, rowsAnswer, noRows, rowsAnswerOf, velocityAnswer, sweepAnswer, sweptAs, sweepAnswerOf};
 use crate::all_joints::blank_row;
 use crate::all_joints::build_all;
 use crate::all_joints::remove_bias_all;
@@ -62,6 +63,12 @@ pub struct RowsAnswer {
     pub answer: Plain,
     pub ids: RowIds,
     pub rows: Rows,
+}
+
+// For each joint, how many of its motor rows the last round found low or high, beside the answer; zeros past the joints, and where it is a refusal.
+pub struct SweepAnswer {
+    pub answer: Plain,
+    pub counts: [u8; 128],
 }
 
 pub enum VelocityAnswer {
@@ -167,7 +174,18 @@ pub fn warm_start(
     Plain::Granted
 }
 
-// n rounds over all joints, ascending, and their rows in order.
+// A refusal, with zeros for counts.
+fn no_counts(k: u32) -> SweepAnswer
+    ensures { λ r. ⌜ r ≡ sweptAs (Plain.Refused k) [] ⌝ }
+{
+    let counts = [0u8; 128];
+    SweepAnswer {
+        answer: Plain::Refused(k),
+        counts: counts,
+    }
+}
+
+// n rounds over all joints, ascending, and their rows in order: the call's answer, and how the array of counts is filled up.
 pub fn sweep(
     header: Header,
     bodies: &mut [f32],
@@ -175,21 +193,26 @@ pub fn sweep(
     numbers: &[f32],
     rows: &mut [f32],
     n: u32,
-) -> Plain
-    ensures { λ r. ⌜ outcome (plainAnswer r) (modelOf header (now (bodies .exit)) (now (words .entry)) (now (numbers .entry))) (now (rows .exit)) ≡ run (sweep n) (modelOf header (now (bodies .entry)) (now (words .entry)) (now (numbers .entry))) (now (rows .entry)) ⌝ }
+) -> SweepAnswer
+    ensures { λ r. ⌜ outcome (sweepAnswer (jointCount (now (words .entry)) (now (numbers .entry))) r) (modelOf header (now (bodies .exit)) (now (words .entry)) (now (numbers .entry))) (now (rows .exit)) ≡ run (sweep n) (modelOf header (now (bodies .entry)) (now (words .entry)) (now (numbers .entry))) (now (rows .entry)) ⌝ }
+    ensures { λ r. ⌜ r ≡ sweepAnswerOf (run (sweep n) (modelOf header (now (bodies .entry)) (now (words .entry)) (now (numbers .entry))) (now (rows .entry)) .answer) ⌝ }
 {
     let k = storage_refusal(header, bodies, words, numbers, rows, true);
     if k != 0 {
-        return Plain::Refused(k);
+        return no_counts(k);
     }
     if n > MOST_ROUNDS {
-        return Plain::Refused(9);
+        return no_counts(9);
     }
     if !header.built {
-        return Plain::Refused(10);
+        return no_counts(10);
     }
-    sweep_all(header, bodies, words, numbers, rows, n);
-    Plain::Granted
+    let mut counts = [0u8; 128];
+    sweep_all(header, bodies, words, numbers, rows, &mut counts, n);
+    SweepAnswer {
+        answer: Plain::Granted,
+        counts: counts,
+    }
 }
 
 // Takes the bias off every row.

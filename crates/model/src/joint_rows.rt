@@ -8,7 +8,7 @@ ghost use Rattle.rows.specs.GenericJoint.{isEnabled};
 ghost use Rattle.rows.specs.RowIds.{noMasks, filled, rowIdsArray};
 ghost use Rattle.model.specs.Layout.{rowWidth, wordsWidth, numbersWidth};
 ghost use Rattle.model.specs.Store.{Present, enabledAt, body1At, body2At};
-ghost use Rattle.model.specs.JointRows.{state, rowMasksAt, rowCount, rowsList, putRows, impulsesAt, buildJoint, sweepRow, sweepJoint, warmstartRow, warmstartJoint, removeBiasJoint, writeBackJoint};
+ghost use Rattle.model.specs.JointRows.{state, rowMasksAt, rowCount, motorCount, rowsList, putRows, impulsesAt, buildJoint, sweepRow, sweepSide, sweepJoint, countRow, countRows, warmstartRow, warmstartJoint, removeBiasJoint, writeBackJoint};
 use crate::layout::ROW_WIDTH;
 use crate::store::body1_at;
 use crate::store::body2_at;
@@ -21,6 +21,7 @@ use crate::store::put_vel;
 use crate::store::row_at;
 use crate::store::solver_pose_at;
 use crate::store::vel_at;
+use floats::scalar::Side;
 use rows::generic_joint::Masks;
 use rows::integration_parameters::IntegrationParameters;
 use rows::joint_constraint_builder::Warmstart;
@@ -28,6 +29,7 @@ use rows::joint_constraint_builder::update;
 use rows::joint_velocity_constraint::Rows;
 use rows::joint_velocity_constraint::solve_row;
 use rows::row_ids::RowIds;
+use rows::row_ids::motor_count;
 use rows::row_ids::row_count;
 use rows::row_ids::row_ids;
 
@@ -69,6 +71,14 @@ pub fn count_at(words: &[u32], j: usize) -> usize
     ensures { λ r. ⌜ r ≡ rowCount (now (words .entry)) j ⌝ }
 {
     row_count(row_masks_at(words, j))
+}
+
+// How many of them are motors', the first ones.
+pub fn motors_at(words: &[u32], j: usize) -> usize
+    requires { ⌜ j * wordsWidth + wordsWidth ≤ length (now words) ⌝ }
+    ensures { λ r. ⌜ r ≡ motorCount (now (words .entry)) j ⌝ }
+{
+    motor_count(row_masks_at(words, j))
 }
 
 // The impulses of n rows from row k on, at most six.
@@ -167,12 +177,12 @@ pub fn build_joint(
     0
 }
 
-// Row k's step, between bodies b1 and b2.
-pub fn sweep_row(rows: &mut [f32], k: usize, bodies: &mut [f32], b1: u32, b2: u32)
+// Row k's step, between bodies b1 and b2. Which bound it met comes back.
+pub fn sweep_row(rows: &mut [f32], k: usize, bodies: &mut [f32], b1: u32, b2: u32) -> Side
     requires { ⌜ k * rowWidth + rowWidth ≤ length (now rows) ⌝ }
     requires { ⌜ Present (now bodies) b1 ⌝ }
     requires { ⌜ Present (now bodies) b2 ⌝ }
-    ensures { λ _. ⌜ state (now (rows .exit)) (now (bodies .exit)) ≡ sweepRow k b1 b2 (state (now (rows .entry)) (now (bodies .entry))) ⌝ }
+    ensures { λ r. ⌜ (r ≡ sweepSide k b1 b2 (state (now (rows .entry)) (now (bodies .entry)))) × (state (now (rows .exit)) (now (bodies .exit)) ≡ sweepRow k b1 b2 (state (now (rows .entry)) (now (bodies .entry)))) ⌝ }
 {
     let row = row_at(rows, k);
     let solved = solve_row(row, vel_at(bodies, b1), vel_at(bodies, b2));
@@ -181,20 +191,48 @@ pub fn sweep_row(rows: &mut [f32], k: usize, bodies: &mut [f32], b1: u32, b2: u3
     put_row(rows, k, out);
     put_vel(bodies, b1, vels.vel1);
     put_vel(bodies, b2, vels.vel2);
+    solved.side
 }
 
-// n rows from row k on, each in turn.
-pub fn sweep_joint(rows: &mut [f32], k: usize, n: usize, bodies: &mut [f32], b1: u32, b2: u32)
+// 1 where row i is one of the first `motors` and its step met a bound.
+fn count_row(i: usize, motors: usize, side: Side) -> u8
+    ensures { λ r. ⌜ r ≡ countRow i motors side ⌝ }
+    ensures { λ r. ⌜ r ≤ 1 ⌝ }
+{
+    if i >= motors {
+        return 0;
+    }
+    match side {
+        Side::Low => 1,
+        Side::High => 1,
+        Side::Inside => 0,
+    }
+}
+
+// n rows from row k on, each in turn, at most six. How many of the first `motors` met a bound comes back.
+pub fn sweep_joint(
+    rows: &mut [f32],
+    k: usize,
+    n: usize,
+    motors: usize,
+    bodies: &mut [f32],
+    b1: u32,
+    b2: u32,
+) -> u8
+    requires { ⌜ n ≤ 6 ⌝ }
     requires { ⌜ (k + n) * rowWidth ≤ length (now rows) ⌝ }
     requires { ⌜ Present (now bodies) b1 ⌝ }
     requires { ⌜ Present (now bodies) b2 ⌝ }
-    ensures { λ _. ⌜ state (now (rows .exit)) (now (bodies .exit)) ≡ sweepJoint k n b1 b2 (state (now (rows .entry)) (now (bodies .entry))) ⌝ }
+    ensures { λ r. ⌜ (r ≡ countRows motors k n b1 b2 (state (now (rows .entry)) (now (bodies .entry)))) × (state (now (rows .exit)) (now (bodies .exit)) ≡ sweepJoint k n b1 b2 (state (now (rows .entry)) (now (bodies .entry)))) ⌝ }
 {
+    let mut count = 0u8;
     let mut i = 0usize;
     while i < n {
-        sweep_row(rows, k + i, bodies, b1, b2);
+        let side = sweep_row(rows, k + i, bodies, b1, b2);
+        count += count_row(i, motors, side);
         i += 1;
     }
+    count
 }
 
 // Row k's warm start, between bodies b1 and b2.

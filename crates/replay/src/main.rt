@@ -207,6 +207,16 @@ impl Tail {
         tail
     }
 
+    fn counts(self, counts: [u8; 128]) -> Tail {
+        let mut tail = self;
+        let mut i = 0usize;
+        while i < 128 {
+            tail = tail.word(counts[i] as u32);
+            i += 1;
+        }
+        tail
+    }
+
     fn after(self, h: u32) -> u32 {
         ((h as u64 * self.times as u64 + self.plus as u64) % 4294967296) as u32
     }
@@ -318,6 +328,28 @@ fn run_build(
     }
 }
 
+fn run_sweep(
+    l: Line,
+    header: Header,
+    bodies: &mut [f32],
+    words: &[u32],
+    numbers: &[f32],
+    rows: &mut [f32],
+) -> Done {
+    let swept = sweep(header, bodies, words, numbers, rows, l.a);
+    let answer = swept.answer;
+    let counts = swept.counts;
+    match answer {
+        Plain::Granted => Done {
+            header: header,
+            high: 0,
+            low: 0,
+            tail: no_tail().counts(counts),
+        },
+        Plain::Refused(k) => refused(header, k),
+    }
+}
+
 fn run_read_rows(
     l: Line,
     header: Header,
@@ -393,7 +425,7 @@ fn call(
         1 => run_place(l, header, bodies, words, numbers),
         2 => run_build(l, header, bodies, words, numbers, rows),
         3 => plain(header, warm_start(header, bodies, words, numbers, rows)),
-        4 => plain(header, sweep(header, bodies, words, numbers, rows, l.a)),
+        4 => run_sweep(l, header, bodies, words, numbers, rows),
         5 => plain(header, remove_bias(header, bodies, words, numbers, rows)),
         6 => plain(header, write_back(header, bodies, words, numbers, rows)),
         7 => run_read_rows(l, header, bodies, words, numbers, rows),

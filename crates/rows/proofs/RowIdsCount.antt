@@ -8,6 +8,7 @@ use mathlib.Core.Path.{_≡_, refl, ap}
 use mathlib.Core.Bool.{Bool, true, false, not, cond, _&&_, _||_}
 use mathlib.Core.List.{List, [], _∷_, _++_, map}
 use lib.ListN.{length, length-append, length-map}
+use mir.Val.{boolByte}
 use Rattle.rows.specs.declared.generic_joint.Masks.{Masks}
 use Rattle.rows.specs.declared.joint_velocity_constraint.WritebackId.{WritebackId}
 use Rattle.rows.specs.declared.joint_velocity_constraint.WritebackId.the-variants.{Dof, Limit, Motor}
@@ -16,6 +17,15 @@ use Rattle.rows.specs.RowIds.{hasAxis, isLocked, isMotor, isLimit, isCou
 -- 1 for true
 abbrev pub bit : Bool → ℕ
 bit b = cond b 1 0
+
+-- a bool as a number
+pub byte-bit : (b : Bool) → boolByte b ≡ bit b
+byte-bit true = refl
+byte-bit false = refl
+
+pub byte-le : (b : Bool) → boolByte b ≤ 1
+byte-le true = omega arith
+byte-le false = omega arith
 
 -- how many of a list pass a test
 abbrev pub count : (ℕ → Bool) → List ℕ → ℕ
@@ -210,7 +220,18 @@ module _ (nl na : ℕ) (k : Masks) where
         length-axes 0 nl,
       )
 
-  -- the number of rows, by counts of axes
+  -- the number of motors, by counts of axes
+  pub motor-count : length (groupOne nl na k) ≡ count (λ i. isMotor k i && not (isCoupled k i)) (inOrder nl na) + bit (sharesLinear nl k)
+  motor-count =
+      let motors : List ℕ = keep (λ i. isMotor k i && not (isCoupled k i)) (inOrder nl na) in
+      omega (
+        arith,
+        length-append (map Motor motors) (cond (sharesLinear nl k) (map Motor (firstCoupled nl k)) []),
+        length-map motors Motor,
+        once (sharesLinear nl k) (firstCoupled nl k) (some-first (isMotor k) (isCoupled k) (axes 0 nl)),
+      )
+
+  -- the number of rows likewise
   pub row-count : length (rowIds nl na k)
       ≡ count (λ i. isMotor k i && not (isCoupled k i)) (inOrder nl na)
       + bit (sharesLinear nl k)
@@ -218,14 +239,11 @@ module _ (nl na : ℕ) (k : Masks) where
       + count (λ i. isLimit k i && not (isCoupled k i)) (inOrder nl na)
       + bit (some (isLimit k) (firstCoupled nl k))
   row-count =
-      let motors : List ℕ = keep (λ i. isMotor k i && not (isCoupled k i)) (inOrder nl na) in
       let limits : List ℕ = keep (λ i. isLimit k i && not (isCoupled k i)) (inOrder nl na) in
       omega (
         arith,
         length-groups,
-        length-append (map Motor motors) (cond (sharesLinear nl k) (map Motor (firstCoupled nl k)) []),
-        length-map motors Motor,
-        once (sharesLinear nl k) (firstCoupled nl k) (some-first (isMotor k) (isCoupled k) (axes 0 nl)),
+        motor-count,
         length-map (keep (isLocked k) (inOrder nl na)) Dof,
         length-append (map Limit limits) (map Limit (keep (isLimit k) (firstCoupled nl k))),
         length-map limits Limit,

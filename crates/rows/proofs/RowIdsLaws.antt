@@ -187,6 +187,10 @@ module _ (nl na : ℕ) (k : Masks) where
   pub group-one : All IsMotor (groupOne nl na k)
   group-one = motors-all IsMotor (any (inOrder nl na)) (any (axes 0 nl))
 
+  pub ids-groups : rowIds nl na k ≡ groupOne nl na k ++ groupTwo nl na k
+  unfolding rowIds
+  ids-groups = refl
+
   pub group-two : All IsRest (groupTwo nl na k)
   group-two =
       all-append IsRest (lockIds nl na k) (limitIds nl na k) (locks-all IsRest (any (inOrder nl na)))

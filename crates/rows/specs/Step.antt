@@ -3,7 +3,7 @@ use Prim.Native.Nat.{ℕ}
 use lib.Ieee.{Float}
 use lib.ListN.{getD, set}
 use Rattle.floats.specs.Operators.{_⊕_, _⊖_, _⊗_}
-use Rattle.floats.specs.Scalar.{clampOf}
+use Rattle.floats.specs.Scalar.{clampOf, sideOf}
 use Rattle.floats.specs.Vector.{addOf, subOf, mulOf, gdotOf, componentMulOf}
 use Rattle.rows.specs.Row.{withImpulse, withRhs}
 use Rattle.rows.specs.declared.joint_velocity_constraint.JointConstraint.{JointConstraint}
@@ -28,11 +28,12 @@ appliedOf c v1 v2 p =
       vel2 = record { linear = subOf (v2 .linear) (componentMulOf linImpulse (c .im2)); angular = v2 .angular ⊖ c .«ii_ang_jac2» ⊗ p };
     }
 
--- `solve_generic`: the wanted impulse within the row's bounds, and its change acting on both bodies
+-- `solve_generic`: the wanted impulse within the row's bounds, its change acting on both bodies, and which bound the wanted impulse met (document 02, R-9)
 unfoldable pub stepOf : JointConstraint → SolverVel → SolverVel → Solved
 stepOf c v1 v2 =
-    let total = clampOf (wantedImpulseOf c v1 v2) (c .«impulse_min») (c .«impulse_max») in
-    record { row = withImpulse c total; vels = appliedOf c v1 v2 (total ⊖ c .impulse) }
+    let wanted = wantedImpulseOf c v1 v2 in
+    let total = clampOf wanted (c .«impulse_min») (c .«impulse_max») in
+    record { row = withImpulse c total; vels = appliedOf c v1 v2 (total ⊖ c .impulse); side = sideOf wanted (c .«impulse_min») (c .«impulse_max») }
 
 -- `warmstart_generic`: the row's impulse acts on both bodies
 unfoldable pub warmstartOf : JointConstraint → SolverVel → SolverVel → SolverVels

@@ -264,11 +264,12 @@ pub fn limit_bias(
     ensures { λ r. ⌜ r ≡ limitBiasOf params dist low high «erp_inv_dt» ⌝ }
 {
     let max_bias = params.max_corrective_velocity();
-    clamp(
+    let capped = clamp(
         (max(dist - high, 0.0) - max(low - dist, 0.0)) * erp_inv_dt,
         -max_bias,
         max_bias,
-    )
+    );
+    capped.value
 }
 
 // A linear motor's target velocity, kept within what reaches the ends of its limits in one step.
@@ -277,7 +278,8 @@ pub fn limited_target_vel(target_vel: f32, limits: MotorLimits, dist: f32, inv_d
 {
     match limits {
         MotorLimits::Span(min, max) => {
-            clamp(target_vel, (min - dist) * inv_dt, (max - dist) * inv_dt)
+            let reached = clamp(target_vel, (min - dist) * inv_dt, (max - dist) * inv_dt);
+            reached.value
         }
         MotorLimits::None => target_vel,
     }
@@ -403,7 +405,8 @@ impl JointConstraintHelper {
         let passed = axis.dist - limits.max;
         let rhs_wo_bias = min(passed, 0.0) * params.inv_dt();
         let max_bias = params.max_corrective_velocity();
-        let rhs_bias = clamp(max(passed, 0.0) * erp_inv_dt, -max_bias, max_bias);
+        let capped = clamp(max(passed, 0.0) * erp_inv_dt, -max_bias, max_bias);
+        let rhs_bias = capped.value;
         assemble(
             body1,
             body2,

@@ -15,6 +15,7 @@ use crate::joint_constraint_helper::finalize_groups;
 use crate::row_ids::RowIds;
 use crate::row_ids::row_ids;
 use floats::pose::Pose;
+use floats::scalar::Side;
 use floats::scalar::clamp;
 use floats::vector::Vector;
 
@@ -90,10 +91,11 @@ pub struct Rows {
     pub len: usize,
 }
 
-// What one step leaves: the row, and the velocities of its two bodies.
+// What one step leaves: the row, and the velocities of its two bodies; and which bound of the row the wanted impulse met.
 pub struct Solved {
     pub row: JointConstraint,
     pub vels: SolverVels,
+    pub side: Side,
 }
 
 impl JointConstraint {
@@ -143,11 +145,14 @@ impl JointConstraint {
         ensures { λ r. ⌜ r ≡ stepOf self vel1 vel2 ⌝ }
     {
         let wanted = self.wanted_impulse(vel1, vel2);
-        let total_impulse = clamp(wanted, self.impulse_min, self.impulse_max);
+        let clamped = clamp(wanted, self.impulse_min, self.impulse_max);
+        let total_impulse = clamped.value;
+        let side = clamped.side;
         let delta_impulse = total_impulse - self.impulse;
         Solved {
             row: self.with_impulse(total_impulse),
             vels: self.applied(vel1, vel2, delta_impulse),
+            side: side,
         }
     }
 
@@ -166,13 +171,14 @@ impl JointConstraint {
     }
 }
 
-// The Rust's `solve_generic`: the row and both velocities that it is lent change by one step.
+// The Rust's `solve_generic`: the row and both velocities that it is lent change by one step. Which bound the step met comes back.
 pub fn solve_generic(
     row: &mut JointConstraint,
     solver_vel1: &mut SolverVel,
     solver_vel2: &mut SolverVel,
-)
-    ensures { λ _. ⌜ (now (row .exit) ≡ stepOf (now (row .entry)) (now («solver_vel1» .entry)) (now («solver_vel2» .entry)) .row)
+) -> Side
+    ensures { λ r. ⌜ (r ≡ stepOf (now (row .entry)) (now («solver_vel1» .entry)) (now («solver_vel2» .entry)) .side)
+        × (now (row .exit) ≡ stepOf (now (row .entry)) (now («solver_vel1» .entry)) (now («solver_vel2» .entry)) .row)
         × (now («solver_vel1» .exit) ≡ stepOf (now (row .entry)) (now («solver_vel1» .entry)) (now («solver_vel2» .entry)) .vels .vel1)
         × (now («solver_vel2» .exit) ≡ stepOf (now (row .entry)) (now («solver_vel1» .entry)) (now («solver_vel2» .entry)) .vels .vel2) ⌝ }
 {
@@ -181,6 +187,7 @@ pub fn solve_generic(
     *row = solved.row;
     *solver_vel1 = solved.vels.vel1;
     *solver_vel2 = solved.vels.vel2;
+    solved.side
 }
 
 // `solve_generic` for a row and velocities that are not lent but handed over.
@@ -190,9 +197,13 @@ pub fn solve_row(row: JointConstraint, vel1: SolverVel, vel2: SolverVel) -> Solv
     let mut c = row;
     let mut v1 = vel1;
     let mut v2 = vel2;
-    solve_generic(&mut c, &mut v1, &mut v2);
+    let side = solve_generic(&mut c, &mut v1, &mut v2);
     let vels = SolverVels { vel1: v1, vel2: v2 };
-    Solved { row: c, vels: vels }
+    Solved {
+        row: c,
+        vels: vels,
+        side: side,
+    }
 }
 
 pub fn blank_row() -> JointConstraint

@@ -184,6 +184,15 @@ fn count_locked(locked: u32) -> u32
     u32::count_ones(locked % 8)
 }
 
+// The number of a joint's motor rows. They are its first ones.
+pub fn motor_count(masks: Masks) -> usize
+    ensures { λ r. ⌜ r ≡ length (groupOne 2 1 masks) ⌝ }
+{
+    let motors = count_outside(masks.motor_axes, masks.locked_axes, masks.coupled_axes);
+    let coupled_motor = masks.shares_linear() as u32;
+    (motors + coupled_motor) as usize
+}
+
 // The number of a joint's rows.
 pub fn row_count(masks: Masks) -> usize
     ensures { λ r. ⌜ r ≡ length (rowIds 2 1 masks) ⌝ }

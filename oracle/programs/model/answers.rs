@@ -206,7 +206,11 @@ impl Held {
                     _ => count * ROW,
                 };
                 answer.out[..numbers].iter().for_each(|x| add(bits(*x)));
-                answer.ids[..count].iter().for_each(|x| add(*x));
+                let words = match call {
+                    Call::Sweep(_) => answer.ids.len(),
+                    _ => count,
+                };
+                answer.ids[..words].iter().for_each(|x| add(*x));
             }
         }
         h

@@ -62,8 +62,13 @@ pub fn print() {
         ("sweep 4", Call::Sweep(4)),
         ("write-back", Call::WriteBack),
     ] {
-        assert_eq!(call(&mut s, &work).code, 0);
+        let answer = call(&mut s, &work);
+        assert_eq!(answer.code, 0);
         println!("{name} = granted");
+        if name == "sweep 4" {
+            println!("hip motors out of force = {}", answer.ids[0]);
+            println!("ankle motors out of force = {}", answer.ids[2]);
+        }
     }
     for (j, name) in ["hip", "knee", "ankle"].iter().enumerate() {
         let read = call(&mut s, &Call::ReadRows(j as u32));

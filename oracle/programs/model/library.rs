@@ -132,6 +132,8 @@ mod exported {
             rows: *mut f32,
             rows_len: usize,
             n: u32,
+            counts: *mut u8,
+            counts_len: usize,
         ) -> u32;
         fn katydidzinc_remove_bias(
             dt: f32,
@@ -220,12 +222,15 @@ mod exported {
         let mut rows_in = Fenced::new(&s.rows, 12345.678);
         let mut out_in = Fenced::new(&answer.out, 12345.678);
         let mut ids_in = Fenced::new(&answer.ids, 0xDEAD_BEEF);
+        let mut counts = vec![0xEFu8; answer.ids.len()];
+        let mut counts_in = Fenced::new(&counts, 0xAD);
         let (b, bs) = bodies_in.place();
         let (w, ws) = words_in.place();
         let (n, ns) = numbers_in.place();
         let (r, rs) = rows_in.place();
         let (out, outs) = out_in.place();
         let (ids, ids_len) = ids_in.place();
+        let (cs, cs_len) = counts_in.place();
         let [dt, unit, most] = s.settings;
         let built = s.built;
         answer.code = unsafe {
@@ -261,10 +266,9 @@ mod exported {
                 Call::WarmStart => {
                     katydidzinc_warm_start(dt, unit, most, built, b, bs, w, ws, n, ns, r, rs) as u64
                 }
-                Call::Sweep(rounds) => {
-                    katydidzinc_sweep(dt, unit, most, built, b, bs, w, ws, n, ns, r, rs, rounds)
-                        as u64
-                }
+                Call::Sweep(rounds) => katydidzinc_sweep(
+                    dt, unit, most, built, b, bs, w, ws, n, ns, r, rs, rounds, cs, cs_len,
+                ) as u64,
                 Call::RemoveBias => {
                     katydidzinc_remove_bias(dt, unit, most, built, b, bs, w, ws, n, ns, r, rs)
                         as u64
@@ -300,7 +304,15 @@ mod exported {
             | numbers_in.taken_back(&mut s.numbers)
             | rows_in.taken_back(&mut s.rows)
             | out_in.taken_back(&mut answer.out)
-            | ids_in.taken_back(&mut answer.ids);
+            | ids_in.taken_back(&mut answer.ids)
+            | counts_in.taken_back(&mut counts);
+        if let Call::Sweep(_) = call {
+            if answer.granted() {
+                answer.ids = counts.iter().map(|n| u32::from(*n)).collect();
+            } else {
+                answer.outside |= counts.iter().any(|n| *n != 0xEF);
+            }
+        }
         match call {
             Call::Load if answer.granted() => s.built = false,
             Call::Build { .. } if answer.granted() => s.built = true,
@@ -329,8 +341,24 @@ mod exported {
                     katydidzinc_warm_start(dt, unit, most, built, b, bs, w, ws, n, ns, r, rs) as u64
                 }
                 Call::Sweep(rounds) => {
-                    katydidzinc_sweep(dt, unit, most, built, b, bs, w, ws, n, ns, r, rs, rounds)
-                        as u64
+                    let mut counts = [0u8; 128];
+                    katydidzinc_sweep(
+                        dt,
+                        unit,
+                        most,
+                        built,
+                        b,
+                        bs,
+                        w,
+                        ws,
+                        n,
+                        ns,
+                        r,
+                        rs,
+                        rounds,
+                        counts.as_mut_ptr(),
+                        128,
+                    ) as u64
                 }
                 Call::RemoveBias => {
                     katydidzinc_remove_bias(dt, unit, most, built, b, bs, w, ws, n, ns, r, rs)

@@ -218,6 +218,13 @@ impl Pair {
                 return Some("the refusal".into());
             }
         }
+        if let Call::Sweep(_) = call {
+            for (j, own) in self.own.iter().enumerate() {
+                if *own && a.ids.get(j) != b.ids.get(j) {
+                    return Some(format!("the count of joint {j}"));
+                }
+            }
+        }
         for (i, inside) in self.set.iter().enumerate() {
             let of = |s: &Study| s.bodies[i * BODY..][..BODY].to_vec();
             if *inside && !same(&of(one), &of(two)) {

@@ -25,6 +25,8 @@ struct Tally {
     /// Sweeps of one round or more, and those that left a NaN in a velocity.
     sweeps: u64,
     sweeps_with_nan: u64,
+    /// Motor rows of their last rounds, and those that were low or high.
+    motors: [u64; 2],
     largest: [usize; 3],
     /// Joints that were built, by their `JointEnabled`.
     off: [u64; 3],
@@ -65,6 +67,7 @@ impl Run {
                 rows_with_nan: 0,
                 sweeps: 0,
                 sweeps_with_nan: 0,
+                motors: [0; 2],
                 largest: [0; 3],
                 off: [0; 3],
                 typed: [[0; 2]; 2],
@@ -137,6 +140,10 @@ impl Run {
                     s.bodies
                         .chunks_exact(10)
                         .any(|n| n[7..].iter().any(|x| x.is_nan())) as u64;
+                for j in 0..s.joint_count() {
+                    t.motors[0] += s.ids(j).iter().filter(|id| **id / 4 == 2).count() as u64;
+                    t.motors[1] += u64::from(answer.ids[j]);
+                }
             }
             _ => {}
         }
@@ -291,6 +298,8 @@ pub fn compare(other: Side, seed: u64, calls: u64) {
         t.sweeps,
         share(t.sweeps_with_nan, t.sweeps)
     );
+    let [motors, at_bound] = t.motors;
+    println!("{motors} motor rows in the last rounds of sweeps, {at_bound} of them low or high");
 }
 
 /// Each fault's number of calls until a difference, of pairs, and of lines in the stored answers.

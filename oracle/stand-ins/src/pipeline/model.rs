@@ -5,7 +5,9 @@ use super::records::{self, JOINT, JOINT_WORDS, ROW, VEL};
 use super::rows::generated;
 use crate::alloc_prelude::*;
 use crate::dynamics::JointGraphEdge;
-use crate::dynamics::solver::joint_constraint::{JointConstraint, JointConstraintBuilder, tried};
+use crate::dynamics::solver::joint_constraint::{
+    JointConstraint, JointConstraintBuilder, WritebackId, tried,
+};
 use crate::dynamics::solver::solver_body::SolverBodies;
 use crate::math::Real;
 
@@ -120,16 +122,35 @@ pub fn warmstart(bodies: &mut [Real], words: &[u32], rows: &[Real]) {
     put_vels(&all, bodies);
 }
 
-pub fn solve(bodies: &mut [Real], words: &[u32], rows: &mut [Real], rounds: u32) {
+/// The impulse that the Rust wants of a row: its own step on copies, with bounds that stop nothing.
+fn wanted(row: &JointConstraint<Real, 1>, all: &SolverBodies) -> Real {
+    let mut free = *row;
+    free.impulse_bounds = [Real::NEG_INFINITY, Real::INFINITY];
+    let mut bodies = SolverBodies::default();
+    bodies.resize(all.vels.len());
+    bodies.vels.copy_from_slice(&all.vels);
+    free.solve(&mut bodies);
+    free.impulse
+}
+
+/// Returns for each joint how many of its motor rows the last round found below or above their bounds.
+pub fn solve(bodies: &mut [Real], words: &[u32], rows: &mut [Real], rounds: u32) -> Vec<u32> {
     let mut all = solver_bodies(bodies);
     let mut own = stored(words, rows);
-    for _ in 0..rounds {
+    let mut counts = alloc::vec![0; words.len() / WORDS];
+    for round in 0..rounds {
         for row in &mut own {
+            if round + 1 == rounds && matches!(row.writeback_id, WritebackId::Motor(_)) {
+                let impulse = wanted(row, &all);
+                let [low, high] = row.impulse_bounds;
+                counts[row.joint_id[0]] += u32::from(impulse < low || impulse > high);
+            }
             row.solve(&mut all);
         }
     }
     put_rows(&own, rows);
     put_vels(&all, bodies);
+    counts
 }
 
 pub fn remove_bias(words: &[u32], rows: &mut [Real]) {

@@ -89,6 +89,19 @@ pub fn build(words: &[u32], n: &[Real], rows: &mut [Real], ids: &mut [u32]) -> u
     count
 }
 
+/// Which bound a step meets: 1 where the impulse that it wants is below the lower one, else 2 where it is
+/// above the upper one, else 0. What is wanted is what the Rust's own step leaves where the bounds stop nothing.
+pub fn side(n: &[Real], vels: &[Real]) -> usize {
+    let (mut free, mut moved_vels) = (n.to_vec(), vels.to_vec());
+    free[1..3].copy_from_slice(&[Real::NEG_INFINITY, Real::INFINITY]);
+    step(&mut free, &mut moved_vels);
+    match free[0] {
+        wanted if wanted < n[1] => 1,
+        wanted if wanted > n[2] => 2,
+        _ => 0,
+    }
+}
+
 pub fn step(n: &mut [Real], vels: &mut [Real]) {
     moved(n, vels, JointConstraint::solve_generic)
 }

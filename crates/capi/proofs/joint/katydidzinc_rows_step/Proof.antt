@@ -1,17 +1,17 @@
 -- `katydidzinc_rows_step` meets its contract. Each test decides one of the specification's; past them, what is written follows from what the callees ensure.
 use borrow.Author.Needs.{needs}
 use borrow.Author.Tests.{le-leb, lt-leb}
-use Rattle.capi.specs.JointExports.{stepRow, stepVels}
+use Rattle.capi.specs.JointExports.{stepRow, stepVels, stepSide}
 use Rattle.capi.proofs.joint.katydidzinc_rows_step.Statement.{statement}
 use Rattle.capi.proofs.joint.katydidzinc_rows_step.Tie as tie
 
 returns : tie.Need-returns
-unfolding stepRow stepVels
-returns c = (simp (lt-leb _ _ (c .if1 .taken)), simp (lt-leb _ _ (c .if1 .taken)))
+unfolding stepRow stepVels stepSide
+returns c = (simp (lt-leb _ _ (c .if1 .taken)), (simp (lt-leb _ _ (c .if1 .taken)), simp (lt-leb _ _ (c .if1 .taken))))
 
 returns-2 : tie.Need-returns-2
-unfolding stepRow stepVels
-returns-2 c = (simp (le-leb _ _ (c .before .if1 .left), lt-leb _ _ (c .if2 .taken)), simp (le-leb _ _ (c .before .if1 .left), lt-leb _ _ (c .if2 .taken)))
+unfolding stepRow stepVels stepSide
+returns-2 c = (simp (le-leb _ _ (c .before .if1 .left), lt-leb _ _ (c .if2 .taken)), (simp (le-leb _ _ (c .before .if1 .left), lt-leb _ _ (c .if2 .taken)), simp (le-leb _ _ (c .before .if1 .left), lt-leb _ _ (c .if2 .taken))))
 
 row-at-requires : tie.Need-row-at-requires
 row-at-requires c κs = search needs
@@ -38,7 +38,7 @@ same-length-2 : tie.Need-same-length-2
 same-length-2 c = search needs
 
 returns-3 : tie.Need-returns-3
-unfolding stepRow stepVels
+unfolding stepRow stepVels stepSide
 returns-3 c =
     let full = c .before .before .before .before .before .before .before .before .before .before .before .before .before .before .before .before .before in
     (simp (le-leb _ _ (full .before .if1 .left), le-leb _ _ (full .if2 .left)) (cc), simp (le-leb _ _ (full .before .if1 .left), le-leb _ _ (full .if2 .left)) (cc))

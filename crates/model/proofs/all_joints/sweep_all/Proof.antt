@@ -5,28 +5,29 @@ use native.Mathlib.Nat.{sub-zero}
 use lib.ListN.{length}
 use Rattle.model.specs.JointRows.{state}
 use Rattle.model.specs.Model.{jointCount}
-use Rattle.model.specs.Calls.{rounds, sweepRound}
+use Rattle.model.specs.Calls.{rounds, counted, countedRound}
 use Rattle.model.proofs.AllJointsLaws.{next-round, no-round, still-sound, still-room}
 use borrow.Author.Needs.{needs}
 use Rattle.model.proofs.all_joints.sweep_all.Statement.{statement}
 use Rattle.model.proofs.all_joints.sweep_all.Tie as tie
 
 abbrev Inv-loop : tie.InvT-loop
-Inv-loop header bodies₀ words numbers rows₀ n i₀ bodies rows i =
-    (i ≤ n) × (length bodies ≡ length bodies₀) × (length rows ≡ length rows₀)
-    × (rounds (sweepRound words (jointCount words numbers)) (n - i) (state rows bodies) ≡ rounds (sweepRound words (jointCount words numbers)) n (state rows₀ bodies₀))
+Inv-loop header bodies₀ words numbers rows₀ counts₀ n i₀ bodies rows counts i =
+    (i ≤ n) × (length bodies ≡ length bodies₀) × (length rows ≡ length rows₀) × (length counts ≡ length counts₀)
+    × (rounds (countedRound words (jointCount words numbers)) (n - i) (counted (state rows bodies) counts)
+    ≡ rounds (countedRound words (jointCount words numbers)) n (counted (state rows₀ bodies₀) counts₀))
 
 abbrev μ-loop : tie.MeasureT-loop
-μ-loop header bodies₀ words numbers rows₀ n i₀ bodies rows i = n - i
+μ-loop header bodies₀ words numbers rows₀ counts₀ n i₀ bodies rows counts i = n - i
 
 loop-holds : tie.Need-loop-holds Inv-loop μ-loop
-loop-holds c = (search needs, refl, refl, rw sub-zero)
+loop-holds c = (search needs, refl, refl, refl, rw sub-zero)
 
 sweep-round-requires : tie.Need-sweep-round-requires Inv-loop μ-loop
 sweep-round-requires c κs =
-    let lp = c .before .before .before in
-    let st = lp .before .before .before .before .before in
-    (still-sound _ _ (lp .loop .inv .1) (st .pre .0), still-room _ _ (lp .loop .inv .2) (st .pre .1))
+    let lp = c .before .before .before .before in
+    let st = lp .before .before .before .before .before .before in
+    (still-sound _ _ (lp .loop .inv .1) (st .pre .0), (still-room _ _ (lp .loop .inv .2) (st .pre .1 .0), rw (lp .loop .inv .3) (st .pre .1 .1)))
 
 add-round : tie.Need-add-round Inv-loop μ-loop
 add-round c = search needs
@@ -36,13 +37,14 @@ loop-less c = search needs
 
 loop-again : tie.Need-loop-again Inv-loop μ-loop
 loop-again c =
-    let sr = c .before .before .before .before in
-    let lt = sr .before .before .before in
+    let sr = c .before .before .before .before .before .before in
+    let lt = sr .before .before .before .before in
     let v = lt .before .loop .inv in (
       search needs,
       sr .sweep-round .kept .1 .0 ∙ v .1,
       sr .sweep-round .kept .1 .1 .1 .1 .0 ∙ v .2,
-      next-round _ _ _ _ (lt .loop-test .taken) (sr .sweep-round .ensures) ∙ v .3,
+      sr .sweep-round .kept .1 .1 .1 .1 .1 .0 ∙ v .3,
+      next-round _ _ _ _ (lt .loop-test .taken) (sr .sweep-round .ensures) ∙ v .4,
     )
 
 same-length : tie.Need-same-length Inv-loop μ-loop
@@ -51,8 +53,11 @@ same-length c = search needs
 same-length-2 : tie.Need-same-length-2 Inv-loop μ-loop
 same-length-2 c = search needs
 
+same-length-3 : tie.Need-same-length-3 Inv-loop μ-loop
+same-length-3 c = search needs
+
 returns : tie.Need-returns Inv-loop μ-loop
-returns c = sym (no-round _ _ _ _ (c .loop-test .left)) ∙ c .before .loop .inv .3
+returns c = sym (no-round _ _ _ _ (c .loop-test .left)) ∙ c .before .loop .inv .4
 
 pub sweep-all-spec : {M : Type 1} → statement M
 sweep-all-spec =
@@ -67,4 +72,5 @@ sweep-all-spec =
     loop-again
     same-length
     same-length-2
+    same-length-3
     returns)

@@ -1,6 +1,6 @@
 -- `sweep_row` meets its contract, by those of its parts.
 use native.Mathlib.Omega.{arith}
-use Rattle.model.proofs.JointRowsLaws.{sweep-steps}
+use Rattle.model.proofs.JointRowsLaws.{sweep-steps, sweep-side}
 use borrow.Author.Needs.{needs}
 use Rattle.model.proofs.joint_rows.sweep_row.Statement.{statement}
 use Rattle.model.proofs.joint_rows.sweep_row.Tie as tie
@@ -43,9 +43,11 @@ returns c =
     let va2 = sp .before in
     let va = va2 .before .before in
     let ra = va .before .before in
-    let st = ra .before .before .before .before in
-    sweep-steps _ _ (st .args .k) (st .args .b1) (st .args .b2) (ra .row-at .ensures) (va .vel-at .ensures) (va2 .vel-at2 .ensures) (sp .solve-row .ensures) (pr .put-row .ensures)
-    (pv .put-vel .ensures) (pv2 .put-vel2 .ensures)
+    let st = ra .before .before .before .before in (
+      sweep-side _ _ (st .args .k) (st .args .b1) (st .args .b2) (ra .row-at .ensures) (va .vel-at .ensures) (va2 .vel-at2 .ensures) (sp .solve-row .ensures),
+      sweep-steps _ _ (st .args .k) (st .args .b1) (st .args .b2) (ra .row-at .ensures) (va .vel-at .ensures) (va2 .vel-at2 .ensures) (sp .solve-row .ensures) (pr .put-row .ensures)
+          (pv .put-vel .ensures) (pv2 .put-vel2 .ensures),
+    )
 
 pub sweep-row-spec : {M : Type 1} → statement M
 sweep-row-spec =

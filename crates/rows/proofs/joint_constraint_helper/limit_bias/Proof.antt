@@ -1,5 +1,6 @@
 -- `limit_bias` is put together from what its callees promise.
 use borrow.Author.Needs.{needs}
+use Rattle.floats.specs.Scalar.{clampedOf}
 use Rattle.rows.specs.Makers.{limitBiasOf}
 use Rattle.rows.proofs.joint_constraint_helper.limit_bias.Statement.{statement}
 use Rattle.rows.proofs.joint_constraint_helper.limit_bias.Tie as tie
@@ -17,7 +18,7 @@ clamp-requires : tie.Need-clamp-requires
 clamp-requires c κs = search needs
 
 returns : tie.Need-returns
-unfolding limitBiasOf
+unfolding limitBiasOf clampedOf
 returns c =
     let d = c .before in
     let e = d .before in

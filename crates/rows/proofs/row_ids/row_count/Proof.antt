@@ -1,21 +1,10 @@
 -- `row_count` meets its contract: the count of rows is the sum of the counts of axes.
-use Prim.Native.Nat.{_≤_}
 use native.Mathlib.Omega.{arith}
-use mathlib.Core.Path.{_≡_, refl, ap}
-use mathlib.Core.Bool.{Bool, true, false}
-use mir.Val.{boolByte}
+use mathlib.Core.Path.{ap}
 use borrow.Author.Needs.{needs}
-use Rattle.rows.proofs.RowIdsCount.{bit, row-count}
+use Rattle.rows.proofs.RowIdsCount.{bit, byte-bit, byte-le, row-count}
 use Rattle.rows.proofs.row_ids.row_count.Statement.{statement}
 use Rattle.rows.proofs.row_ids.row_count.Tie as tie
-
-byte-bit : (b : Bool) → boolByte b ≡ bit b
-byte-bit true = refl
-byte-bit false = refl
-
-byte-le : (b : Bool) → boolByte b ≤ 1
-byte-le true = omega arith
-byte-le false = omega arith
 
 count-outside-requires : tie.Need-count-outside-requires
 count-outside-requires c κs = search needs

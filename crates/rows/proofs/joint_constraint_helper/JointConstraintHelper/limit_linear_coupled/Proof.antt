@@ -1,5 +1,6 @@
 -- `limit_linear_coupled` is put together from what its callees promise.
 use borrow.Author.Needs.{needs}
+use Rattle.floats.specs.Scalar.{clampedOf}
 use Rattle.rows.specs.Makers.{limitLinearCoupledOf}
 use Rattle.rows.proofs.joint_constraint_helper.JointConstraintHelper.limit_linear_coupled.Statement.{
   statement,
@@ -31,7 +32,7 @@ assemble-requires : tie.Need-assemble-requires
 assemble-requires c κs = search needs
 
 returns : tie.Need-returns
-unfolding limitLinearCoupledOf
+unfolding limitLinearCoupledOf clampedOf
 returns c =
     let d = c .before in
     let e = d .before in
