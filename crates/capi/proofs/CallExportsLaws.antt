@@ -1,11 +1,15 @@
 -- What an export reads off the equation that its call promises: the answer's number, and what is left in the storage.
 use Prim.Native.Nat.{ℕ}
-use mathlib.Core.Path.{_≡_, ap, _∙_}
-use mathlib.Core.List.{List}
+use mathlib.Core.Path.{_≡_, sym, ap, _∙_}
+use mathlib.Core.List.{List, _++_}
+use lib.ListN.{drop}
 use lib.Ieee.{Float}
 use Rattle.model.specs.Model.{Model}
 use Rattle.model.specs.Calls.{Answer, Outcome, outcome}
-use Rattle.capi.specs.CallExports.{number, marked, markedNumber, velocityOut}
+use Rattle.model.specs.Answers.{sweepAnswerOf}
+use Rattle.model.specs.declared.calls.Plain.{Plain}
+use Rattle.model.specs.declared.calls.SweepAnswer.{SweepAnswer}
+use Rattle.capi.specs.CallExports.{number, marked, markedNumber, countsIf, countsOut, velocityOut}
 
 -- a number that shows the answer shows that of the outcome
 pub number-told : {a : Answer} {m : Model} {rows : List Float} {o : Outcome} (r : ℕ) → r ≡ number a → outcome a m rows ≡ o → r ≡ number (o .answer)
@@ -20,6 +24,14 @@ numbers-left told = ap (λ (o : Outcome). o .after .numbers) told
 
 pub rows-left : {a : Answer} {m : Model} {rows : List Float} {o : Outcome} → outcome a m rows ≡ o → rows ≡ o .rows
 rows-left told = ap (λ (o : Outcome). o .rows) told
+
+-- what a sweep stores of its counts where it is granted, and where it is refused
+pub counts-stored : {r : SweepAnswer} {out′ : List ℕ} (a : Answer) (out : List ℕ) → r ≡ sweepAnswerOf a → r .answer ≡ Plain.Granted → out′ ≡ r .counts ++ drop 128 out
+    → out′ ≡ countsOut (sweepAnswerOf a) out
+counts-stored {r} a out told g e = e ∙ ap (λ p. countsIf p (r .counts) out) (sym g) ∙ ap (λ (r : SweepAnswer). countsOut r out) told
+
+pub counts-kept : {r : SweepAnswer} {k : ℕ} (a : Answer) (out : List ℕ) → r ≡ sweepAnswerOf a → r .answer ≡ Plain.Refused k → out ≡ countsOut (sweepAnswerOf a) out
+counts-kept {r} a out told g = ap (λ p. countsIf p (r .counts) out) (sym g) ∙ ap (λ (r : SweepAnswer). countsOut r out) told
 
 -- the same of a number that shows the mark too, and of what a velocity read stores
 pub marked-told : {a : Answer} {m : Model} {rows : List Float} {o : Outcome} (r : ℕ) → r ≡ marked a (m .built) → outcome a m rows ≡ o → r ≡ markedNumber o

@@ -112,9 +112,10 @@ pub extern "C" fn katydidzinc_rows_step(row: &mut [f32], vels: &mut [f32]) -> u3
     let solved = solve_row(c, vel_at(vels, 0), vel_at(vels, 3));
     let stepped = solved.row;
     let after = solved.vels;
+    let side = solved.side;
     put_row(row, 0, stepped);
     put_vels(vels, after);
-    side_number(solved.side)
+    side_number(side)
 }
 
 #[no_mangle]

@@ -101,7 +101,8 @@ pub extern "C" fn katydidzinc_clamp_side(x: f32, low: f32, high: f32) -> u32
     ensures { λ r. ⌜ r ≡ sideNumber (sideOf x low high) ⌝ }
 {
     let clamped = clamp(x, low, high);
-    side_number(clamped.side)
+    let side = clamped.side;
+    side_number(side)
 }
 
 #[no_mangle]

@@ -566,7 +566,10 @@ fn no_sweep(bodies: &mut [f32], words: &[u32], numbers: &[f32], rows: &mut [f32]
     let answer = swept.answer;
     let counts = swept.counts;
     plain(b"sweep 0", answer);
-    number(b"motors of joint 0 at a bound after sweep 0", counts[0] as u64);
+    number(
+        b"motors of joint 0 at a bound after sweep 0",
+        counts[0] as u64,
+    );
     let after = checksum(checksum(0, bodies), rows);
     if before == after {
         text(b"sweep 0 changes nothing = true\n");

@@ -31,6 +31,9 @@ put-row-requires c κs = search needs
 put-vels-requires : tie.Need-put-vels-requires
 put-vels-requires c κs = search needs
 
+side-number-requires : tie.Need-side-number-requires
+side-number-requires c κs = search needs
+
 same-length : tie.Need-same-length
 same-length c = search needs
 
@@ -40,8 +43,8 @@ same-length-2 c = search needs
 returns-3 : tie.Need-returns-3
 unfolding stepRow stepVels stepSide
 returns-3 c =
-    let full = c .before .before .before .before .before .before .before .before .before .before .before .before .before .before .before .before .before in
-    (simp (le-leb _ _ (full .before .if1 .left), le-leb _ _ (full .if2 .left)) (cc), simp (le-leb _ _ (full .before .if1 .left), le-leb _ _ (full .if2 .left)) (cc))
+    let full = c .before .before .before .before .before .before .before .before .before .before .before .before .before .before .before .before .before .before in
+    (simp (le-leb _ _ (full .before .if1 .left), le-leb _ _ (full .if2 .left)) (cc), (simp (le-leb _ _ (full .before .if1 .left), le-leb _ _ (full .if2 .left)) (cc), simp (le-leb _ _ (full .before .if1 .left), le-leb _ _ (full .if2 .left)) (cc)))
 
 pub katydidzinc-rows-step-spec : {M : Type 1} → statement M
 katydidzinc-rows-step-spec =
@@ -55,6 +58,7 @@ katydidzinc-rows-step-spec =
     solve-row-requires
     put-row-requires
     put-vels-requires
+    side-number-requires
     same-length
     same-length-2
     returns-3)
