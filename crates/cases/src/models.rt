@@ -560,6 +560,10 @@ fn limit(bodies: &[f32], words: &[u32], numbers: &[f32], rows: &[f32]) {
     bounds(made.rows[2]);
 }
 
+fn wide(x: u8) -> u64 {
+    x as u64
+}
+
 fn no_sweep(bodies: &mut [f32], words: &[u32], numbers: &[f32], rows: &mut [f32]) {
     let before = checksum(checksum(0, bodies), rows);
     let swept = sweep(header(0.5, true), bodies, words, numbers, rows, 0);
@@ -568,7 +572,7 @@ fn no_sweep(bodies: &mut [f32], words: &[u32], numbers: &[f32], rows: &mut [f32]
     plain(b"sweep 0", answer);
     number(
         b"motors of joint 0 at a bound after sweep 0",
-        counts[0] as u64,
+        wide(counts[0]),
     );
     let after = checksum(checksum(0, bodies), rows);
     if before == after {

@@ -275,6 +275,10 @@ fn swept(h: Header, bodies: &mut [f32], words: &[u32], numbers: &[f32], rows: &m
     );
 }
 
+fn wide(x: u8) -> u64 {
+    x as u64
+}
+
 fn swept_again(
     h: Header,
     bodies: &mut [f32],
@@ -286,8 +290,8 @@ fn swept_again(
     let answer = last.answer;
     let counts = last.counts;
     plain(b"sweep 4", answer);
-    number(b"hip motors out of force", counts[0] as u64);
-    number(b"ankle motors out of force", counts[2] as u64);
+    number(b"hip motors out of force", wide(counts[0]));
+    number(b"ankle motors out of force", wide(counts[2]));
     plain(b"write-back", write_back(h, bodies, words, numbers, rows));
 }
 

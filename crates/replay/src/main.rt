@@ -130,6 +130,10 @@ fn mix_words(h: u32, s: &[u32]) -> u32 {
     sum
 }
 
+fn wide(x: u8) -> u32 {
+    x as u32
+}
+
 // What an answer's own numbers add to a checksum h: h times `times`, plus `plus`.
 struct Tail {
     times: u32,
@@ -211,7 +215,7 @@ impl Tail {
         let mut tail = self;
         let mut i = 0usize;
         while i < 128 {
-            tail = tail.word(counts[i] as u32);
+            tail = tail.word(wide(counts[i]));
             i += 1;
         }
         tail
