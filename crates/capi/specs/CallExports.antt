@@ -6,6 +6,7 @@ use lib.Dec.{leb}
 use lib.ListN.{length, drop}
 use lib.Ieee.{Float}
 use Rattle.floats.specs.declared.pose.Pose.{Pose}
+use Rattle.rows.specs.declared.integration_parameters.IntegrationParameters.{IntegrationParameters}
 use Rattle.rows.specs.declared.joint_constraint_builder.Warmstart.{Warmstart}
 use Rattle.rows.specs.declared.joint_constraint_builder.Warmstart.the-variants.{Cold, Warm}
 use Rattle.rows.specs.declared.joint_velocity_constraint.SolverVel.{SolverVel}
@@ -21,9 +22,13 @@ use Rattle.model.specs.declared.header.Header.{Header}
 use Rattle.model.specs.declared.calls.Plain.{Plain}
 use Rattle.model.specs.declared.calls.RowsAnswer.{RowsAnswer}
 use Rattle.model.specs.declared.calls.SweepAnswer.{SweepAnswer}
-use Rattle.capi.specs.JointExports.{paramsOf, putThree, putFirst, putIds}
+use Rattle.capi.specs.Stored.{putThree, putFirst, putIds}
 
 -- ---- what is handed over
+
+-- the settings that a row reads
+abbrev pub paramsOf : Float → Float → Float → IntegrationParameters
+paramsOf dt unit normalized = record { dt = dt; «length_unit» = unit; «normalized_max_corrective_velocity» = normalized }
 
 abbrev pub headerOf : Float → Float → Float → Bool → Header
 headerOf dt unit normalized built = record { params = paramsOf dt unit normalized; built = built }

@@ -1,5 +1,4 @@
 pub mod CallExports
-pub mod Exports
-pub mod JointExports
-pub mod SinCosExports
+pub mod MicroNumber
+pub mod Stored
 pub mod TableExports

@@ -13,9 +13,9 @@ ghost use Rattle.model.specs.Calls.Call.{load, place, build, warmStart, sweep, 
 ghost use Rattle.model.specs.Answers.{plainAnswer, loadAnswer, loadHeader, buildAnswer, buildHeader};
 ghost use Rattle.model.specs.declared.header.Header.{Header};
 ghost use Rattle.capi.specs.CallExports.{headerOf, lent, poseFrom, warmOf, number, marked, markedNumber, rowsReadAt, rowsGrantedOr, rowsNumber, rowsOut, idsOut, rowsIfRoom, idsIfRoom, sweptAt, countsOut, roomForCounts, putVelocity, velocityOut};
-use crate::joint::put_first;
-use crate::joint::put_ids;
-use crate::joint::put_three;
+use crate::stored::put_first;
+use crate::stored::put_ids;
+use crate::stored::put_three;
 use floats::pose::Pose;
 use floats::rotation_ops::Rotation;
 use floats::vector::Vector;

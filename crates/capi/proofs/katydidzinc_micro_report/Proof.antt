@@ -7,7 +7,7 @@ use lib.IntN.{ℤ}
 use mir.Syntax.{w32, w64}
 use mir.Val.{SFits, toZ, ofZ}
 use mir.ValLaws.{toZ-ofZ}
-use Rattle.capi.specs.Exports.{numberOf}
+use Rattle.capi.specs.MicroNumber.{numberOf}
 use Rattle.capi.proofs.katydidzinc_micro_report.Statement.{statement}
 use Rattle.capi.proofs.katydidzinc_micro_report.Tie as tie
 
