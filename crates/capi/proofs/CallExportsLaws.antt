@@ -9,7 +9,7 @@ use Rattle.model.specs.Calls.{Answer, Outcome, outcome}
 use Rattle.model.specs.Answers.{sweepAnswerOf}
 use Rattle.model.specs.declared.calls.Plain.{Plain}
 use Rattle.model.specs.declared.calls.SweepAnswer.{SweepAnswer}
-use Rattle.capi.specs.CallExports.{number, marked, markedNumber, countsIf, countsOut, velocityOut}
+use Rattle.capi.specs.CallExports.{number, marked, markedNumber, countsIf, countsOut, velocityNumber, velocityOut}
 
 -- a number that shows the answer shows that of the outcome
 pub number-told : {a : Answer} {m : Model} {rows : List Float} {o : Outcome} (r : ℕ) → r ≡ number a → outcome a m rows ≡ o → r ≡ number (o .answer)
@@ -33,9 +33,12 @@ counts-stored {r} a out told g e = e ∙ ap (λ p. countsIf p (r .counts) out) (
 pub counts-kept : {r : SweepAnswer} {k : ℕ} (a : Answer) (out : List ℕ) → r ≡ sweepAnswerOf a → r .answer ≡ Plain.Refused k → out ≡ countsOut (sweepAnswerOf a) out
 counts-kept {r} a out told g = ap (λ p. countsIf p (r .counts) out) (sym g) ∙ ap (λ (r : SweepAnswer). countsOut r out) told
 
--- the same of a number that shows the mark too, and of what a velocity read stores
+-- the same of a number that shows the mark too, and of what a velocity read answers and stores
 pub marked-told : {a : Answer} {m : Model} {rows : List Float} {o : Outcome} (r : ℕ) → r ≡ marked a (m .built) → outcome a m rows ≡ o → r ≡ markedNumber o
 marked-told r e told = e ∙ ap (λ (o : Outcome). markedNumber o) told
+
+pub velocity-told : {a : Answer} {m : Model} {rows : List Float} {o : Outcome} (out : List Float) (r : ℕ) → r ≡ velocityNumber a out → outcome a m rows ≡ o → r ≡ velocityNumber (o .answer) out
+velocity-told out r e told = e ∙ ap (λ (o : Outcome). velocityNumber (o .answer) out) told
 
 pub velocity-left : {a : Answer} {m : Model} {rows : List Float} {o : Outcome} (out : List Float) → outcome a m rows ≡ o → velocityOut a out ≡ velocityOut (o .answer) out
 velocity-left out told = ap (λ (o : Outcome). velocityOut (o .answer) out) told

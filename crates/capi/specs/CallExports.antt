@@ -1,8 +1,8 @@
 -- The exported calls of the model: a header from its numbers, an answer as a number, and what is stored of a row read and of a velocity read.
 use Prim.Native.Nat.{ℕ, _+_, _%_}
-use mathlib.Core.Bool.{Bool, true, false, cond, _&&_}
+use mathlib.Core.Bool.{Bool, true, false, not, cond, _&&_}
 use mathlib.Core.List.{List, _++_}
-use lib.Dec.{leb}
+use lib.Dec.{leb, eqb}
 use lib.ListN.{length, drop}
 use lib.Ieee.{Float}
 use Rattle.floats.specs.declared.pose.Pose.{Pose}
@@ -30,17 +30,21 @@ use Rattle.capi.specs.Stored.{putThree, putFirst, putIds}
 abbrev pub paramsOf : Float → Float → Float → IntegrationParameters
 paramsOf dt unit normalized = record { dt = dt; «length_unit» = unit; «normalized_max_corrective_velocity» = normalized }
 
-abbrev pub headerOf : Float → Float → Float → Bool → Header
-headerOf dt unit normalized built = record { params = paramsOf dt unit normalized; built = built }
+-- a flag is a word: 0 is false, and every other word true
+unfoldable pub flag : ℕ → Bool
+flag w = not (eqb w 0)
 
-abbrev pub lent : Float → Float → Float → Bool → List Float → List ℕ → List Float → Model
+abbrev pub headerOf : Float → Float → Float → ℕ → Header
+headerOf dt unit normalized built = record { params = paramsOf dt unit normalized; built = flag built }
+
+abbrev pub lent : Float → Float → Float → ℕ → List Float → List ℕ → List Float → Model
 lent dt unit normalized built bodies words numbers = modelOf (headerOf dt unit normalized built) bodies words numbers
 
 abbrev pub poseFrom : Float → Float → Float → Float → Pose
 poseFrom re im x y = record { rotation = record { re = re; im = im }; translation = record { x = x; y = y } }
 
-abbrev pub warmOf : Bool → Float → Warmstart
-warmOf warm coefficient = cond warm (Warm coefficient) Cold
+abbrev pub warmOf : ℕ → Float → Warmstart
+warmOf warm coefficient = cond (flag warm) (Warm coefficient) Cold
 
 -- ---- answers as numbers
 
@@ -70,26 +74,31 @@ marked (refused k) built = k
 abbrev pub markedNumber : Outcome → ℕ
 markedNumber o = marked (o .answer) (o .after .built)
 
+-- the answer where the model grants a read for which a slice has no room: a number above all refusals
+abbrev pub shortSlice : ℕ
+shortSlice = 1000
+
 -- ---- a joint's rows and ids, stored
 
 abbrev pub rowsReadAt : ℕ → Model → List Float → RowsAnswer
 rowsReadAt joint m rows = rowsAnswerOf (rowMasksAt (m .words) joint) (run (readRows joint) m rows .answer)
 
-abbrev pub rowsGrantedOr : Plain → ℕ → ℕ
-rowsGrantedOr Plain.Granted n = rowsGranted n
-rowsGrantedOr (Plain.Refused k) n = k
+abbrev pub rowsGrantedOr : Plain → ℕ → Bool → ℕ
+rowsGrantedOr Plain.Granted n stored = cond stored (rowsGranted n) shortSlice
+rowsGrantedOr (Plain.Refused k) n stored = k
 
-abbrev pub rowsNumber : RowsAnswer → ℕ
-rowsNumber r = rowsGrantedOr (r .answer) (r .rows .len)
+-- there is room for six rows and six ids, however many a joint has
+unfoldable pub roomForRows : List Float → List ℕ → Bool
+roomForRows out ids = leb 108 (length out) && leb 6 (length ids)
 
-abbrev roomy : List Float → List ℕ → Bool
-roomy out ids = leb 108 (length out) && leb 6 (length ids)
+abbrev pub rowsNumber : RowsAnswer → List Float → List ℕ → ℕ
+rowsNumber r out ids = rowsGrantedOr (r .answer) (r .rows .len) (roomForRows out ids)
 
 unfoldable pub rowsIfRoom : Rows → List Float → List ℕ → List Float
-rowsIfRoom made out ids = cond (roomy out ids) (putFirst out made) out
+rowsIfRoom made out ids = cond (roomForRows out ids) (putFirst out made) out
 
 unfoldable pub idsIfRoom : RowIds → List Float → List ℕ → List ℕ
-idsIfRoom named out ids = cond (roomy out ids) (putIds ids named) ids
+idsIfRoom named out ids = cond (roomForRows out ids) (putIds ids named) ids
 
 abbrev pub rowsOut : RowsAnswer → List Float → List ℕ → List Float
 rowsOut r out ids = rowsIfRoom (r .rows) out ids
@@ -115,6 +124,17 @@ abbrev pub roomForCounts : List ℕ → Bool
 roomForCounts counts = leb 128 (length counts)
 
 -- ---- a velocity, stored
+
+abbrev pub roomForVelocity : List Float → ℕ
+roomForVelocity out = cond (leb 3 (length out)) 0 shortSlice
+
+abbrev pub velocityNumber : Answer → List Float → ℕ
+velocityNumber (velocityRead v) out = roomForVelocity out
+velocityNumber granted out = 0
+velocityNumber (total n) out = rowsGranted n
+velocityNumber (rowsRead ids rows) out = rowsGranted (length rows)
+velocityNumber (swept counts) out = 0
+velocityNumber (refused k) out = k
 
 unfoldable pub putVelocity : SolverVel → List Float → List Float
 putVelocity v out = cond (leb 3 (length out)) (putThree out 0 (v .linear .x) (v .linear .y) (v .angular)) out

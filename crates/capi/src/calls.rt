@@ -1,8 +1,9 @@
-// The model's calls for C and Rust callers. A header is its three settings and the mark. A refusal
-// is its number; a granted call is 0, and a granted build or row read 2^32 plus its number of rows.
-// A joint's rows and ids, and a body's velocity, are stored in slices of the caller's; where these
-// are too short, nothing is stored. A header that came back with the wrong mark would show as 100
-// after a load and as 2^33 plus the number of rows after a build.
+// The model's calls for C, Rust and Python callers. A header is its three settings and the mark, a flag: 0 is
+// false and every other word true. An answer is 64 bits wide. A refusal is its number; a granted call is 0, and a granted
+// build or row read 2^32 plus its number of rows. A joint's rows and ids, and a body's velocity, are stored in slices of
+// the caller's; where the model grants the read and one of these is too short, the answer says so and nothing
+// is stored. A header that came back with the wrong mark would show as 100 after a load and as 2^33
+// plus the number of rows after a build.
 ghost use mathlib.Core.Path.{_≡_};
 ghost use mathlib.Core.List.{[], _++_};
 ghost use mathlib.Core.Bool.{cond};
@@ -12,7 +13,7 @@ ghost use Rattle.model.specs.Calls.{run};
 ghost use Rattle.model.specs.Calls.Call.{load, place, build, warmStart, sweep, removeBias, writeBack, readRows, readVelocity, setTargets};
 ghost use Rattle.model.specs.Answers.{plainAnswer, loadAnswer, loadHeader, buildAnswer, buildHeader};
 ghost use Rattle.model.specs.declared.header.Header.{Header};
-ghost use Rattle.capi.specs.CallExports.{headerOf, lent, poseFrom, warmOf, number, marked, markedNumber, rowsReadAt, rowsGrantedOr, rowsNumber, rowsOut, idsOut, rowsIfRoom, idsIfRoom, sweptAt, countsOut, roomForCounts, putVelocity, velocityOut};
+ghost use Rattle.capi.specs.CallExports.{flag, headerOf, lent, poseFrom, warmOf, number, marked, markedNumber, rowsReadAt, rowsGrantedOr, rowsNumber, rowsOut, idsOut, roomForRows, rowsIfRoom, idsIfRoom, shortSlice, sweptAt, countsOut, roomForCounts, roomForVelocity, velocityNumber, putVelocity, velocityOut};
 use crate::stored::put_first;
 use crate::stored::put_ids;
 use crate::stored::put_three;
@@ -40,7 +41,26 @@ use rows::joint_velocity_constraint::Rows;
 use rows::joint_velocity_constraint::SolverVel;
 use rows::row_ids::RowIds;
 
-fn header(dt: f32, length_unit: f32, normalized: f32, built: bool) -> Header
+// What a granted build or row read adds to its number of rows.
+pub const ROWS_GRANTED: u64 = 4294967296;
+
+// The answer where the model grants a read for which a slice has no room: a number above all refusals.
+pub const SHORT_SLICE: u64 = 1000;
+
+// What the slices of a row read have room for, however many rows there are; and those of a velocity read.
+pub const READ_NUMBERS: usize = 108;
+
+pub const READ_IDS: usize = 6;
+
+pub const VELOCITY_NUMBERS: usize = 3;
+
+fn flag_of(word: u32) -> bool
+    ensures { λ r. ⌜ r ≡ flag word ⌝ }
+{
+    word != 0
+}
+
+fn header(dt: f32, length_unit: f32, normalized: f32, built: u32) -> Header
     ensures { λ r. ⌜ r ≡ headerOf dt «length_unit» normalized built ⌝ }
 {
     Header {
@@ -49,22 +69,22 @@ fn header(dt: f32, length_unit: f32, normalized: f32, built: bool) -> Header
             length_unit: length_unit,
             normalized_max_corrective_velocity: normalized,
         },
-        built: built,
+        built: flag_of(built),
     }
 }
 
-fn plain_number(answer: Plain) -> u32
+fn plain_number(answer: Plain) -> u64
     ensures { λ r. ⌜ r ≡ number (plainAnswer answer) ⌝ }
 {
     match answer {
         Plain::Granted => 0,
-        Plain::Refused(k) => k,
+        Plain::Refused(k) => k as u64,
     }
 }
 
 // The mark that counts is that of the header that came back; a refusal's number does not depend on
 // the header before.
-fn load_number(answer: LoadAnswer) -> u32
+fn load_number(answer: LoadAnswer) -> u64
     ensures { λ r. ⌜ ((before : Header) → r ≡ marked (loadAnswer answer) (loadHeader before answer .built)) ⌝ }
 {
     match answer {
@@ -74,7 +94,7 @@ fn load_number(answer: LoadAnswer) -> u32
             }
             0
         }
-        LoadAnswer::Refused(k) => k,
+        LoadAnswer::Refused(k) => k as u64,
     }
 }
 
@@ -85,7 +105,7 @@ fn build_number(answer: BuildAnswer) -> u64
         BuildAnswer::Built(after, n) => {
             let total = (n % 4294967296) as u64;
             if after.built {
-                return 4294967296 + total;
+                return ROWS_GRANTED + total;
             }
             8589934592 + total
         }
@@ -93,19 +113,24 @@ fn build_number(answer: BuildAnswer) -> u64
     }
 }
 
-fn rows_number(answer: Plain, n: usize) -> u64
-    ensures { λ r. ⌜ r ≡ rowsGrantedOr answer n ⌝ }
+fn rows_number(answer: Plain, n: usize, stored: bool) -> u64
+    ensures { λ r. ⌜ r ≡ rowsGrantedOr answer n stored ⌝ }
 {
     match answer {
-        Plain::Granted => 4294967296 + (n % 4294967296) as u64,
+        Plain::Granted => {
+            if stored {
+                return ROWS_GRANTED + (n % 4294967296) as u64;
+            }
+            SHORT_SLICE
+        }
         Plain::Refused(k) => k as u64,
     }
 }
 
-fn warm_of(warm: bool, coefficient: f32) -> Warmstart
+fn warm_of(warm: u32, coefficient: f32) -> Warmstart
     ensures { λ r. ⌜ r ≡ warmOf warm coefficient ⌝ }
 {
-    if warm {
+    if flag_of(warm) {
         return Warmstart::Warm(coefficient);
     }
     Warmstart::Cold
@@ -116,12 +141,12 @@ pub extern "C" fn katydidzinc_load(
     dt: f32,
     length_unit: f32,
     normalized: f32,
-    built: bool,
+    built: u32,
     bodies: &[f32],
     words: &[u32],
     numbers: &[f32],
     rows: &[f32],
-) -> u32
+) -> u64
     ensures { λ r. ⌜ r ≡ markedNumber (run load (lent dt «length_unit» normalized built (now (bodies .entry)) (now (words .entry)) (now (numbers .entry))) (now (rows .entry))) ⌝ }
 {
     let h = header(dt, length_unit, normalized, built);
@@ -133,7 +158,7 @@ pub extern "C" fn katydidzinc_place(
     dt: f32,
     length_unit: f32,
     normalized: f32,
-    built: bool,
+    built: u32,
     bodies: &mut [f32],
     words: &[u32],
     numbers: &[f32],
@@ -142,7 +167,7 @@ pub extern "C" fn katydidzinc_place(
     im: f32,
     x: f32,
     y: f32,
-) -> u32
+) -> u64
     ensures { λ r. ⌜ r ≡ number (run (place body (poseFrom re im x y)) (lent dt «length_unit» normalized built (now (bodies .entry)) (now (words .entry)) (now (numbers .entry))) [] .answer) ⌝ }
     ensures { λ _. ⌜ now (bodies .exit) ≡ run (place body (poseFrom re im x y)) (lent dt «length_unit» normalized built (now (bodies .entry)) (now (words .entry)) (now (numbers .entry))) [] .after .bodies ⌝ }
 {
@@ -159,12 +184,12 @@ pub extern "C" fn katydidzinc_build(
     dt: f32,
     length_unit: f32,
     normalized: f32,
-    built: bool,
+    built: u32,
     bodies: &[f32],
     words: &[u32],
     numbers: &[f32],
     rows: &mut [f32],
-    warm: bool,
+    warm: u32,
     coefficient: f32,
     substep_id: u32,
 ) -> u64
@@ -181,12 +206,12 @@ pub extern "C" fn katydidzinc_warm_start(
     dt: f32,
     length_unit: f32,
     normalized: f32,
-    built: bool,
+    built: u32,
     bodies: &mut [f32],
     words: &[u32],
     numbers: &[f32],
     rows: &[f32],
-) -> u32
+) -> u64
     ensures { λ r. ⌜ r ≡ number (run warmStart (lent dt «length_unit» normalized built (now (bodies .entry)) (now (words .entry)) (now (numbers .entry))) (now (rows .entry)) .answer) ⌝ }
     ensures { λ _. ⌜ now (bodies .exit) ≡ run warmStart (lent dt «length_unit» normalized built (now (bodies .entry)) (now (words .entry)) (now (numbers .entry))) (now (rows .entry)) .after .bodies ⌝ }
 {
@@ -212,21 +237,21 @@ pub extern "C" fn katydidzinc_sweep(
     dt: f32,
     length_unit: f32,
     normalized: f32,
-    built: bool,
+    built: u32,
     bodies: &mut [f32],
     words: &[u32],
     numbers: &[f32],
     rows: &mut [f32],
     n: u32,
     counts: &mut [u8],
-) -> u32
-    ensures { λ r. ⌜ r ≡ cond (roomForCounts (now (counts .entry))) (number (run (sweep n) (lent dt «length_unit» normalized built (now (bodies .entry)) (now (words .entry)) (now (numbers .entry))) (now (rows .entry)) .answer)) 101 ⌝ }
+) -> u64
+    ensures { λ r. ⌜ r ≡ cond (roomForCounts (now (counts .entry))) (number (run (sweep n) (lent dt «length_unit» normalized built (now (bodies .entry)) (now (words .entry)) (now (numbers .entry))) (now (rows .entry)) .answer)) shortSlice ⌝ }
     ensures { λ _. ⌜ now (bodies .exit) ≡ cond (roomForCounts (now (counts .entry))) (run (sweep n) (lent dt «length_unit» normalized built (now (bodies .entry)) (now (words .entry)) (now (numbers .entry))) (now (rows .entry)) .after .bodies) (now (bodies .entry)) ⌝ }
     ensures { λ _. ⌜ now (rows .exit) ≡ cond (roomForCounts (now (counts .entry))) (run (sweep n) (lent dt «length_unit» normalized built (now (bodies .entry)) (now (words .entry)) (now (numbers .entry))) (now (rows .entry)) .rows) (now (rows .entry)) ⌝ }
     ensures { λ _. ⌜ now (counts .exit) ≡ cond (roomForCounts (now (counts .entry))) (countsOut (sweptAt n (lent dt «length_unit» normalized built (now (bodies .entry)) (now (words .entry)) (now (numbers .entry))) (now (rows .entry))) (now (counts .entry))) (now (counts .entry)) ⌝ }
 {
     if counts.len() < 128 {
-        return 101;
+        return SHORT_SLICE;
     }
     let h = header(dt, length_unit, normalized, built);
     let swept = sweep(h, bodies, words, numbers, rows, n);
@@ -237,7 +262,7 @@ pub extern "C" fn katydidzinc_sweep(
             put_counts(counts, made);
             0
         }
-        Plain::Refused(k) => k,
+        Plain::Refused(k) => k as u64,
     }
 }
 
@@ -246,12 +271,12 @@ pub extern "C" fn katydidzinc_remove_bias(
     dt: f32,
     length_unit: f32,
     normalized: f32,
-    built: bool,
+    built: u32,
     bodies: &[f32],
     words: &[u32],
     numbers: &[f32],
     rows: &mut [f32],
-) -> u32
+) -> u64
     ensures { λ r. ⌜ r ≡ number (run removeBias (lent dt «length_unit» normalized built (now (bodies .entry)) (now (words .entry)) (now (numbers .entry))) (now (rows .entry)) .answer) ⌝ }
     ensures { λ _. ⌜ now (rows .exit) ≡ run removeBias (lent dt «length_unit» normalized built (now (bodies .entry)) (now (words .entry)) (now (numbers .entry))) (now (rows .entry)) .rows ⌝ }
 {
@@ -264,12 +289,12 @@ pub extern "C" fn katydidzinc_write_back(
     dt: f32,
     length_unit: f32,
     normalized: f32,
-    built: bool,
+    built: u32,
     bodies: &[f32],
     words: &[u32],
     numbers: &mut [f32],
     rows: &[f32],
-) -> u32
+) -> u64
     ensures { λ r. ⌜ r ≡ number (run writeBack (lent dt «length_unit» normalized built (now (bodies .entry)) (now (words .entry)) (now (numbers .entry))) (now (rows .entry)) .answer) ⌝ }
     ensures { λ _. ⌜ now (numbers .exit) ≡ run writeBack (lent dt «length_unit» normalized built (now (bodies .entry)) (now (words .entry)) (now (numbers .entry))) (now (rows .entry)) .after .numbers ⌝ }
 {
@@ -277,19 +302,21 @@ pub extern "C" fn katydidzinc_write_back(
     plain_number(write_back(h, bodies, words, numbers, rows))
 }
 
-// Rows and ids, stored where both slices have room.
-fn put_read(out: &mut [f32], ids: &mut [u32], made: Rows, named: RowIds)
+// Rows and ids, stored where both slices have room; whether they have.
+fn put_read(out: &mut [f32], ids: &mut [u32], made: Rows, named: RowIds) -> bool
+    ensures { λ r. ⌜ r ≡ roomForRows (now (out .entry)) (now (ids .entry)) ⌝ }
     ensures { λ _. ⌜ now (out .exit) ≡ rowsIfRoom made (now (out .entry)) (now (ids .entry)) ⌝ }
     ensures { λ _. ⌜ now (ids .exit) ≡ idsIfRoom named (now (out .entry)) (now (ids .entry)) ⌝ }
 {
-    if out.len() < 108 {
-        return;
+    if out.len() < READ_NUMBERS {
+        return false;
     }
-    if ids.len() < 6 {
-        return;
+    if ids.len() < READ_IDS {
+        return false;
     }
     put_first(out, made);
     put_ids(ids, named);
+    true
 }
 
 #[no_mangle]
@@ -297,7 +324,7 @@ pub extern "C" fn katydidzinc_read_rows(
     dt: f32,
     length_unit: f32,
     normalized: f32,
-    built: bool,
+    built: u32,
     bodies: &[f32],
     words: &[u32],
     numbers: &[f32],
@@ -306,7 +333,7 @@ pub extern "C" fn katydidzinc_read_rows(
     out: &mut [f32],
     ids: &mut [u32],
 ) -> u64
-    ensures { λ r. ⌜ r ≡ rowsNumber (rowsReadAt joint (lent dt «length_unit» normalized built (now (bodies .entry)) (now (words .entry)) (now (numbers .entry))) (now (rows .entry))) ⌝ }
+    ensures { λ r. ⌜ r ≡ rowsNumber (rowsReadAt joint (lent dt «length_unit» normalized built (now (bodies .entry)) (now (words .entry)) (now (numbers .entry))) (now (rows .entry))) (now (out .entry)) (now (ids .entry)) ⌝ }
     ensures { λ _. ⌜ now (out .exit) ≡ rowsOut (rowsReadAt joint (lent dt «length_unit» normalized built (now (bodies .entry)) (now (words .entry)) (now (numbers .entry))) (now (rows .entry))) (now (out .entry)) (now (ids .entry)) ⌝ }
     ensures { λ _. ⌜ now (ids .exit) ≡ idsOut (rowsReadAt joint (lent dt «length_unit» normalized built (now (bodies .entry)) (now (words .entry)) (now (numbers .entry))) (now (rows .entry))) (now (out .entry)) (now (ids .entry)) ⌝ }
 {
@@ -315,18 +342,21 @@ pub extern "C" fn katydidzinc_read_rows(
     let answer = read.answer;
     let named = read.ids;
     let made = read.rows;
-    put_read(out, ids, made, named);
-    rows_number(answer, made.len)
+    let stored = put_read(out, ids, made, named);
+    rows_number(answer, made.len, stored)
 }
 
-fn put_velocity(out: &mut [f32], v: SolverVel)
+// A velocity, stored where the slice has room; the read's answer.
+fn put_velocity(out: &mut [f32], v: SolverVel) -> u64
+    ensures { λ r. ⌜ r ≡ roomForVelocity (now (out .entry)) ⌝ }
     ensures { λ _. ⌜ now (out .exit) ≡ putVelocity v (now (out .entry)) ⌝ }
 {
-    if out.len() < 3 {
-        return;
+    if out.len() < VELOCITY_NUMBERS {
+        return SHORT_SLICE;
     }
     let linear = v.linear;
     put_three(out, 0, linear.x, linear.y, v.angular);
+    0
 }
 
 #[no_mangle]
@@ -334,24 +364,21 @@ pub extern "C" fn katydidzinc_read_velocity(
     dt: f32,
     length_unit: f32,
     normalized: f32,
-    built: bool,
+    built: u32,
     bodies: &[f32],
     words: &[u32],
     numbers: &[f32],
     body: u32,
     out: &mut [f32],
-) -> u32
-    ensures { λ r. ⌜ r ≡ number (run (readVelocity body) (lent dt «length_unit» normalized built (now (bodies .entry)) (now (words .entry)) (now (numbers .entry))) [] .answer) ⌝ }
+) -> u64
+    ensures { λ r. ⌜ r ≡ velocityNumber (run (readVelocity body) (lent dt «length_unit» normalized built (now (bodies .entry)) (now (words .entry)) (now (numbers .entry))) [] .answer) (now (out .entry)) ⌝ }
     ensures { λ _. ⌜ now (out .exit) ≡ velocityOut (run (readVelocity body) (lent dt «length_unit» normalized built (now (bodies .entry)) (now (words .entry)) (now (numbers .entry))) [] .answer) (now (out .entry)) ⌝ }
 {
     let h = header(dt, length_unit, normalized, built);
     let answer = read_velocity(h, bodies, words, numbers, body);
     match answer {
-        VelocityAnswer::Velocity(v) => {
-            put_velocity(out, v);
-            0
-        }
-        VelocityAnswer::Refused(k) => k,
+        VelocityAnswer::Velocity(v) => put_velocity(out, v),
+        VelocityAnswer::Refused(k) => k as u64,
     }
 }
 
@@ -361,12 +388,12 @@ pub extern "C" fn katydidzinc_set_targets(
     dt: f32,
     length_unit: f32,
     normalized: f32,
-    built: bool,
+    built: u32,
     bodies: &[f32],
     words: &[u32],
     numbers: &mut [f32],
     table: &[u8],
-) -> u32
+) -> u64
     ensures { λ r. ⌜ r ≡ number (run (setTargets (now (table .entry))) (lent dt «length_unit» normalized built (now (bodies .entry)) (now (words .entry)) (now (numbers .entry))) [] .answer) ⌝ }
     ensures { λ _. ⌜ now (numbers .exit) ≡ run (setTargets (now (table .entry))) (lent dt «length_unit» normalized built (now (bodies .entry)) (now (words .entry)) (now (numbers .entry))) [] .after .numbers ⌝ }
 {

@@ -32,7 +32,7 @@ use Rattle.rows.specs.declared.joint_velocity_constraint.SolverVel.{SolverVel}
 use Rattle.rows.specs.declared.joint_velocity_constraint.SolverVels.{SolverVels}
 use Rattle.rows.specs.declared.joint_velocity_constraint.Solved.{Solved}
 use Rattle.capi.specs.Stored.{putThree, ofSix, putFirst, putIds}
-use Rattle.capi.specs.CallExports.{paramsOf}
+use Rattle.capi.specs.CallExports.{shortSlice, paramsOf}
 use Rattle.model.specs.Layout.{rowWidth, numbersWidth}
 use Rattle.model.specs.Store.{rowOf, rowAt, putRow, putSeed, modelOf, jointAt}
 use Rattle.comparison.specs.Exports.{sideNumber}
@@ -164,7 +164,7 @@ abbrev pub hasRoom : List ℕ → List Float → List Float → List ℕ → Boo
 hasRoom w x rows ids = leb 9 (length w) && leb 60 (length x) && leb 108 (length rows) && leb 6 (length ids)
 
 unfoldable pub buildCount : List ℕ → List Float → List Float → List ℕ → ℕ
-buildCount w x rows ids = cond (hasRoom w x rows ids) (roomyCount w x rows) 0
+buildCount w x rows ids = cond (hasRoom w x rows ids) (roomyCount w x rows) shortSlice
 
 unfoldable pub buildRows : List ℕ → List Float → List Float → List ℕ → List Float
 buildRows w x rows ids = cond (hasRoom w x rows ids) (roomyRows w x rows) rows

@@ -1,7 +1,7 @@
-// The rows of a joint for C and Rust callers, over numbers and slices. A row is 18 numbers, in the
-// order of its struct's fields; two velocities are six: linear x and y and angular, of body 1 and
-// then of body 2. Where a slice is shorter than what a function reads or writes of it, nothing is
-// written.
+// The rows of a joint for the comparison, over numbers and slices. A row is 18 numbers, in the order of its struct's
+// fields; two velocities are six: linear x and y and angular, of body 1 and then of body 2. Where a slice
+// is shorter than what a function reads or writes of it, nothing is written; a build then answers 1000, which is
+// no joint's number of rows.
 ghost use mathlib.Core.Path.{_≡_};
 ghost use Prim.Native.Nat.{_+_, _*_, _≤_, _<_};
 ghost use lib.ListN.{length};
@@ -423,16 +423,16 @@ pub extern "C" fn katydidzinc_rows_build(
     ensures { λ _. ⌜ now (ids .exit) ≡ buildIds (now (words .entry)) (now (numbers .entry)) (now (rows .entry)) (now (ids .entry)) ⌝ }
 {
     if words.len() < 9 {
-        return 0;
+        return 1000;
     }
     if numbers.len() < 60 {
-        return 0;
+        return 1000;
     }
     if rows.len() < 108 {
-        return 0;
+        return 1000;
     }
     if ids.len() < 6 {
-        return 0;
+        return 1000;
     }
     build(words, numbers, rows, ids)
 }

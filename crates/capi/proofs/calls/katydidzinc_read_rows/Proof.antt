@@ -26,7 +26,8 @@ returns c =
     let p = c .before .before .before .before .before in
     let s = p .before .before .before .before .before in
     let told = rw (s .before .header .ensures) at (s .read-rows .ensures .1) in
-    (rw told at (c .rows-number .ensures), (rw told at (p .put-read .ensures .0), rw told at (p .put-read .ensures .1)))
+    let e = p .put-read .ensures in
+    (rw (told, e .0) at (c .rows-number .ensures), (rw told at (e .1 .0), rw told at (e .1 .1)))
 
 pub katydidzinc-read-rows-spec : {M : Type 1} → statement M
 katydidzinc-read-rows-spec =

@@ -1,20 +1,22 @@
 -- `put_read` meets its contract: each test decides one of the specification's.
 use borrow.Author.Tests.{le-leb, lt-leb}
-use Rattle.capi.specs.CallExports.{rowsIfRoom, idsIfRoom}
+use Rattle.capi.specs.CallExports.{roomForRows, rowsIfRoom, idsIfRoom}
 use borrow.Author.Needs.{needs}
 use Rattle.capi.proofs.calls.put_read.Statement.{statement}
 use Rattle.capi.proofs.calls.put_read.Tie as tie
 
 returns : tie.Need-returns
-unfolding rowsIfRoom idsIfRoom
-returns c = (simp (lt-leb _ _ (c .if1 .taken)), simp (lt-leb _ _ (c .if1 .taken)))
+unfolding roomForRows rowsIfRoom idsIfRoom
+returns c =
+    let e = lt-leb _ _ (c .if1 .taken) in
+    (simp e, (simp e, simp e))
 
 returns-2 : tie.Need-returns-2
-unfolding rowsIfRoom idsIfRoom
+unfolding roomForRows rowsIfRoom idsIfRoom
 returns-2 c =
     let e = le-leb _ _ (c .before .if1 .left) in
     let f = lt-leb _ _ (c .if2 .taken) in
-    (simp (e, f), simp (e, f))
+    (simp (e, f), (simp (e, f), simp (e, f)))
 
 put-first-requires : tie.Need-put-first-requires
 put-first-requires c κs = search needs
@@ -29,12 +31,12 @@ same-length-2 : tie.Need-same-length-2
 same-length-2 c = search needs
 
 returns-3 : tie.Need-returns-3
-unfolding rowsIfRoom idsIfRoom
+unfolding roomForRows rowsIfRoom idsIfRoom
 returns-3 c =
     let e2 = c .before .before .before .before .before .before .before .before in
     let e = le-leb _ _ (e2 .before .if1 .left) in
     let f = le-leb _ _ (e2 .if2 .left) in
-    (simp (e, f) (cc), simp (e, f) (cc))
+    (simp (e, f), (simp (e, f) (cc), simp (e, f) (cc)))
 
 pub put-read-spec : {M : Type 1} → statement M
 put-read-spec =

@@ -7,7 +7,9 @@ use Rattle.capi.proofs.calls.put_velocity.Tie as tie
 
 returns : tie.Need-returns
 unfolding putVelocity
-returns c = simp (lt-leb _ _ (c .if1 .taken))
+returns c =
+    let e = lt-leb _ _ (c .if1 .taken) in
+    (simp e, simp e)
 
 put-three-requires : tie.Need-put-three-requires
 put-three-requires c κs = search needs
@@ -17,7 +19,9 @@ same-length c = search needs
 
 returns-2 : tie.Need-returns-2
 unfolding putVelocity
-returns-2 c = simp (le-leb _ _ (c .before .before .before .before .before .if1 .left)) (cc)
+returns-2 c =
+    let e = le-leb _ _ (c .before .before .before .before .before .if1 .left) in
+    (simp e, simp e (cc))
 
 pub put-velocity-spec : {M : Type 1} → statement M
 put-velocity-spec = tie.close (tie.spec returns put-three-requires same-length returns-2)
