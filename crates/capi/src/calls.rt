@@ -231,7 +231,7 @@ fn put_counts(out: &mut [u8], counts: [u8; 128])
     }
 }
 
-// 128 bytes are lent for the counts, one a joint. Where there are fewer the answer is 101, which is no refusal's number, and nothing is done.
+// 128 bytes are lent for the counts, one a joint. Where there are fewer the answer says so, and nothing is done.
 #[no_mangle]
 pub extern "C" fn katydidzinc_sweep(
     dt: f32,

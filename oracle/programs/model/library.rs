@@ -60,7 +60,7 @@ mod exported {
             dt: f32,
             length_unit: f32,
             normalized: f32,
-            built: bool,
+            built: u32,
             bodies: *const f32,
             bodies_len: usize,
             words: *const u32,
@@ -69,12 +69,12 @@ mod exported {
             numbers_len: usize,
             rows: *const f32,
             rows_len: usize,
-        ) -> u32;
+        ) -> u64;
         fn katydidzinc_place(
             dt: f32,
             length_unit: f32,
             normalized: f32,
-            built: bool,
+            built: u32,
             bodies: *mut f32,
             bodies_len: usize,
             words: *const u32,
@@ -86,12 +86,12 @@ mod exported {
             im: f32,
             x: f32,
             y: f32,
-        ) -> u32;
+        ) -> u64;
         fn katydidzinc_build(
             dt: f32,
             length_unit: f32,
             normalized: f32,
-            built: bool,
+            built: u32,
             bodies: *const f32,
             bodies_len: usize,
             words: *const u32,
@@ -100,7 +100,7 @@ mod exported {
             numbers_len: usize,
             rows: *mut f32,
             rows_len: usize,
-            warm: bool,
+            warm: u32,
             coefficient: f32,
             substep: u32,
         ) -> u64;
@@ -108,7 +108,7 @@ mod exported {
             dt: f32,
             length_unit: f32,
             normalized: f32,
-            built: bool,
+            built: u32,
             bodies: *mut f32,
             bodies_len: usize,
             words: *const u32,
@@ -117,12 +117,12 @@ mod exported {
             numbers_len: usize,
             rows: *const f32,
             rows_len: usize,
-        ) -> u32;
+        ) -> u64;
         fn katydidzinc_sweep(
             dt: f32,
             length_unit: f32,
             normalized: f32,
-            built: bool,
+            built: u32,
             bodies: *mut f32,
             bodies_len: usize,
             words: *const u32,
@@ -134,12 +134,12 @@ mod exported {
             n: u32,
             counts: *mut u8,
             counts_len: usize,
-        ) -> u32;
+        ) -> u64;
         fn katydidzinc_remove_bias(
             dt: f32,
             length_unit: f32,
             normalized: f32,
-            built: bool,
+            built: u32,
             bodies: *const f32,
             bodies_len: usize,
             words: *const u32,
@@ -148,12 +148,12 @@ mod exported {
             numbers_len: usize,
             rows: *mut f32,
             rows_len: usize,
-        ) -> u32;
+        ) -> u64;
         fn katydidzinc_write_back(
             dt: f32,
             length_unit: f32,
             normalized: f32,
-            built: bool,
+            built: u32,
             bodies: *const f32,
             bodies_len: usize,
             words: *const u32,
@@ -162,12 +162,12 @@ mod exported {
             numbers_len: usize,
             rows: *const f32,
             rows_len: usize,
-        ) -> u32;
+        ) -> u64;
         fn katydidzinc_read_rows(
             dt: f32,
             length_unit: f32,
             normalized: f32,
-            built: bool,
+            built: u32,
             bodies: *const f32,
             bodies_len: usize,
             words: *const u32,
@@ -186,7 +186,7 @@ mod exported {
             dt: f32,
             length_unit: f32,
             normalized: f32,
-            built: bool,
+            built: u32,
             bodies: *const f32,
             bodies_len: usize,
             words: *const u32,
@@ -196,12 +196,12 @@ mod exported {
             body: u32,
             out: *mut f32,
             out_len: usize,
-        ) -> u32;
+        ) -> u64;
         fn katydidzinc_set_targets(
             dt: f32,
             length_unit: f32,
             normalized: f32,
-            built: bool,
+            built: u32,
             bodies: *const f32,
             bodies_len: usize,
             words: *const u32,
@@ -210,7 +210,7 @@ mod exported {
             numbers_len: usize,
             table: *const u8,
             table_len: usize,
-        ) -> u32;
+        ) -> u64;
     }
 
     /// The mark follows from the answer: a granted load clears it, a granted build sets it.
@@ -232,16 +232,16 @@ mod exported {
         let (ids, ids_len) = ids_in.place();
         let (cs, cs_len) = counts_in.place();
         let [dt, unit, most] = s.settings;
-        let built = s.built;
+        let built = s.built as u32;
         answer.code = unsafe {
             match *call {
-                Call::Load => katydidzinc_load(dt, unit, most, built, b, bs, w, ws, n, ns, r, rs) as u64,
+                Call::Load => katydidzinc_load(dt, unit, most, built, b, bs, w, ws, n, ns, r, rs),
                 Call::Place {
                     body,
                     pose: [re, im, x, y],
                 } => katydidzinc_place(
                     dt, unit, most, built, b, bs, w, ws, n, ns, body, re, im, x, y,
-                ) as u64,
+                ),
                 Call::Build {
                     warm,
                     coefficient,
@@ -259,22 +259,21 @@ mod exported {
                     ns,
                     r,
                     rs,
-                    warm,
+                    warm as u32,
                     coefficient,
                     substep,
                 ),
                 Call::WarmStart => {
-                    katydidzinc_warm_start(dt, unit, most, built, b, bs, w, ws, n, ns, r, rs) as u64
+                    katydidzinc_warm_start(dt, unit, most, built, b, bs, w, ws, n, ns, r, rs)
                 }
                 Call::Sweep(rounds) => katydidzinc_sweep(
                     dt, unit, most, built, b, bs, w, ws, n, ns, r, rs, rounds, cs, cs_len,
-                ) as u64,
+                ),
                 Call::RemoveBias => {
                     katydidzinc_remove_bias(dt, unit, most, built, b, bs, w, ws, n, ns, r, rs)
-                        as u64
                 }
                 Call::WriteBack => {
-                    katydidzinc_write_back(dt, unit, most, built, b, bs, w, ws, n, ns, r, rs) as u64
+                    katydidzinc_write_back(dt, unit, most, built, b, bs, w, ws, n, ns, r, rs)
                 }
                 Call::ReadRows(joint) => katydidzinc_read_rows(
                     dt, unit, most, built, b, bs, w, ws, n, ns, r, rs, joint, out, outs, ids,
@@ -282,7 +281,7 @@ mod exported {
                 ),
                 Call::ReadVelocity(body) => katydidzinc_read_velocity(
                     dt, unit, most, built, b, bs, w, ws, n, ns, body, out, outs,
-                ) as u64,
+                ),
                 Call::SetTargets(table) => katydidzinc_set_targets(
                     dt,
                     unit,
@@ -296,7 +295,7 @@ mod exported {
                     ns,
                     table.as_ptr(),
                     table.len(),
-                ) as u64,
+                ),
             }
         };
         answer.outside = bodies_in.taken_back(&mut s.bodies)
@@ -327,7 +326,7 @@ mod exported {
         let (n, ns) = (s.numbers.as_mut_ptr(), s.numbers.len());
         let (r, rs) = (s.rows.as_mut_ptr(), s.rows.len());
         let [dt, unit, most] = s.settings;
-        let built = s.built;
+        let built = s.built as u32;
         unsafe {
             match *call {
                 Call::Build {
@@ -335,10 +334,10 @@ mod exported {
                     coefficient: c,
                     substep,
                 } => katydidzinc_build(
-                    dt, unit, most, built, b, bs, w, ws, n, ns, r, rs, warm, c, substep,
+                    dt, unit, most, built, b, bs, w, ws, n, ns, r, rs, warm as u32, c, substep,
                 ),
                 Call::WarmStart => {
-                    katydidzinc_warm_start(dt, unit, most, built, b, bs, w, ws, n, ns, r, rs) as u64
+                    katydidzinc_warm_start(dt, unit, most, built, b, bs, w, ws, n, ns, r, rs)
                 }
                 Call::Sweep(rounds) => {
                     let mut counts = [0u8; 128];
@@ -358,14 +357,13 @@ mod exported {
                         rounds,
                         counts.as_mut_ptr(),
                         128,
-                    ) as u64
+                    )
                 }
                 Call::RemoveBias => {
                     katydidzinc_remove_bias(dt, unit, most, built, b, bs, w, ws, n, ns, r, rs)
-                        as u64
                 }
                 Call::WriteBack => {
-                    katydidzinc_write_back(dt, unit, most, built, b, bs, w, ws, n, ns, r, rs) as u64
+                    katydidzinc_write_back(dt, unit, most, built, b, bs, w, ws, n, ns, r, rs)
                 }
                 _ => unreachable!(),
             }
