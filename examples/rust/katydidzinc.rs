@@ -1,0 +1,228 @@
+//! The library for Rust: include/katydidzinc.h's constants, and its calls as methods of a study that owns its slices. Slices that are owned and borrowed apart are
+//! never NULL, misaligned or overlapping, so of the header's checks only that of the float mode is left.
+
+use std::hint::black_box;
+
+pub const WORLD: u32 = 4294967295;
+pub const MOST_ROWS: usize = 6;
+pub const POSE_RE: usize = 0;
+pub const POSE_X: usize = 2;
+pub const POSE_Y: usize = 3;
+pub const BODY_WIDTH: usize = 10;
+pub const POSE: usize = 0;
+pub const INERTIA: usize = 4;
+pub const MASS_X: usize = 5;
+pub const MASS_Y: usize = 6;
+pub const VELOCITY_X: usize = 7;
+pub const WORDS_WIDTH: usize = 11;
+pub const BODY1: usize = 0;
+pub const BODY2: usize = 1;
+pub const LOCKED_AXES: usize = 2;
+pub const LIMIT_AXES: usize = 3;
+pub const MOTOR_AXES: usize = 4;
+pub const LIN_X: u32 = 1;
+pub const LIN_Y: u32 = 2;
+pub const ANG_X: u32 = 4;
+pub const NUMBERS_WIDTH: usize = 42;
+pub const FRAME1: usize = 0;
+pub const FRAME2: usize = 4;
+pub const LIMITS_X: usize = 8;
+pub const LIMITS_ANGULAR: usize = 14;
+pub const LIMITS_WIDTH: usize = 3;
+pub const LIMIT_MIN: usize = 0;
+pub const LIMIT_MAX: usize = 1;
+pub const MOTOR_X: usize = 17;
+pub const MOTOR_ANGULAR: usize = 29;
+pub const MOTOR_WIDTH: usize = 6;
+pub const MOTOR_TARGET_VEL: usize = 0;
+pub const MOTOR_DAMPING: usize = 3;
+pub const MOTOR_MAX_FORCE: usize = 4;
+pub const NATURAL_FREQUENCY: usize = 35;
+pub const DAMPING_RATIO: usize = 36;
+pub const CENTER_RE: usize = 40;
+pub const CENTER_IM: usize = 41;
+pub const ROW_WIDTH: usize = 18;
+pub const ROW_IMPULSE: usize = 0;
+pub const ID_LIMIT: u32 = 4;
+pub const ID_MOTOR: u32 = 8;
+pub const READ_NUMBERS: usize = 108;
+pub const READ_IDS: usize = 6;
+pub const VELOCITY_NUMBERS: usize = 3;
+pub const ROWS_GRANTED: u64 = 4294967296;
+pub const FLOAT_MODE: u64 = 1003;
+pub const MICRO_OVER: i64 = 4294967296;
+pub const MICRO_NAN: i64 = 8589934592;
+
+/// Declares the calls: all take the settings, the mark and the model's three slices, each as pointer and length, and then what is listed.
+macro_rules! calls {
+    ($($name:ident($bodies:ty, $numbers:ty, $($argument:ident: $type:ty),*);)*) => {
+        unsafe extern "C" {
+            $(fn $name(
+                dt: f32, length_unit: f32, normalized: f32, built: u32,
+                bodies: $bodies, bodies_len: usize, words: *const u32, words_len: usize, numbers: $numbers, numbers_len: usize,
+                $($argument: $type),*
+            ) -> u64;)*
+            fn katydidzinc_micro_report(x: f32) -> i64;
+        }
+    };
+}
+
+calls! {
+    katydidzinc_load(*const f32, *const f32, rows: *const f32, rows_len: usize);
+    katydidzinc_place(*mut f32, *const f32, body: u32, re: f32, im: f32, x: f32, y: f32);
+    katydidzinc_build(*const f32, *const f32, rows: *mut f32, rows_len: usize, warm: u32, coefficient: f32, substep_id: u32);
+    katydidzinc_warm_start(*mut f32, *const f32, rows: *const f32, rows_len: usize);
+    katydidzinc_sweep(*mut f32, *const f32, rows: *mut f32, rows_len: usize, n: u32);
+    katydidzinc_remove_bias(*const f32, *const f32, rows: *mut f32, rows_len: usize);
+    katydidzinc_write_back(*const f32, *mut f32, rows: *const f32, rows_len: usize);
+    katydidzinc_read_rows(*const f32, *const f32, rows: *const f32, rows_len: usize, joint: u32, out: *mut f32, out_len: usize, ids: *mut u32, ids_len: usize);
+    katydidzinc_read_velocity(*const f32, *const f32, body: u32, out: *mut f32, out_len: usize);
+}
+
+/// The number of the rule that refused a call; the header has its words.
+#[derive(Clone, Copy, Debug, PartialEq, Eq)]
+pub struct Refused(pub u64);
+
+/// What a call answers: a number of rows, 0 where it has none to tell.
+pub type Answer = Result<u32, Refused>;
+
+fn answer(number: u64) -> Answer {
+    match number {
+        0 => Ok(0),
+        ROWS_GRANTED.. => Ok((number - ROWS_GRANTED) as u32),
+        _ => Err(Refused(number)),
+    }
+}
+
+/// Whether the processor rounds to nearest and keeps subnormal numbers.
+pub fn float_mode() -> bool {
+    let [one, quarter, most, smallest, half] = black_box([1.0f32, 2.0f32.powi(-25), 3.0 * 2.0f32.powi(-25), f32::MIN_POSITIVE, 0.5]);
+    let subnormal = black_box(smallest * half);
+    one + quarter == one && -one - quarter == -one && one + most != one && subnormal != 0.0 && subnormal + subnormal == smallest
+}
+
+/// A number in millionths: whole, "over" or "nan".
+pub fn millionths(x: f32) -> String {
+    match unsafe { katydidzinc_micro_report(x) } {
+        MICRO_OVER => "over".into(),
+        MICRO_NAN => "nan".into(),
+        n => n.to_string(),
+    }
+}
+
+/// A model with its row storage and the mark, which load clears and build sets.
+pub struct Study {
+    pub dt: f32,
+    pub length_unit: f32,
+    pub normalized_max_corrective_velocity: f32,
+    built: bool,
+    pub bodies: Vec<f32>,
+    pub words: Vec<u32>,
+    pub numbers: Vec<f32>,
+    pub rows: Vec<f32>,
+}
+
+/// A call on a study: `call!(self, name, [bodies], [numbers], arguments)`, where a slice of the model is lent to be read or, as `mut`, to be written.
+macro_rules! call {
+    ($s:ident, $name:ident, $bodies:ident, $numbers:ident $(, $argument:expr)*) => {{
+        if !float_mode() {
+            return Err(Refused(FLOAT_MODE));
+        }
+        let (bodies, numbers) = ($s.bodies.$bodies(), $s.numbers.$numbers());
+        let settings = ($s.dt, $s.length_unit, $s.normalized_max_corrective_velocity, $s.built as u32);
+        answer(unsafe {
+            $name(
+                settings.0, settings.1, settings.2, settings.3,
+                bodies, $s.bodies.len(), $s.words.as_ptr(), $s.words.len(), numbers, $s.numbers.len() $(, $argument)*
+            )
+        })
+    }};
+}
+
+impl Study {
+    /// With the Rust's defaults for the settings, and no body and no joint.
+    pub fn new() -> Study {
+        Study {
+            dt: 1.0 / 60.0,
+            length_unit: 1.0,
+            normalized_max_corrective_velocity: 3.0,
+            built: false,
+            bodies: vec![],
+            words: vec![],
+            numbers: vec![],
+            rows: vec![],
+        }
+    }
+
+    /// One more body, at rest at the origin and moved by no impulse.
+    pub fn body(&mut self) -> &mut [f32] {
+        let at = self.bodies.len();
+        self.bodies.resize(at + BODY_WIDTH, 0.0);
+        self.bodies[at + POSE + POSE_RE] = 1.0;
+        &mut self.bodies[at..]
+    }
+
+    /// One more joint, which makes no row, with room for its rows; its words and numbers.
+    pub fn joint(&mut self, body1: u32, body2: u32) -> (&mut [u32], &mut [f32]) {
+        let (words, numbers) = (self.words.len(), self.numbers.len());
+        self.words.resize(words + WORDS_WIDTH, 0);
+        self.numbers.resize(numbers + NUMBERS_WIDTH, 0.0);
+        self.rows.resize(self.rows.len() + MOST_ROWS * ROW_WIDTH, 0.0);
+        let (w, n) = (&mut self.words[words..], &mut self.numbers[numbers..]);
+        (w[BODY1], w[BODY2]) = (body1, body2);
+        (n[FRAME1 + POSE_RE], n[FRAME2 + POSE_RE]) = (1.0, 1.0);
+        for axis in 0..3 {
+            n[LIMITS_X + axis * LIMITS_WIDTH + LIMIT_MIN] = -f32::MAX;
+            n[LIMITS_X + axis * LIMITS_WIDTH + LIMIT_MAX] = f32::MAX;
+            n[MOTOR_X + axis * MOTOR_WIDTH + MOTOR_MAX_FORCE] = f32::MAX;
+        }
+        (n[NATURAL_FREQUENCY], n[DAMPING_RATIO], n[CENTER_RE]) = (1.0e6, 1.0, 1.0);
+        (w, n)
+    }
+
+    pub fn load(&mut self) -> Answer {
+        let a = call!(self, katydidzinc_load, as_ptr, as_ptr, self.rows.as_ptr(), self.rows.len())?;
+        self.built = false;
+        Ok(a)
+    }
+
+    pub fn place(&mut self, body: u32, re: f32, im: f32, x: f32, y: f32) -> Answer {
+        call!(self, katydidzinc_place, as_mut_ptr, as_ptr, body, re, im, x, y)
+    }
+
+    pub fn build(&mut self, warm: Option<f32>, substep_id: u32) -> Answer {
+        let coefficient = warm.unwrap_or(0.0);
+        let a = call!(self, katydidzinc_build, as_ptr, as_ptr, self.rows.as_mut_ptr(), self.rows.len(), warm.is_some() as u32, coefficient, substep_id)?;
+        self.built = true;
+        Ok(a)
+    }
+
+    pub fn warm_start(&mut self) -> Answer {
+        call!(self, katydidzinc_warm_start, as_mut_ptr, as_ptr, self.rows.as_ptr(), self.rows.len())
+    }
+
+    pub fn sweep(&mut self, n: u32) -> Answer {
+        call!(self, katydidzinc_sweep, as_mut_ptr, as_ptr, self.rows.as_mut_ptr(), self.rows.len(), n)
+    }
+
+    pub fn remove_bias(&mut self) -> Answer {
+        call!(self, katydidzinc_remove_bias, as_ptr, as_ptr, self.rows.as_mut_ptr(), self.rows.len())
+    }
+
+    pub fn write_back(&mut self) -> Answer {
+        call!(self, katydidzinc_write_back, as_ptr, as_mut_ptr, self.rows.as_ptr(), self.rows.len())
+    }
+
+    /// A joint's rows and their ids, stored from the starts of `out` and `ids`; how many they are.
+    pub fn read_rows(&self, joint: u32, out: &mut [f32], ids: &mut [u32]) -> Answer {
+        let rows = (self.rows.as_ptr(), self.rows.len());
+        call!(self, katydidzinc_read_rows, as_ptr, as_ptr, rows.0, rows.1, joint, out.as_mut_ptr(), out.len(), ids.as_mut_ptr(), ids.len())
+    }
+
+    /// A body's velocity: x, y, angular.
+    pub fn read_velocity(&self, body: u32) -> Result<[f32; VELOCITY_NUMBERS], Refused> {
+        let mut v = [0.0; VELOCITY_NUMBERS];
+        call!(self, katydidzinc_read_velocity, as_ptr, as_ptr, body, v.as_mut_ptr(), v.len())?;
+        Ok(v)
+    }
+}

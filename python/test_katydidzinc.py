@@ -1,0 +1,239 @@
+"""Tests of the Python module: its numbers are the header's, its calls are the library's, and what the library cannot see is refused before a call."""
+
+import array
+import math
+import pathlib
+import re
+import struct
+import unittest
+
+import katydidzinc as kz
+
+HEADER = pathlib.Path(__file__).resolve().parent.parent / "include" / "katydidzinc.h"
+
+
+def pendulum():
+    """A bob on a pin of the world, with a motor and a stop about the angle."""
+    return kz.Study(
+        bodies=[kz.Body("bob", (1.0, 0.0), inverse_masses=(1.0, 1.0), inverse_inertia=10.0, velocity=(0.0, -1.0))],
+        joints=[
+            kz.Joint(
+                "pin", "world", "bob", kz.LIN_X | kz.LIN_Y, kz.ANG_X, kz.ANG_X, frame2=kz.Pose(x=-1.0), limits={2: kz.Limits(0.0, 1.0)},
+                center_angle=0.5, motors={2: kz.Motor(target_vel=1.0, damping=2.0, max_force=3.0)},
+            )
+        ],
+    )
+
+
+def held(study):
+    return [bytes(memoryview(s).cast("B")) for s in (study.bodies, study.words, study.numbers, study.rows)] + [study.built]
+
+
+class Header(unittest.TestCase):
+    def test_every_constant(self):
+        text = HEADER.read_text()
+        found = re.findall(r"^#define KATYDIDZINC_(\w+) (?:U?INT\d+_C\()?(\d+)", text, re.M) + re.findall(r"^    KATYDIDZINC_(\w+) = (\d+)", text, re.M)
+        self.assertGreater(len(found), 90)
+        for name, value in found:
+            self.assertEqual(getattr(kz, name), int(value), name)
+
+    def test_every_rule(self):
+        rules = dict(re.findall(r"case KATYDIDZINC_(\w+): return \"(.*)\";", HEADER.read_text()))
+        self.assertEqual({getattr(kz, name): words for name, words in rules.items()}, kz.RULES)
+
+    def test_every_call(self):
+        calls = set(re.findall(r"^uint64_t katydidzinc_(\w+)\(", HEADER.read_text(), re.M))
+        self.assertEqual(calls, set(kz._ARGUMENTS))
+
+
+class Defaults(unittest.TestCase):
+    def test_joint(self):
+        s = kz.Study([kz.Body(), kz.Body()], [kz.Joint("j", 0, 1)])
+        numbers = list(memoryview(s.numbers).cast("B").cast("f"))
+        limits, motor = [-kz.MAX, kz.MAX, 0.0], [0.0, 0.0, 0.0, 0.0, kz.MAX, 0.0]
+        self.assertEqual(numbers, [1.0, 0.0, 0.0, 0.0] * 2 + limits * 3 + motor * 3 + [1.0e6, 1.0, 0.0, 0.0, 0.0, 1.0, 0.0])
+        self.assertEqual(list(memoryview(s.words).cast("B").cast("I")), [0, 1] + [0] * 9)
+        s.load()
+        self.assertEqual(s.build(), 0)
+        self.assertEqual(s.read_rows("j"), [])
+        self.assertEqual((s.length_unit, s.normalized_max_corrective_velocity), (1.0, 3.0))
+
+    def test_body(self):
+        self.assertEqual(list(memoryview(kz.Study([kz.Body()]).bodies).cast("B").cast("f")), [1.0] + [0.0] * 9)
+
+
+class Calls(unittest.TestCase):
+    def test_a_step(self):
+        s = pendulum()
+        s.load()
+        self.assertEqual(s.build(), 4)
+        self.assertTrue(s.built)
+        s.sweep(8)
+        s.remove_bias()
+        s.sweep()
+        s.write_back()
+        self.assertEqual([r.id for r in s.read_rows("pin")], ["Motor2", "Dof0", "Dof1", "Limit2"])
+        impulses = [r.impulse for r in s.read_rows(0)]
+        self.assertTrue(all(math.isfinite(x) for x in impulses))
+        numbers = memoryview(s.numbers).cast("B").cast("f")
+        stored = [numbers[kz.MOTOR_ANGULAR + kz.MOTOR_IMPULSE], numbers[kz.DOF_X], numbers[kz.DOF_Y], numbers[kz.LIMITS_ANGULAR + kz.LIMIT_IMPULSE]]
+        self.assertEqual(stored, impulses)
+        self.assertEqual(s.build(warm=1.0), 4)
+        self.assertEqual([r.impulse for r in s.read_rows(0)], impulses)
+        before = s.read_velocity("bob")
+        s.warm_start()
+        self.assertNotEqual(s.read_velocity("bob"), before)
+        s.place("bob", 2.0, 3.0, 0.0, 1.0)
+        self.assertEqual(list(memoryview(s.bodies).cast("B").cast("f"))[:4], [0.0, 1.0, 2.0, 3.0])
+        s.load()
+        self.assertFalse(s.built)
+
+    def test_table(self):
+        s = pendulum()
+        s.load()
+        s.build()
+        s.sweep(4)
+        table = s.table()
+        self.assertEqual([(r.joint, r.body1, r.body2, r.id, r.rule) for r in table][0], ("pin", "world", "bob", "Motor2", "1.1"))
+        self.assertEqual([r.unit for r in table], ["N*m*s", "N*s", "N*s", "N*m*s"])
+        self.assertEqual([r.definition for r in table], ["motorAngularOf", "lockLinearOf", "lockLinearOf", "limitAngularOf"])
+        self.assertEqual(len(str(table).splitlines()), 5)
+        lines = table.csv().split("\r\n")
+        self.assertEqual(len(lines), 6)
+        self.assertEqual({line.count(",") for line in lines[:5]}, {13})
+
+    def test_micro_report(self):
+        self.assertEqual([kz.micro_report(x) for x in (1 / 128, -1 / 128, 0.0)], [7812, -7812, 0])
+        self.assertEqual([kz.millionths(x) for x in (3000.0, math.inf, math.nan)], ["over", "over", "nan"])
+
+    def test_plot(self):
+        try:
+            import matplotlib
+
+            matplotlib.use("Agg")
+        except ImportError:
+            with self.assertRaises(ImportError):
+                pendulum().plot()
+            self.skipTest("matplotlib is not installed")
+        import tempfile
+
+        s = pendulum()
+        s.load()
+        s.build()
+        with tempfile.TemporaryDirectory() as folder:
+            path = pathlib.Path(folder) / "impulses.png"
+            s.plot(path)
+            self.assertTrue(path.stat().st_size > 1000)
+
+
+class Refusals(unittest.TestCase):
+    def refused(self, number, study, call):
+        before = held(study)
+        with self.assertRaises(kz.Refused) as caught:
+            call()
+        self.assertEqual((caught.exception.number, caught.exception.rule), (number, kz.RULES[number]))
+        self.assertEqual(held(study), before)
+
+    def test_each(self):
+        s = kz.Study([kz.Body()] * 129)
+        self.refused(kz.TOO_MANY_BODIES, s, s.load)
+        s = kz.Study([kz.Body("b")], [kz.Joint("j", "world", "b")] * 129)
+        self.refused(kz.TOO_MANY_JOINTS, s, s.load)
+        for number, change in (
+            (kz.LARGE_MASK, dict(locked_axes=8)),
+            (kz.ABSENT_BODY, dict(body2=1)),
+            (kz.SAME_BODY, dict(body1=0)),
+            (kz.NOT_FINITE, dict(natural_frequency=math.nan)),
+            (kz.LARGE_ANGLE, dict(center_angle=1025.0)),
+        ):
+            s = kz.Study([kz.Body("b")], [kz.Joint("j", **{"body1": kz.WORLD, "body2": 0, **change})])
+            self.refused(number, s, s.load)
+        s = pendulum()
+        s.dt = -1.0
+        self.refused(kz.NEGATIVE_DT, s, s.load)
+        s = pendulum()
+        s.rows = array.array("f", [0.0] * 71)
+        self.refused(kz.SMALL_STORAGE, s, s.load)
+        s = pendulum()
+        s.load()
+        for call in (s.warm_start, lambda: s.sweep(1), s.remove_bias, s.write_back, lambda: s.read_rows(0), lambda: s.build(1.0, 1)):
+            self.refused(kz.NOT_BUILT, s, call)
+        s.build()
+        self.refused(kz.TOO_MANY_ROUNDS, s, lambda: s.sweep(65))
+        for call in (lambda: s.read_rows(1), lambda: s.read_velocity(1), lambda: s.read_velocity(kz.WORLD), lambda: s.place(7, 0.0, 0.0)):
+            self.refused(kz.ABSENT, s, call)
+
+    def test_short(self):
+        s = pendulum()
+        s.load()
+        s.build()
+        for n, m, number in ((107, 6, kz.SHORT_SLICE), (108, 5, kz.SHORT_SLICE), (0, 0, kz.SHORT_SLICE), (108, 6, None)):
+            out, ids = array.array("f", [7.0] * n), array.array("I", [7] * m)
+            call = lambda: s._call("read_rows", True, 0, out=out, ids=ids)
+            if number is None:
+                self.assertEqual(call(), 4)
+                self.assertEqual(list(ids), [10, 0, 1, 6, 7, 7])
+            else:
+                self.refused(number, s, call)
+                self.assertEqual((set(out) | {7.0}, set(ids) | {7}), ({7.0}, {7}))
+        out = array.array("f", [7.0] * 2)
+        self.refused(kz.SHORT_SLICE, s, lambda: s._call("read_velocity", False, 0, out=out))
+        self.assertEqual(list(out), [7.0, 7.0])
+
+    def test_what_the_library_cannot_see(self):
+        s = pendulum()
+        s.load()
+        s.build()
+        for call in (lambda: s.sweep(2**32), lambda: s.read_rows(2**32), lambda: s.read_velocity(-1)):
+            with self.assertRaises(OverflowError):
+                call()
+        whole = array.array("f", [0.0] * 200)
+        s.rows, s.numbers = memoryview(whole)[:100], memoryview(whole)[99:]
+        self.refused(kz.OVERLAP, s, s.load)
+        s = pendulum()
+        s.bodies = array.array("d", [0.0] * 10)
+        with self.assertRaises(TypeError):
+            s.load()
+        s.bodies = memoryview(array.array("f", [0.0] * 20))[::2]
+        with self.assertRaises(TypeError):
+            s.load()
+
+    def test_float_mode(self):
+        self.assertTrue(kz.float_mode())
+        libm = None
+        try:
+            import ctypes
+
+            libm = ctypes.CDLL("libm.so.6")
+        except OSError:
+            self.skipTest("no libm.so.6")
+        s = pendulum()
+        for mode in (0x400, 0x800, 0xC00):
+            libm.fesetround(mode)
+            try:
+                found = kz.float_mode()
+                refused = None
+                try:
+                    s.load()
+                except kz.Refused as r:
+                    refused = r.number
+            finally:
+                libm.fesetround(0)
+            self.assertEqual((found, refused), (False, kz.FLOAT_MODE), hex(mode))
+
+
+class Arrays(unittest.TestCase):
+    def test_kind(self):
+        s = pendulum()
+        if kz.numpy is None:
+            self.assertIsInstance(s.bodies, array.array)
+            print("numpy: left out, because it is not installed; the arrays are the module array's")
+        else:
+            self.assertEqual((s.bodies.shape, s.words.shape, s.numbers.shape, s.rows.shape), ((1, 10), (1, 11), (1, 42), (6, 18)))
+            self.assertEqual((s.bodies.dtype, s.words.dtype), (kz.numpy.float32, kz.numpy.uint32))
+
+    def test_bits(self):
+        self.assertEqual(struct.pack("f", kz.MAX), struct.pack("I", 0x7F7FFFFF))
+
+
+unittest.main(verbosity=0)

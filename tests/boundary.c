@@ -1,0 +1,341 @@
+/* The library's boundary: COUNT calls with slices of every length around the records' ends, from SEED.
+ *
+ *   boundary [COUNT] [SEED]
+ *
+ * Each slice lies in a page of its own between two pages that cannot be read, flush with one of them, and the rest of its page holds a pattern. So a
+ * number read or written past an end of a slice that is flush there ends the program; one that is written elsewhere breaks the pattern. A refused call, and one whose
+ * slice is too short, must leave every slice as it was; a granted one may change only the slices that the header names, a build and a row read only so
+ * many rows as they answer. The program itself is to be compiled with -fsanitize=address,undefined.
+ */
+#define _DEFAULT_SOURCE
+#include "katydidzinc.h"
+
+#include <inttypes.h>
+#include <stdio.h>
+#include <stdlib.h>
+#include <string.h>
+#include <sys/mman.h>
+
+#define JOINTS 3
+#define BODIES 3
+#define MOST 512 /* words in a page that a slice may take */
+#define GUARD 16
+#define PATTERN UINT32_C(0x7FEDCBA9)
+
+enum { IN_BODIES, IN_WORDS, IN_NUMBERS, IN_ROWS, IN_OUT, IN_IDS, SLICES };
+static const char *const slice_names[SLICES] = {"bodies", "words", "numbers", "rows", "out", "ids"};
+static const size_t whole[SLICES] = {BODIES * KATYDIDZINC_BODY_WIDTH,
+                                     JOINTS *KATYDIDZINC_WORDS_WIDTH,
+                                     JOINTS *KATYDIDZINC_NUMBERS_WIDTH,
+                                     JOINTS *KATYDIDZINC_MOST_ROWS *KATYDIDZINC_ROW_WIDTH,
+                                     KATYDIDZINC_READ_NUMBERS,
+                                     KATYDIDZINC_READ_IDS};
+
+enum { LOAD, PLACE, BUILD, WARM_START, SWEEP, REMOVE_BIAS, WRITE_BACK, READ_ROWS, READ_VELOCITY, CALLS };
+static const char *const call_names[CALLS] = {"load", "place", "build", "warm start", "sweep", "bias removal", "write-back", "row read", "velocity read"};
+/* which slices a granted call may write */
+static const unsigned writes[CALLS] = {0, 1 << IN_BODIES, 1 << IN_ROWS, 1 << IN_BODIES, 1 << IN_BODIES | 1 << IN_ROWS,
+                                       1 << IN_ROWS, 1 << IN_NUMBERS, 1 << IN_OUT | 1 << IN_IDS, 1 << IN_OUT};
+
+static uint32_t *pages[SLICES];
+static size_t page_words;
+static uint32_t model[SLICES][MOST]; /* what a slice holds before the call */
+static uint64_t counts[CALLS][16];
+static unsigned char lengths_seen[SLICES][MOST];
+
+static uint64_t state;
+
+static uint32_t draw(uint32_t below)
+{
+    state ^= state << 13;
+    state ^= state >> 7;
+    state ^= state << 17;
+    return (uint32_t)((state >> 32) % below);
+}
+
+static uint32_t bits(float x)
+{
+    uint32_t w;
+    memcpy(&w, &x, sizeof w);
+    return w;
+}
+
+static void set(int slice, int at, float x)
+{
+    model[slice][at] = bits(x);
+}
+
+/* A chain of three bodies from the world on, with limits and motors that any mask may name. */
+static void sound_model(void)
+{
+    float body[KATYDIDZINC_BODY_WIDTH], numbers[KATYDIDZINC_NUMBERS_WIDTH];
+    uint32_t words[KATYDIDZINC_WORDS_WIDTH];
+    int i, k;
+    for (i = 0; i < BODIES; i++) {
+        katydidzinc_default_body(body);
+        body[KATYDIDZINC_POSE + KATYDIDZINC_POSE_Y] = -0.5f * (float)i;
+        body[KATYDIDZINC_INERTIA] = 8.0f;
+        body[KATYDIDZINC_MASS_X] = body[KATYDIDZINC_MASS_Y] = 0.5f;
+        body[KATYDIDZINC_VELOCITY_X] = 0.25f * (float)i;
+        memcpy(model[IN_BODIES] + i * KATYDIDZINC_BODY_WIDTH, body, sizeof body);
+    }
+    for (i = 0; i < JOINTS; i++) {
+        katydidzinc_default_joint(words, numbers, i == 0 ? KATYDIDZINC_WORLD : (uint32_t)i - 1, (uint32_t)i);
+        numbers[KATYDIDZINC_FRAME1 + KATYDIDZINC_POSE_Y] = -0.25f;
+        numbers[KATYDIDZINC_FRAME2 + KATYDIDZINC_POSE_Y] = 0.25f;
+        for (k = 0; k < 3; k++) {
+            numbers[KATYDIDZINC_LIMITS_X + k * KATYDIDZINC_LIMITS_WIDTH + KATYDIDZINC_LIMIT_MIN] = -0.125f;
+            numbers[KATYDIDZINC_LIMITS_X + k * KATYDIDZINC_LIMITS_WIDTH + KATYDIDZINC_LIMIT_MAX] = 0.5f;
+            numbers[KATYDIDZINC_MOTOR_X + k * KATYDIDZINC_MOTOR_WIDTH + KATYDIDZINC_MOTOR_TARGET_VEL] = 1.0f;
+            numbers[KATYDIDZINC_MOTOR_X + k * KATYDIDZINC_MOTOR_WIDTH + KATYDIDZINC_MOTOR_DAMPING] = 3.0f;
+        }
+        memcpy(model[IN_WORDS] + i * KATYDIDZINC_WORDS_WIDTH, words, sizeof words);
+        memcpy(model[IN_NUMBERS] + i * KATYDIDZINC_NUMBERS_WIDTH, numbers, sizeof numbers);
+    }
+}
+
+/* The words that change from call to call: any masks, and now and then a fault. */
+static void vary(void)
+{
+    int j, k;
+    sound_model();
+    for (j = 0; j < JOINTS; j++) {
+        for (k = KATYDIDZINC_LOCKED_AXES; k <= KATYDIDZINC_COUPLED_AXES; k++) {
+            model[IN_WORDS][j * KATYDIDZINC_WORDS_WIDTH + k] = draw(k == KATYDIDZINC_COUPLED_AXES && draw(4) > 0 ? 1 : 8);
+        }
+        model[IN_WORDS][j * KATYDIDZINC_WORDS_WIDTH + KATYDIDZINC_ENABLED] = draw(8) == 0 ? draw(3) : 0;
+        model[IN_WORDS][j * KATYDIDZINC_WORDS_WIDTH + KATYDIDZINC_CENTER_CHOICE] = draw(4) == 0;
+    }
+    j = (int)draw(JOINTS);
+    switch (draw(24)) {
+    case 0: model[IN_WORDS][j * KATYDIDZINC_WORDS_WIDTH + KATYDIDZINC_LIMIT_AXES] = 8 + draw(1000); break;
+    case 1: model[IN_WORDS][j * KATYDIDZINC_WORDS_WIDTH + KATYDIDZINC_BODY2] = draw(2) ? BODIES : KATYDIDZINC_WORLD - 1; break;
+    case 2: model[IN_WORDS][j * KATYDIDZINC_WORDS_WIDTH + KATYDIDZINC_BODY1] = model[IN_WORDS][j * KATYDIDZINC_WORDS_WIDTH + KATYDIDZINC_BODY2]; break;
+    case 3: model[IN_NUMBERS][j * KATYDIDZINC_NUMBERS_WIDTH + (int)draw(KATYDIDZINC_NUMBERS_WIDTH)] = 0x7FC00000; break;
+    case 4: model[IN_BODIES][draw(BODIES * KATYDIDZINC_BODY_WIDTH)] = 0x7F800000; break;
+    case 5:
+        model[IN_WORDS][j * KATYDIDZINC_WORDS_WIDTH + KATYDIDZINC_CENTER_CHOICE] = 1;
+        set(IN_NUMBERS, j * KATYDIDZINC_NUMBERS_WIDTH + KATYDIDZINC_CENTER_RE, 1025.0f);
+        break;
+    default: break;
+    }
+}
+
+/* The slice's first words in its page: flush with one of the page's ends. */
+static uint32_t *lend(int slice, size_t len, int at_end)
+{
+    uint32_t *at = at_end ? pages[slice] + page_words - len : pages[slice];
+    if (len > 0) {
+        memcpy(at, model[slice], len * sizeof *at);
+    }
+    return at;
+}
+
+static void fail(const char *what, int call, int slice, uint64_t answer, const size_t *lens)
+{
+    int i;
+    printf("%s: %s, slice %s, answer %" PRIu64 ", lengths", what, call_names[call], slice < SLICES ? slice_names[slice] : "none", answer);
+    for (i = 0; i < SLICES; i++) {
+        printf(" %zu", lens[i]);
+    }
+    printf("\n");
+    exit(1);
+}
+
+/* Whether the words about a slice still hold the pattern; the slice's own get it again. */
+static int guarded(int slice, uint32_t *at, size_t len)
+{
+    uint32_t *from = at - pages[slice] < GUARD ? pages[slice] : at - GUARD;
+    uint32_t *end = pages[slice] + page_words - (at + len) < GUARD ? pages[slice] + page_words : at + len + GUARD;
+    uint32_t *p;
+    for (p = from; p < end; p++) {
+        if ((p < at || p >= at + len) && *p != PATTERN) {
+            return 0;
+        }
+    }
+    for (p = at; p < at + len; p++) {
+        *p = PATTERN;
+    }
+    return 1;
+}
+
+static void one_call(void)
+{
+    katydidzinc_study s;
+    size_t lens[SLICES];
+    uint32_t *at[SLICES];
+    int call = (int)draw(CALLS), i, at_end = (int)draw(2);
+    uint32_t index = draw(3) == 0 ? draw(2) ? KATYDIDZINC_WORLD : 3 : draw(3), n = draw(16) == 0 ? 65 + draw(3) : draw(4);
+    uint32_t mark = draw(4) == 0 ? 0 : draw(2) ? 1 : UINT32_C(0xFFFFFF00), before = mark;
+    uint64_t answer = 0;
+    size_t filled[SLICES];
+    vary();
+    for (i = 0; i < SLICES; i++) {
+        lens[i] = draw(3) > 0 ? whole[i] : draw((uint32_t)whole[i] + 3);
+        lengths_seen[i][lens[i]] = 1;
+        at[i] = lend(i, lens[i], at_end);
+        filled[i] = lens[i];
+    }
+    s.dt = draw(32) == 0 ? -1.0f : 0.015625f;
+    s.length_unit = 1.0f;
+    s.normalized_max_corrective_velocity = 3.0f;
+    s.built = mark;
+    s.bodies = (float *)(void *)at[IN_BODIES], s.bodies_len = lens[IN_BODIES];
+    s.words = at[IN_WORDS], s.words_len = lens[IN_WORDS];
+    s.numbers = (float *)(void *)at[IN_NUMBERS], s.numbers_len = lens[IN_NUMBERS];
+    s.rows = (float *)(void *)at[IN_ROWS], s.rows_len = lens[IN_ROWS];
+    switch (call) {
+    case LOAD: answer = katydidzinc_study_load(&s); break;
+    case PLACE: answer = katydidzinc_study_place(&s, index, 0.6f, 0.8f, 1.0f, 2.0f); break;
+    case BUILD: answer = katydidzinc_study_build(&s, draw(2), 0.5f, draw(2)); break;
+    case WARM_START: answer = katydidzinc_study_warm_start(&s); break;
+    case SWEEP: answer = katydidzinc_study_sweep(&s, n); break;
+    case REMOVE_BIAS: answer = katydidzinc_study_remove_bias(&s); break;
+    case WRITE_BACK: answer = katydidzinc_study_write_back(&s); break;
+    case READ_ROWS: answer = katydidzinc_study_read_rows(&s, index, (float *)(void *)at[IN_OUT], lens[IN_OUT], at[IN_IDS], lens[IN_IDS]); break;
+    default: answer = katydidzinc_study_read_velocity(&s, index, (float *)(void *)at[IN_OUT], lens[IN_OUT]); break;
+    }
+
+    if (katydidzinc_granted(answer)) {
+        counts[call][0]++;
+        if ((call == BUILD || call == READ_ROWS) != (answer >= KATYDIDZINC_ROWS_GRANTED)) {
+            fail("a wrong kind of answer", call, SLICES, answer, lens);
+        }
+        before = call == LOAD ? 0 : call == BUILD ? 1 : mark;
+        if (call == READ_ROWS && (lens[IN_OUT] < KATYDIDZINC_READ_NUMBERS || lens[IN_IDS] < KATYDIDZINC_READ_IDS)) {
+            fail("granted into a short slice", call, IN_OUT, answer, lens);
+        }
+        if (call == READ_VELOCITY && lens[IN_OUT] < KATYDIDZINC_VELOCITY_NUMBERS) {
+            fail("granted into a short slice", call, IN_OUT, answer, lens);
+        }
+    } else if (answer == KATYDIDZINC_SHORT_SLICE) {
+        counts[call][13]++;
+        if (call == READ_ROWS ? lens[IN_OUT] >= KATYDIDZINC_READ_NUMBERS && lens[IN_IDS] >= KATYDIDZINC_READ_IDS
+                              : call != READ_VELOCITY || lens[IN_OUT] >= KATYDIDZINC_VELOCITY_NUMBERS) {
+            fail("no slice is short", call, IN_OUT, answer, lens);
+        }
+    } else if (answer >= 1 && answer <= 12) {
+        counts[call][answer]++;
+    } else {
+        fail("no answer of the model", call, SLICES, answer, lens);
+    }
+    if (s.built != before) {
+        fail("a wrong mark", call, SLICES, answer, lens);
+    }
+
+    /* from where on each slice must be as it was */
+    for (i = 0; i < SLICES; i++) {
+        size_t from = 0, rows = katydidzinc_rows_of(answer), k;
+        if (katydidzinc_granted(answer) && (writes[call] >> i & 1)) {
+            from = call == BUILD                     ? rows * KATYDIDZINC_ROW_WIDTH
+                   : call == READ_ROWS && i == IN_OUT ? rows * KATYDIDZINC_ROW_WIDTH
+                   : call == READ_ROWS                ? rows
+                   : call == READ_VELOCITY            ? KATYDIDZINC_VELOCITY_NUMBERS
+                                                      : lens[i];
+        }
+        for (k = from; k < lens[i]; k++) {
+            if (at[i][k] != model[i][k]) {
+                fail("written where nothing may be", call, i, answer, lens);
+            }
+        }
+        /* what a build left is the next call's row storage */
+        if (i == IN_ROWS && call == BUILD && katydidzinc_granted(answer)) {
+            memcpy(model[i], at[i], filled[i] * sizeof *at[i]);
+        }
+        if (!guarded(i, at[i], lens[i])) {
+            fail("a guard is broken", call, i, answer, lens);
+        }
+    }
+}
+
+/* What the checked calls find before they make a call. */
+static void checks(void)
+{
+    static float bodies[KATYDIDZINC_BODY_WIDTH], numbers[KATYDIDZINC_NUMBERS_WIDTH], rows[KATYDIDZINC_ROW_WIDTH], out[KATYDIDZINC_READ_NUMBERS + 1];
+    static uint32_t words[KATYDIDZINC_WORDS_WIDTH], ids[KATYDIDZINC_READ_IDS];
+    katydidzinc_study s = {0.0f, 1.0f, 3.0f, 0, bodies, KATYDIDZINC_BODY_WIDTH, words, 0, numbers, 0, rows, 0}, t = s;
+    uint64_t got[10];
+    static const uint64_t wanted[10] = {0,
+                                        KATYDIDZINC_BAD_SLICE,
+                                        0,
+                                        KATYDIDZINC_BAD_SLICE,
+                                        KATYDIDZINC_BAD_SLICE,
+                                        KATYDIDZINC_OVERLAP,
+                                        KATYDIDZINC_OVERLAP,
+                                        0,
+                                        KATYDIDZINC_BAD_SLICE,
+                                        KATYDIDZINC_OVERLAP};
+    int i;
+    katydidzinc_default_body(bodies);
+    got[0] = katydidzinc_study_load(&s);
+    t = s, t.bodies = NULL;
+    got[1] = katydidzinc_study_load(&t);
+    t = s, t.words = NULL, t.rows = NULL;
+    got[2] = katydidzinc_study_load(&t);
+    t = s, t.numbers = (float *)(void *)((char *)numbers + 1), t.numbers_len = 1;
+    got[3] = katydidzinc_study_load(&t);
+    t = s, t.rows_len = SIZE_MAX / 4;
+    got[4] = katydidzinc_study_load(&t);
+    t = s, t.numbers = bodies + KATYDIDZINC_BODY_WIDTH - 1, t.numbers_len = 1;
+    got[5] = katydidzinc_study_load(&t);
+    got[6] = katydidzinc_study_read_velocity(&s, 0, bodies + 7, 3);
+    got[7] = katydidzinc_study_read_velocity(&s, 0, out, KATYDIDZINC_VELOCITY_NUMBERS);
+    got[8] = katydidzinc_study_read_velocity(&s, 0, NULL, KATYDIDZINC_VELOCITY_NUMBERS);
+    got[9] = katydidzinc_study_read_rows(&s, 0, out, KATYDIDZINC_READ_NUMBERS, (uint32_t *)(void *)out, 6);
+    (void)ids;
+    for (i = 0; i < 10; i++) {
+        if (got[i] != wanted[i]) {
+            printf("check %d answers %" PRIu64 ", not %" PRIu64 "\n", i, got[i], wanted[i]);
+            exit(1);
+        }
+    }
+}
+
+int main(int argc, char **argv)
+{
+    long count = argc > 1 ? atol(argv[1]) : 1000000, i;
+    size_t bytes = 4096, k;
+    int call, slice;
+    state = (argc > 2 ? (uint64_t)atol(argv[2]) : 1) * UINT64_C(0x9E3779B97F4A7C15) + 1;
+    page_words = bytes / sizeof(uint32_t);
+    for (slice = 0; slice < SLICES; slice++) {
+        char *three = (char *)mmap(NULL, 3 * bytes, PROT_NONE, MAP_PRIVATE | MAP_ANONYMOUS, -1, 0);
+        if (three == (char *)MAP_FAILED || mprotect(three + bytes, bytes, PROT_READ | PROT_WRITE) != 0) {
+            printf("no pages\n");
+            return 1;
+        }
+        pages[slice] = (uint32_t *)(void *)(three + bytes);
+        for (k = 0; k < page_words; k++) {
+            pages[slice][k] = PATTERN;
+        }
+        for (k = 0; k < MOST; k++) {
+            model[slice][k] = UINT32_C(0x3F000000) + (uint32_t)k;
+        }
+    }
+    checks();
+    for (i = 0; i < count; i++) {
+        one_call();
+    }
+    printf("%-14s %8s", "", "granted");
+    for (k = 1; k <= 12; k++) {
+        printf(" %6zu", k);
+    }
+    printf("  short\n");
+    for (call = 0; call < CALLS; call++) {
+        printf("%-14s %8" PRIu64, call_names[call], counts[call][0]);
+        for (k = 1; k <= 13; k++) {
+            printf(" %6" PRIu64, counts[call][k]);
+        }
+        printf("\n");
+    }
+    for (slice = 0; slice < SLICES; slice++) {
+        for (k = 0; k < whole[slice] + 3; k++) {
+            if (!lengths_seen[slice][k] && count >= 100000) {
+                printf("no slice %s of length %zu was lent\n", slice_names[slice], k);
+                return 1;
+            }
+        }
+    }
+    printf("%ld calls, every length from 0 to two past the last record, no guard broken\n", count);
+    return 0;
+}
