@@ -2,7 +2,7 @@
  *
  * A model of up to 128 bodies and 128 joints lies in slices that the caller lends: bodies, the joints' words, the joints'
  * numbers, and row storage. A call answers what it grants or the number of a refusal, and a refused call leaves everything as it
- * was. The functions keep nothing between calls, allocate nothing, call nothing and may run on several threads at once, each on its own slices.
+ * was. The functions keep nothing between calls, allocate nothing and may run on several threads at once, each on its own slices.
  *
  * In this file: the records, the answers, the calls; and, over these, the same calls on a struct, checked for what the library
  * cannot see (katydidzinc_study_load and so on). A caller who uses the struct need not keep the rules of the section "The calls".

@@ -239,7 +239,7 @@ class Joint:
     """A joint between two bodies, each by its name, its number or WORLD. By default it makes no row.
 
     `limits` and `motors` are for the axes 0, 1 (x, y) and 2 (the angle): a dict by axis, or a list of three. The centre of the angular limit is
-    `center`, its cosine and sine, or `center_angle`.
+    `center`, its cosine and sine, or `center_angle`. `enabled` is True, False or one of the three numbers JOINT_ENABLED to JOINT_DISABLED.
     """
 
     name: str
@@ -258,7 +258,7 @@ class Joint:
     impulses: tuple = (0.0, 0.0, 0.0)
     center: tuple = (1.0, 0.0)
     center_angle: object = None
-    enabled: int = JOINT_ENABLED
+    enabled: object = True
 
     def _axes(self, given, default):
         of = dict(given) if isinstance(given, dict) else dict(enumerate(given))
@@ -270,7 +270,8 @@ class Joint:
         models = [m.model for m in self._axes(self.motors, Motor)]
         masks = [self.locked_axes, self.limit_axes, self.motor_axes, self.coupled_axes]
         typed = CENTER_COSINE_SINE if self.center_angle is None else CENTER_ANGLE
-        return [number(self.body1), number(self.body2), *masks, *models, self.enabled, typed]
+        enabled = {True: JOINT_ENABLED, False: JOINT_DISABLED}[self.enabled] if isinstance(self.enabled, bool) else self.enabled
+        return [_word(w) for w in (number(self.body1), number(self.body2), *masks, *models, enabled, typed)]
 
     def _numbers(self):
         center = self.center if self.center_angle is None else (self.center_angle, 0.0)

@@ -58,6 +58,13 @@ class Defaults(unittest.TestCase):
         self.assertEqual(s.read_rows("j"), [])
         self.assertEqual((s.length_unit, s.normalized_max_corrective_velocity), (1.0, 3.0))
 
+    def test_words(self):
+        words = [memoryview(kz.Study([kz.Body()], [kz.Joint("j", kz.WORLD, 0, enabled=e)]).words).cast("B").cast("I")[kz.ENABLED] for e in (True, False, 0, 1, 2)]
+        self.assertEqual(words, [0, 2, 0, 1, 2])
+        for wrong in (-1, 2**32):
+            with self.assertRaises(OverflowError):
+                kz.Study([kz.Body()], [kz.Joint("j", kz.WORLD, wrong)])
+
     def test_body(self):
         self.assertEqual(list(memoryview(kz.Study([kz.Body()]).bodies).cast("B").cast("f")), [1.0] + [0.0] * 9)
 
