@@ -1,2 +1,3 @@
 pub mod CallExportsLaws
+pub mod ReadLaws
 pub mod TableExportsLaws
