@@ -1,7 +1,7 @@
 /* A leg in C: thigh, shank and foot hang from the world by hip, knee and ankle. The hip has a motor, the straight knee rests at its stop, the ankle
  * has both. It prints what crates/leg prints: the impulse of every row and the velocity of every body, in millionths.
  *
- *   cc -Iinclude examples/c/leg.c target/lib/libkatydidzinc.a -o leg && ./leg
+ *   cc -Iinclude examples/c/leg.c target/lib/libkatydidzinc.a -o target/leg && target/leg
  */
 #include "katydidzinc.h"
 

@@ -1,7 +1,7 @@
 //! A leg in Rust: thigh, shank and foot hang from the world by hip, knee and ankle. The hip has a motor, the straight knee rests at its stop, the ankle has
 //! both. It prints what crates/leg prints: the impulse of every row and the velocity of every body, in millionths.
 //!
-//!     rustc --edition 2024 -O examples/rust/leg.rs -L target/lib -l static=katydidzinc -o leg && ./leg
+//!     rustc --edition 2024 -O examples/rust/leg.rs -L target/lib -l static=katydidzinc -o target/leg && target/leg
 #![allow(dead_code)]
 
 mod katydidzinc;
