@@ -1,11 +1,11 @@
-/* Katydidzinc: the planar scalar f32 joint rows of rapier2d 0.36.1, for C and C++.
+/* Katydidzinc: the planar scalar f32 joint rows of rapier2d 0.36.1, for C and C++ on x86-64.
  *
  * A model of up to 128 bodies and 128 joints lies in slices that the caller lends: bodies, the joints' words, the joints'
  * numbers, and row storage. A call answers what it grants or the number of a refusal, and a refused call leaves everything as it
  * was. The functions keep nothing between calls, allocate nothing and may run on several threads at once, each on its own slices.
  *
  * In this file: the records, the answers, the calls; and, over these, the same calls on a struct, checked for what the library
- * cannot see (katydidzinc_study_load and so on). A caller who uses the struct need not keep the rules of the section "The calls".
+ * cannot see (katydidzinc_study_load and so on), and the Rust's defaults.
  */
 #ifndef KATYDIDZINC_H
 #define KATYDIDZINC_H
@@ -191,8 +191,8 @@ enum katydidzinc_refusal {
  * - The processor rounds to nearest, ties to even, and takes subnormal numbers for what they are, as it does when a program starts. Compilers change
  *   this where they are asked to (-ffast-math, when linking), as do fesetround and _MM_SET_FLUSH_ZERO_MODE. Otherwise a call's numbers are not the
  *   defined ones, and no answer says so; which records are read and written does not depend on it.
- * - Between a build and the calls that read its rows, the row storage is left as it is, and so are masks, bodies and enabled words. A caller who alters them
- *   still gets only granted or refused calls, but rows that no build made.
+ * - Between a build and the calls that read its rows, the row storage and the joints' words are left as they are. A caller who alters them
+ *   still gets every call granted or refused by the rules, but of rows that no build made.
  */
 
 /* Checks the model. Granted: the mark is to be 0. */
@@ -292,7 +292,8 @@ static inline const char *katydidzinc_rule(uint64_t answer)
     }
 }
 
-/* ---- The same calls on a struct, checked. Each tries the float mode and the slices first (1001 to 1003), then makes the call, and keeps the mark. */
+/* ---- The same calls on a struct, checked. Each tries the float mode and the slices first (1001 to 1003), then makes the call, and keeps the mark. Of the
+ * list above, what is left to the caller is that each pointer points to as many numbers as its length says, that no other thread writes them, and the last point. */
 
 typedef struct katydidzinc_study {
     float dt;
@@ -453,7 +454,15 @@ static inline uint64_t katydidzinc_study_read_velocity(const katydidzinc_study *
     return answer != KATYDIDZINC_GRANTED ? answer : katydidzinc_read_velocity(KATYDIDZINC_MODEL_OF(s), body, katydidzinc_numbers_at(out), out_len);
 }
 
-/* The Rust's defaults: a body at rest at the origin that no impulse moves; a joint that makes no row. The centre is that of equal limits about 0. */
+/* ---- The Rust's defaults: its settings; a body at rest at the origin that no impulse moves; a joint that makes no row. */
+
+static inline void katydidzinc_default_settings(katydidzinc_study *s)
+{
+    s->dt = 1.0f / 60.0f;
+    s->length_unit = 1.0f;
+    s->normalized_max_corrective_velocity = 3.0f;
+    s->built = 0;
+}
 
 static inline void katydidzinc_default_body(float *body)
 {

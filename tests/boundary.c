@@ -176,9 +176,8 @@ static void one_call(void)
         at[i] = lend(i, lens[i], at_end);
         filled[i] = lens[i];
     }
-    s.dt = draw(32) == 0 ? -1.0f : 0.015625f;
-    s.length_unit = 1.0f;
-    s.normalized_max_corrective_velocity = 3.0f;
+    katydidzinc_default_settings(&s);
+    s.dt = draw(32) == 0 ? -1.0f : s.dt;
     s.built = mark;
     s.bodies = (float *)(void *)at[IN_BODIES], s.bodies_len = lens[IN_BODIES];
     s.words = at[IN_WORDS], s.words_len = lens[IN_WORDS];
