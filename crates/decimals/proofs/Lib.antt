@@ -1,0 +1,5 @@
+pub mod LimbLaws
+pub mod PowerLaws
+pub mod RoundingLaws
+pub mod PatternLaws
+pub mod DecimalLaws

@@ -1,0 +1,162 @@
+-- The steps of `round`: how many digits are dropped, the quotient, and its nearest whole number.
+use mathlib.Core.Path.{_≡_, refl, sym, ap, _∙_, subst}
+use mathlib.Core.Logic.{_⊎_, inl, inr}
+use mathlib.Core.Bool.{Bool, true, false, not}
+use Prim.Native.Nat.{ℕ, zero, suc, _+_, _-_, _*_, _/_, _%_, _^_, _≤_, _<_, compare, Ordering, Ordering·lt, Ordering·eq, Ordering·gt}
+use native.Mathlib.Nat.{le-refl, le-trans, le-of-eq, lt-of-lt-of-le, lt-of-le-of-lt, lt-of-not-le, lt-irrefl, mul-comm, mul-assoc, mul-add, mul-one, one-mul, mul-pos, mul-le-mul-left, mul-le-mul-right, mul-lt-mul-of-pos-right, div-add-mod', le-div-iff-mul-le, div-lt-iff-lt-mul, div-eq-of-lt-le}
+use native.Mathlib.Omega.{arith}
+use lib.Dec.{T, isLe, isEq, leb, eqb, leb→le, nleb→lt, eqb→eq, eqb-refl}
+use lib.Pow.{pow-add, pow-pos, pow-mono}
+use lib.Ieee.{nearest, size}
+use lib.Ieee.Digits.{size-lt, size-le, size-reaches}
+use lib.Ieee.Fits.{nearest-le}
+use lib.Ieee.Nearest.{closest, nearest-ge}
+
+-- ---- the quotient
+pub product-room : (d k m b : ℕ) → k ≤ b → d * b < m → d * k < m
+product-room d k m b h l = lt-of-le-of-lt (mul-le-mul-left d h) l
+
+pub quotient-is : (n d low high : ℕ) → high ≡ low + 1 → d * low ≤ n → n < d * high → low ≡ n / d
+quotient-is n d low high e lo hi =
+    sym (div-eq-of-lt-le d (subst (λ (x : ℕ). x ≤ n) (mul-comm d low) lo) (subst (λ (x : ℕ). n < x) (mul-comm d (low + 1)) (rw e at hi)))
+
+-- ---- the nearest whole number
+abbrev Compared : Ordering → ℕ → ℕ → Type 0
+Compared Ordering·lt a b = a < b
+Compared Ordering·eq a b = a ≡ b
+Compared Ordering·gt a b = b < a
+
+compared : (a b : ℕ) → Compared (compare a b) a b
+compared a b = go (compare a b) (leb→le a b) (nleb→lt a b) (eqb→eq a b) (λ (e : a ≡ b). subst (λ (x : ℕ). T (eqb a x)) e (eqb-refl a))
+  where
+    apart : a ≤ b → (a ≡ b → ⊥) → a < b
+    apart h n = omega arith
+
+    go : (o : Ordering) → (T (isLe o) → a ≤ b) → (T (not (isLe o)) → b < a) → (T (isEq o) → a ≡ b) → (a ≡ b → T (isEq o)) → Compared o a b
+    go Ordering·lt h k e n = apart (h tt) n
+    go Ordering·eq h k e n = e tt
+    go Ordering·gt h k e n = k tt
+
+below : (q a b : ℕ) → a < b → q ≡ nearest q (compare a b)
+below q a b h = go (compare a b) (compared a b)
+  where
+    go : (o : Ordering) → Compared o a b → q ≡ nearest q o
+    go Ordering·lt l = refl
+    go Ordering·eq l = absurd (omega arith)
+    go Ordering·gt l = absurd (omega arith)
+
+tied : (q a b : ℕ) → a ≡ b → q + q % 2 ≡ nearest q (compare a b)
+tied q a b h = go (compare a b) (compared a b)
+  where
+    go : (o : Ordering) → Compared o a b → q + q % 2 ≡ nearest q o
+    go Ordering·lt l = absurd (omega arith)
+    go Ordering·eq l = refl
+    go Ordering·gt l = absurd (omega arith)
+
+above : (q a b : ℕ) → b < a → q + 1 ≡ nearest q (compare a b)
+above q a b h = go (compare a b) (compared a b)
+  where
+    up-by-one : q + 1 ≡ suc q
+    up-by-one = omega arith
+
+    go : (o : Ordering) → Compared o a b → q + 1 ≡ nearest q o
+    go Ordering·lt l = absurd (omega arith)
+    go Ordering·eq l = absurd (omega arith)
+    go Ordering·gt l = up-by-one
+
+-- the program compares 2n with (2q + 1)d, where q = n / d
+module _ (n d q : ℕ) (e : q ≡ n / d) where
+  whole : q * d + n % d ≡ n
+  whole = ap (λ (x : ℕ). x * d + n % d) e ∙ div-add-mod' n d
+
+  middle : d * (2 * q + 1) ≡ q * d * 2 + d
+  middle = mul-add d (2 * q) 1 ∙ omega (arith, sym (mul-assoc d 2 q) ∙ ap (λ (x : ℕ). x * q) (mul-comm d 2) ∙ mul-assoc 2 d q, mul-comm d q, mul-one d)
+
+  pub nearest-below : n * 2 < d * (2 * q + 1) → q ≡ closest n d
+  nearest-below h = below q (n % d * 2) d (omega (arith, whole, middle)) ∙ ap (λ (x : ℕ). nearest x (compare (n % d * 2) d)) e
+
+  pub nearest-tied : n * 2 ≡ d * (2 * q + 1) → q + q % 2 ≡ closest n d
+  nearest-tied h = tied q (n % d * 2) d (omega (arith, whole, middle)) ∙ ap (λ (x : ℕ). nearest x (compare (n % d * 2) d)) e
+
+  pub nearest-above : d * (2 * q + 1) < n * 2 → q + 1 ≡ closest n d
+  nearest-above h = above q (n % d * 2) d (omega (arith, whole, middle)) ∙ ap (λ (x : ℕ). nearest x (compare (n % d * 2) d)) e
+
+-- ---- the digits that are dropped
+pub pow-lt-back : (i j : ℕ) → 2 ^ i < 2 ^ j → i < j
+pow-lt-back i j h = lt-of-not-le (λ (g : j ≤ i). lt-irrefl (2 ^ i) (lt-of-lt-of-le h (pow-mono g)))
+
+-- den · 2^i is at most n only while 2^i is small
+pub digits-bounded : (n den i m : ℕ) → 0 < den → den * 2 ^ i ≤ n → n < 2 ^ m → i < m
+digits-bounded n den i m pos h l =
+    pow-lt-back i m (lt-of-le-of-lt (le-trans (subst (λ (x : ℕ). x ≤ den * 2 ^ i) (one-mul (2 ^ i)) (mul-le-mul-right (2 ^ i) pos)) h) l)
+
+pub dropped-is : (n den k : ℕ) → 0 < den → n < den * 2 ^ (k + 24) → (k ≡ 0) ⊎ (den * 2 ^ (k + 23) ≤ n) → k ≡ size (n / den) - 24
+dropped-is n den k pos hi (inl z) =
+    let u : size (n / den) ≤ k + 24 = size-le (n / den) (k + 24) (div-lt-iff-lt-mul pos .1 (subst (λ (x : ℕ). n < x) (mul-comm den (2 ^ (k + 24))) hi)) in
+    omega arith
+dropped-is n den k pos hi (inr h) =
+    let u : size (n / den) ≤ k + 24 = size-le (n / den) (k + 24) (div-lt-iff-lt-mul pos .1 (subst (λ (x : ℕ). n < x) (mul-comm den (2 ^ (k + 24))) hi)) in
+    let l : 2 ^ (k + 23) ≤ n / den = le-div-iff-mul-le pos .1 (subst (λ (x : ℕ). x ≤ n) (mul-comm den (2 ^ (k + 23))) h) in
+    let g : k + 23 < size (n / den) = pow-lt-back (k + 23) (size (n / den)) (lt-of-le-of-lt l (size-lt (n / den))) in
+    omega arith
+
+pub half-up : (den k e : ℕ) → e ≡ den * 2 ^ (k + 24) → e * 2 ≡ den * 2 ^ (k + 1 + 24)
+half-up den k e h = ap (λ (x : ℕ). x * 2) h ∙ mul-assoc den (2 ^ (k + 24)) 2 ∙ ap (λ (x : ℕ). den * x) (sym (pow-add 2 (k + 24) 1) ∙ ap (λ (x : ℕ). 2 ^ x) (omega arith))
+
+pub more-digits : (n den k : ℕ) → den * 2 ^ (k + 24) ≤ n → den * 2 ^ (k + 1 + 23) ≤ n
+more-digits n den k h = subst (λ (x : ℕ). den * 2 ^ x ≤ n) (omega arith) h
+
+-- twice a number below 2^400 is below 2^448
+pub double-room : (e n : ℕ) → e ≤ n → n < 2 ^ 400 → e * 2 < 2 ^ 448
+double-room e n h l = lt-of-lt-of-le (mul-lt-mul-of-pos-right (lt-of-le-of-lt h l) (omega arith)) (pow-mono {i = 401} {j = 448} (omega arith))
+
+pub shift-room : (den i j m : ℕ) → i ≤ j → den * 2 ^ j < m → den * 2 ^ i < m
+shift-room den i j m h l = lt-of-le-of-lt (mul-le-mul-left den (pow-mono h)) l
+
+-- ---- what holds of the number of digits dropped
+module _ (n den k : ℕ) (pos : 0 < den) (e : k ≡ size (n / den) - 24) where
+  pub kept-below : n < den * 2 ^ k * 2 ^ 24
+  kept-below =
+      let h : n < 2 ^ size (n / den) * den = div-lt-iff-lt-mul pos .0 (size-lt (n / den)) in
+      let g : 2 ^ size (n / den) * den ≤ den * (2 ^ k * 2 ^ 24) = le-trans (le-of-eq (mul-comm (2 ^ size (n / den)) den)) (mul-le-mul-left den (le-trans (pow-mono {j = k + 24} (omega arith)) (le-of-eq (pow-add 2 k 24)))) in
+      lt-of-lt-of-le h (le-trans g (le-of-eq (sym (mul-assoc den (2 ^ k) (2 ^ 24)))))
+
+  pub kept-reaches : (k ≡ 0) ⊎ (den * 2 ^ k * 2 ^ 23 ≤ n)
+  kept-reaches = go k e
+    where
+      go : (j : ℕ) → j ≡ size (n / den) - 24 → (j ≡ 0) ⊎ (den * 2 ^ j * 2 ^ 23 ≤ n)
+      go zero f = inl refl
+      go (suc j) f =
+          inr (le-trans (le-of-eq (mul-assoc den (2 ^ suc j) (2 ^ 23) ∙ mul-comm den (2 ^ suc j * 2 ^ 23) ∙ ap (λ (x : ℕ). x * den) (sym (pow-add 2 (suc j) 23))))
+          (le-div-iff-mul-le pos .0 (size-reaches (n / den) (suc j + 23) (omega arith))))
+
+-- ---- room for the middle and for twice the number
+pub quotient-below : (n d q : ℕ) → 0 < d → n < d * 2 ^ 24 → q ≡ n / d → q < 2 ^ 24
+quotient-below n d q pos h e = subst (λ (x : ℕ). x < 2 ^ 24) (sym e) (div-lt-iff-lt-mul pos .1 (subst (λ (x : ℕ). n < x) (mul-comm d (2 ^ 24)) h))
+
+pub twice-room : (n d m : ℕ) → n < d * 2 ^ 24 → d * 2 ^ 25 < m → n * 2 < m
+twice-room n d m h l = omega arith
+
+pub smaller-room : (d m : ℕ) → d * 2 ^ 25 < m → d * 2 ^ 24 < m
+smaller-room d m h = omega arith
+
+-- ---- room for the next shift
+pub next-room : (n den k : ℕ) → den * 2 ^ (k + 24) ≤ n → n < 2 ^ 400 → den * 2 ^ (k + 1 + 24) < 2 ^ 448
+next-room n den k h l = subst (λ (x : ℕ). x < 2 ^ 448) (half-up den k (den * 2 ^ (k + 24)) refl) (double-room (den * 2 ^ (k + 24)) n h l)
+
+-- ---- the digits that are kept, rounded: 24, or fewer where none is dropped
+pub closest-le : (n d m : ℕ) → 0 < d → n < d * m → closest n d ≤ m
+closest-le n d m pos h = le-trans (nearest-le (n / d) (compare (n % d * 2) d)) (div-lt-iff-lt-mul pos .1 (subst (λ (x : ℕ). n < x) (mul-comm d m) h))
+
+pub closest-ge : (n d m : ℕ) → 0 < d → d * m ≤ n → m ≤ closest n d
+closest-ge n d m pos h = le-trans (le-div-iff-mul-le pos .1 (subst (λ (x : ℕ). x ≤ n) (mul-comm d m) h)) (nearest-ge (n / d) (compare (n % d * 2) d))
+
+pub full-digits : (n den k : ℕ) → 0 < den → (k ≡ 0) ⊎ (den * 2 ^ k * 2 ^ 23 ≤ n) → (k ≡ 0) ⊎ (2 ^ 23 ≤ closest n (den * 2 ^ k))
+full-digits n den k pos (inl z) = inl z
+full-digits n den k pos (inr h) = inr (closest-ge n (den * 2 ^ k) (2 ^ 23) (mul-pos pos (pow-pos k)) h)
+
+-- room for the nearest whole number
+pub kept-room : (n den k : ℕ) → (k ≡ 0) ⊎ (den * 2 ^ k * 2 ^ 23 ≤ n) → den * 2 ^ 25 < 2 ^ 448 → n < 2 ^ 400 → den * 2 ^ k * 2 ^ 25 < 2 ^ 448
+kept-room n den k (inl z) h l = subst (λ (x : ℕ). den * 2 ^ x * 2 ^ 25 < 2 ^ 448) (sym z) (subst (λ (x : ℕ). x * 2 ^ 25 < 2 ^ 448) (sym (mul-one den)) h)
+kept-room n den k (inr g) h l =
+    lt-of-le-of-lt (le-trans (le-of-eq (sym (mul-assoc (den * 2 ^ k) (2 ^ 23) 4))) (mul-le-mul-right 4 g)) (lt-of-lt-of-le (mul-lt-mul-of-pos-right l (omega arith)) (pow-mono {i = 402} {j = 448} (omega arith)))
