@@ -3,3 +3,6 @@ pub mod PowerLaws
 pub mod RoundingLaws
 pub mod PatternLaws
 pub mod DecimalLaws
+pub mod CapLaws
+pub mod ReadLaws
+pub mod WordLaws

@@ -1,2 +1,4 @@
 pub mod Limbs
 pub mod Rounding
+pub mod Words
+pub mod Capped
