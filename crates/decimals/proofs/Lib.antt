@@ -6,3 +6,4 @@ pub mod DecimalLaws
 pub mod CapLaws
 pub mod ReadLaws
 pub mod WordLaws
+pub mod TextLaws

@@ -2,3 +2,5 @@ pub mod Limbs
 pub mod Rounding
 pub mod Words
 pub mod Capped
+pub mod Text
+pub mod Exports
