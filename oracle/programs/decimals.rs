@@ -275,6 +275,12 @@ fn compare(seed: u64, count: u64) {
         expected(word, *want, rendering(word), "the rendering");
         expected(word, *want, rattle::read(word), "the library");
     }
+    // an exponent that makes up for as many zeros
+    for zeros in [1000, 70_000, 200_000] {
+        let word = format!("-0.{}15e{}", "0".repeat(zeros), zeros + 1);
+        expected(word.as_bytes(), Number(0xBFC0_0000), rendering(word.as_bytes()), "the rendering");
+        expected(word.as_bytes(), Number(0xBFC0_0000), rattle::read(word.as_bytes()), "the library");
+    }
     let mut d = Draw::new(seed);
     let (mut kinds, mut answers) = ([0u64; 11], [0u64; 5]);
     for _ in 0..count {

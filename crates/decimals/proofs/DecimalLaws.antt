@@ -2,13 +2,13 @@
 use mathlib.Core.Path.{_≡_, refl, sym, ap, _∙_, subst}
 use mathlib.Core.Logic.{_⊎_, inl, inr}
 use mathlib.Core.Bool.{Bool, true, false, cond}
-use Prim.Native.Nat.{ℕ, zero, suc, _+_, _-_, _*_, _/_, _%_, _^_, _≤_, _<_, compare}
-use native.Mathlib.Nat.{le-trans, le-of-eq, le-of-lt, lt-of-lt-of-le, lt-of-le-of-lt, mul-one, one-mul, mul-comm, mul-assoc, mul-right-comm, mul-le-mul, mul-le-mul-right, mul-le-mul-left, one-le-pow, pow-le-pow-right, zero-mul, div-one, div-eq-of-lt}
+use Prim.Native.Nat.{ℕ, zero, suc, _+_, _-_, _*_, _/_, _^_, _≤_, _<_}
+use native.Mathlib.Nat.{le-trans, le-of-eq, le-of-lt, lt-of-lt-of-le, lt-of-le-of-lt, mul-one, one-mul, mul-assoc, mul-le-mul, mul-le-mul-right, one-le-pow, pow-le-pow-right, zero-mul, div-one, div-eq-of-lt}
 use native.Mathlib.Omega.{arith}
 use lib.Dec.{ltb, lit<, lit≤}
 use lib.IntN.{pos}
 use lib.Pow.{pow-add, pow-mono, shl-lt}
-use lib.Ieee.{Float, inf, fin, binary32, size, units, round, odd, neg}
+use lib.Ieee.{inf, fin, binary32, size, units, round, odd, neg}
 use lib.Ieee.Digits.{size-lt}
 use lib.Ieee.Fits.{round-is}
 use lib.Ieee.Nearest.{closest}

@@ -7,3 +7,4 @@ pub mod CapLaws
 pub mod ReadLaws
 pub mod WordLaws
 pub mod TextLaws
+pub mod Cases

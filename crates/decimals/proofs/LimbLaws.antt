@@ -1,9 +1,8 @@
 -- A whole number as limbs: its lower and its upper limbs, one limb more of a product, and what a first limb that differs decides.
-use mathlib.Core.Path.{_≡_, refl, sym, ap, _∙_}
-use mathlib.Core.Bool.{true, false}
+use mathlib.Core.Path.{_≡_, sym, ap, _∙_}
 use mathlib.Core.List.{List, [], _∷_, _++_}
 use Prim.Native.Nat.{ℕ, zero, suc, _+_, _-_, _*_, _/_, _%_, _^_, _≤_, _<_}
-use native.Mathlib.Nat.{mul-zero, sub-add-cancel, one-mul, zero-mul, suc-mul, zero-add, add-assoc, mul-add, add-mul, mul-assoc, mul-comm, mul-left-comm, mul-le-mul-left, mul-le-mul-right, pow-zero, pow-suc, one-le-pow, div-add-mod'}
+use native.Mathlib.Nat.{mul-zero, sub-add-cancel, one-mul, zero-mul, suc-mul, zero-add, mul-add, add-mul, mul-assoc, mul-comm, mul-left-comm, mul-le-mul-left, pow-zero, pow-suc, one-le-pow, div-add-mod'}
 use native.Mathlib.Numerals.{add-one}
 use native.Mathlib.Omega.{arith}
 use lib.ListN.{length, take, drop, getD, set, drop-of-length-le}

@@ -1,17 +1,16 @@
 -- The reading of a decimal from its digits and its exponent, which the program holds up to 10^19 each.
 use mathlib.Core.Path.{_≡_, refl, sym, ap, _∙_}
-use mathlib.Core.Logic.{_⊎_, inl, inr}
-use mathlib.Core.Bool.{Bool, true, false, cond, _||_}
+use mathlib.Core.Logic.{inl, inr}
+use mathlib.Core.Bool.{Bool, true, false, cond}
 use mathlib.Core.List.{List, [], _∷_}
-use Prim.Native.Nat.{ℕ, suc, _+_, _-_, _*_, _^_, _≤_, _<_}
+use Prim.Native.Nat.{ℕ, _+_, _^_, _≤_, _<_}
 use native.Mathlib.Omega.{arith}
 use borrow.Author.Tests.{lt-ltb, le-ltb}
-use lib.Dec.{ltb, eqb}
+use lib.Dec.{eqb}
 use lib.IntN.{pos}
-use lib.ListN.{length}
 use lib.Ieee.{Float, inf, fin, binary32, ofBits, neg, div}
 use Rattle.decimals.specs.Rounding.{decimalOf}
-use Rattle.decimals.specs.Words.{PLUS, MINUS, digitsCount, digitsValue, afterDigits, decimalRead, exponentDigits, exponentSign, exponentPart, pointDigits, noPoint, pointPart}
+use Rattle.decimals.specs.Words.{digitsCount, digitsValue, afterDigits, decimalRead, exponentDigits, exponentSign, exponentPart, pointDigits, noPoint}
 use Rattle.decimals.specs.Capped.{cap}
 use Rattle.decimals.specs.declared.number.Reading.{Reading}
 use Rattle.decimals.specs.declared.number.Reading.the-variants.{Number, TooManyDigits, NotANumber}
@@ -27,10 +26,6 @@ float-zero = refl
 pub float-infinity : div binary32 (ofBits binary32 0x3f800000) (ofBits binary32 0) ≡ inf false
 unfolding div ofBits
 float-infinity = refl
-
-pub float-negative-infinity : neg (div binary32 (ofBits binary32 0x3f800000) (ofBits binary32 0)) ≡ inf true
-unfolding div ofBits neg
-float-negative-infinity = refl
 
 -- ---- the reading, case by case
 signed-is : (s : Bool) (w a b : ℕ) → cond s (neg (decimalOf false w a b)) (decimalOf false w a b) ≡ decimalOf s w a b

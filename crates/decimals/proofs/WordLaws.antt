@@ -1,18 +1,17 @@
 -- The parts of a word, byte by byte, as the program tests them at a position of the text.
 use mathlib.Core.Path.{_≡_, refl, sym, ap, _∙_}
-use mathlib.Core.Bool.{Bool, true, false, cond, _||_}
+use mathlib.Core.Bool.{Bool, true, false, cond}
 use mathlib.Core.List.{List, [], _∷_}
 use Prim.Native.Nat.{ℕ, suc, _+_, _-_, _*_, _^_, _≤_, _<_}
 use native.Mathlib.Nat.{add-zero, pow-suc, pow-le-pow-right}
 use native.Mathlib.Numerals.{add-one}
 use native.Mathlib.Omega.{arith}
 use borrow.Author.Tests.{le-leb, lt-leb, lt-ltb, le-ltb, eq-eqb, ne-eqb}
-use lib.Dec.{ltb, eqb}
+use lib.Dec.{eqb}
 use lib.ListN.{length, drop, getD, length-drop, drop-of-length-le}
 use lib.Seq.{drop-cons, drop-drop, getD-drop}
 use lib.Ieee.{Float, inf, binary32, ofBits, neg}
 use Rattle.decimals.specs.Words.{PLUS, MINUS, POINT, isDigit, digitsCount, digitsValue, afterDigits, decimalRead, exponentDigits, exponentSign, exponentPart, pointDigits, noPoint, pointPart, decimalWord, hexDigit, bitsAfter, isHex, bitsWord, isInf, unsigned, readingOf}
-use Rattle.decimals.specs.declared.number.Reading.{Reading}
 use Rattle.decimals.specs.declared.number.Reading.the-variants.{Number, NotANumber}
 
 pub at-byte : (t : List ℕ) (at : ℕ) → at < length t → drop at t ≡ getD t at 0 ∷ drop (at + 1) t

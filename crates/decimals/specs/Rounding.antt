@@ -1,6 +1,6 @@
 -- The number w · 10^a / 10^b, rounded once to binary32: `round` of the account of IEEE 754 takes an exact fraction of whole numbers to the nearest value,
 -- ties to even; from half a unit above the largest number on it is an infinity.
-use mathlib.Core.Bool.{Bool, false, cond}
+use mathlib.Core.Bool.{Bool, false}
 use mathlib.Core.Logic.{_⊎_}
 use mathlib.Core.Path.{_≡_}
 use Prim.Native.Nat.{ℕ, _+_, _-_, _*_, _/_, _^_, _≤_}

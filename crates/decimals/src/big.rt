@@ -1,6 +1,6 @@
 // Whole numbers below 2^448, as fourteen limbs of 32 bits, the lowest first.
 ghost use mathlib.Core.Path.{_≡_};
-ghost use Prim.Native.Nat.{_*_, _^_, _<_, _≤_};
+ghost use Prim.Native.Nat.{_*_, _^_, _<_};
 ghost use lib.Dec.{leb};
 ghost use Rattle.decimals.specs.Limbs.{value};
 

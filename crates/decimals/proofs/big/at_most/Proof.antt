@@ -1,13 +1,13 @@
 -- `at_most` meets its contract. The loop's invariant: the limbs from `i` on are those of both numbers.
 use mathlib.Core.Path.{_≡_, sym}
-use Prim.Native.Nat.{ℕ, _≤_, _-_}
+use Prim.Native.Nat.{ℕ, _≤_}
 use native.Mathlib.Nat.{le-of-lt}
 use native.Mathlib.Omega.{arith}
 use borrow.Author.Needs.{needs}
 use borrow.Author.Tests.{le-leb, lt-leb}
 use mir.Syntax.{w32}
 use mir.Val.{Fits}
-use lib.ListN.{length, drop, getD, drop-of-length-le}
+use lib.ListN.{length, drop, getD}
 use Rattle.decimals.specs.Limbs.{value}
 use Rattle.decimals.proofs.LimbLaws.{limb-decides, limb-same, both-whole, whole-same}
 use Rattle.decimals.proofs.big.at_most.Statement.{statement}

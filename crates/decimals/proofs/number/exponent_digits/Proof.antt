@@ -1,6 +1,6 @@
 -- `exponent_digits` meets its contract: there are digits, and nothing after them.
-use mathlib.Core.Path.{_≡_, sym, ap, _∙_}
-use Prim.Native.Nat.{ℕ, _+_}
+use mathlib.Core.Path.{_≡_, ap, _∙_}
+use Prim.Native.Nat.{_+_}
 use lib.ListN.{drop}
 use Rattle.decimals.specs.Words.{digitsCount, digitsValue, decimalRead}
 use Rattle.decimals.specs.declared.digits.Digits.{Digits}

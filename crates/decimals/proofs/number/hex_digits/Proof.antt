@@ -1,11 +1,10 @@
 -- `hex_digits` meets its contract. The loop's invariant: the digits that are left, after the value so far, are all of them.
-use mathlib.Core.Path.{_≡_, refl, sym, ap, subst, _∙_}
+use mathlib.Core.Path.{_≡_, refl, ap, subst, _∙_}
 use Prim.Native.Nat.{ℕ, _≤_, _<_, _+_, _-_, _*_, _^_}
 use native.Mathlib.Omega.{arith}
 use borrow.Author.Needs.{needs}
-use lib.ListN.{length, drop, getD}
-use lib.Ieee.{Float}
-use Rattle.decimals.specs.Words.{bitsAfter, hexDigit}
+use lib.ListN.{length, drop}
+use Rattle.decimals.specs.Words.{bitsAfter}
 use Rattle.decimals.specs.declared.number.Reading.the-variants.{Number}
 use Rattle.decimals.proofs.WordLaws.{bits-digit, bits-fault, bits-end, hex-more, hex-room}
 use Rattle.decimals.proofs.number.hex_digits.Statement.{statement}

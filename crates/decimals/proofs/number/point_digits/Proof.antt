@@ -1,7 +1,7 @@
 -- `point_digits` meets its contract: the digits after the point go on with those before it.
-use mathlib.Core.Path.{_≡_, sym, ap, _∙_}
+use mathlib.Core.Path.{_≡_, ap, _∙_}
 use native.Mathlib.Omega.{arith}
-use Prim.Native.Nat.{ℕ, _+_, _-_, _≤_}
+use Prim.Native.Nat.{_+_, _-_, _≤_}
 use lib.ListN.{length, drop}
 use Rattle.decimals.specs.Words.{digitsCount, digitsValue, exponentPart}
 use Rattle.decimals.specs.declared.digits.Digits.{Digits}

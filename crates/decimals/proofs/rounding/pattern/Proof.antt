@@ -1,5 +1,5 @@
 -- `pattern` meets its contract: the digits that are kept, rounded, with the number of those dropped, are the pattern.
-use mathlib.Core.Path.{_≡_, sym, ap, _∙_, subst}
+use mathlib.Core.Path.{_≡_, ap, _∙_}
 use mathlib.Core.Logic.{_⊎_, inl, inr}
 use mathlib.Core.Bool.{false}
 use Prim.Native.Nat.{ℕ, _≤_, _<_, _+_, _-_, _*_, _/_, _^_}
@@ -11,7 +11,7 @@ use lib.Ieee.{binary32, ofBits, size, units}
 use lib.Ieee.Nearest.{closest}
 use Rattle.decimals.specs.Limbs.{value}
 use Rattle.decimals.specs.Rounding.{unitsRounded}
-use Rattle.decimals.proofs.RoundingLaws.{shift-room, smaller-room, kept-below, kept-reaches, kept-room, closest-le, closest-ge, full-digits}
+use Rattle.decimals.proofs.RoundingLaws.{shift-room, kept-below, kept-reaches, kept-room, closest-le, full-digits}
 use Rattle.decimals.proofs.PatternLaws.{pattern-small, pattern-large}
 use Rattle.decimals.proofs.rounding.pattern.Statement.{statement}
 use Rattle.decimals.proofs.rounding.pattern.Tie as tie
