@@ -8,3 +8,4 @@ pub mod ReadLaws
 pub mod WordLaws
 pub mod TextLaws
 pub mod Cases
+pub mod NearestLaws

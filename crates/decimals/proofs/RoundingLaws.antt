@@ -37,7 +37,7 @@ compared a b = go (compare a b) (leb→le a b) (nleb→lt a b) (eqb→eq a b) (�
     go Ordering·eq h k e n = e tt
     go Ordering·gt h k e n = k tt
 
-below : (q a b : ℕ) → a < b → q ≡ nearest q (compare a b)
+pub below : (q a b : ℕ) → a < b → q ≡ nearest q (compare a b)
 below q a b h = go (compare a b) (compared a b)
   where
     go : (o : Ordering) → Compared o a b → q ≡ nearest q o
@@ -45,7 +45,7 @@ below q a b h = go (compare a b) (compared a b)
     go Ordering·eq l = absurd (omega arith)
     go Ordering·gt l = absurd (omega arith)
 
-tied : (q a b : ℕ) → a ≡ b → q + q % 2 ≡ nearest q (compare a b)
+pub tied : (q a b : ℕ) → a ≡ b → q + q % 2 ≡ nearest q (compare a b)
 tied q a b h = go (compare a b) (compared a b)
   where
     go : (o : Ordering) → Compared o a b → q + q % 2 ≡ nearest q o
@@ -53,7 +53,7 @@ tied q a b h = go (compare a b) (compared a b)
     go Ordering·eq l = refl
     go Ordering·gt l = absurd (omega arith)
 
-above : (q a b : ℕ) → b < a → q + 1 ≡ nearest q (compare a b)
+pub above : (q a b : ℕ) → b < a → q + 1 ≡ nearest q (compare a b)
 above q a b h = go (compare a b) (compared a b)
   where
     up-by-one : q + 1 ≡ suc q

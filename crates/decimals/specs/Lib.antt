@@ -1,5 +1,6 @@
 pub mod Limbs
 pub mod Rounding
+pub mod Nearest
 pub mod Words
 pub mod Capped
 pub mod Text
