@@ -14,7 +14,7 @@ use Rattle.rows.specs.declared.row_ids.RowIds.{RowIds}
 use Rattle.rows.proofs.RowArrays.{rowsArray-len, rowIdsArray-len}
 use Rattle.rows.proofs.RowIdsLaws.{no-ids}
 use Rattle.model.specs.Calls.{Answer}
-use Rattle.model.specs.Calls.Answer.{granted, total, rowsRead, velocityRead, refused}
+use Rattle.model.specs.Calls.Answer.{granted, total, rowsRead, velocityRead, swept, refused}
 use Rattle.model.specs.Answers.{rowsAnswerOf}
 use Rattle.model.specs.declared.calls.Plain.{Plain}
 use Rattle.model.specs.declared.calls.RowsAnswer.{RowsAnswer}
@@ -70,4 +70,5 @@ module _ (out : List Float) (e : leb 3 (length out) ≡ false) where
   short-velocity granted = refl
   short-velocity (total n) = refl
   short-velocity (rowsRead is rows) = refl
+  short-velocity (swept counts) = refl
   short-velocity (refused k) = refl

@@ -26,6 +26,9 @@ put-counts-requires c κs = search needs
 enum-known-answer : tie.Need-enum-known-answer
 enum-known-answer c = search needs
 
+cast-result : tie.Need-cast-result
+cast-result c = search needs
+
 same-length : tie.Need-same-length
 same-length c = search needs
 
@@ -74,6 +77,7 @@ katydidzinc-sweep-spec =
     enum-told
     put-counts-requires
     enum-known-answer
+    cast-result
     same-length
     same-length-2
     same-length-3
