@@ -4,7 +4,7 @@
  * numbers, and row storage. A call answers what it grants or the number of a refusal, and a refused call leaves everything as it
  * was. The functions keep nothing between calls, allocate nothing and may run on several threads at once, each on its own slices.
  *
- * In this file: the records, the answers, the calls; and, over these, the same calls on a struct, checked for what the library
+ * In this file: the records, the answers, the calls, motor tables; and, over these, the same calls on a struct, checked for what the library
  * cannot see (katydidzinc_study_load and so on), and the Rust's defaults.
  */
 #ifndef KATYDIDZINC_H
@@ -141,6 +141,10 @@ extern "C" {
 #define KATYDIDZINC_READ_IDS 6
 #define KATYDIDZINC_VELOCITY_NUMBERS 3 /* x, y, angular */
 
+/* A motor table holds at most so many records. Its numbers are at most so large in size. */
+#define KATYDIDZINC_MOST_RECORDS 4096
+#define KATYDIDZINC_LARGEST_SIZE 8000000
+
 /* ---- Answers. An answer is 64 bits wide. Granted is 0, or, of a build and of a row read, 2^32 plus the number of rows. Every other
  * answer is a number of the list below, and then nothing was written. Cut to 32 bits, a granted number of rows would read as a refusal. */
 
@@ -148,8 +152,9 @@ extern "C" {
 #define KATYDIDZINC_ROWS_GRANTED UINT64_C(4294967296)
 
 enum katydidzinc_refusal {
-    /* The model's rules: a call is refused with the number of the first that fails, in the order 1 to 6, 12, 7 to 11. Each rule is tried
-     * on the whole model before the next. A call that is handed no row storage passes over 8. */
+    /* The model's rules: a call is refused with the number of the first that fails, in the order 1 to 6, 12, 7 to 11, 13 to 15. Each of 1 to 12 is tried
+     * on the whole model before the next; 13 to 15, in this order, on one record of the motor table before the next record. A call that is handed no row
+     * storage passes over 8. */
     KATYDIDZINC_TOO_MANY_BODIES = 1,   /* More than 128 bodies are given. */
     KATYDIDZINC_TOO_MANY_JOINTS = 2,   /* More than 128 joints are given. */
     KATYDIDZINC_LARGE_MASK = 3,        /* A mask exceeds 7. */
@@ -165,9 +170,13 @@ enum katydidzinc_refusal {
                                         * model that is not built has both a warm coefficient and a substep above 0. */
     KATYDIDZINC_ABSENT = 11,           /* The joint or body asked for by index is absent. */
     KATYDIDZINC_LARGE_ANGLE = 12,      /* A centre's typed angle exceeds 1024 in size. */
+    KATYDIDZINC_BROKEN_TABLE = 13,     /* A motor table's bytes break RFC 4180's grammar, or hold more than 4096 records. */
+    KATYDIDZINC_NOT_THREE_NUMBERS = 14, /* A record of the table is not exactly three whole numbers, each at most 8000000 in size. */
+    KATYDIDZINC_ABSENT_AXIS = 15,      /* A record's joint or axis is absent. */
 
-    /* Tried after all of these. */
-    KATYDIDZINC_SHORT_SLICE = 1000,    /* The model grants the read, and a slice that the read is to write is too short for it. */
+    /* Tried after all of these by a read, and before all of these by a sweep. */
+    KATYDIDZINC_SHORT_SLICE = 1000,    /* The model grants the read, and a slice that the read is to write is too short for it; or the slice for a
+                                        * sweep's counts is. */
 
     /* Tried before all of these, by the checked calls alone. */
     KATYDIDZINC_BAD_SLICE = 1001,      /* A slice of a length above 0 is NULL, is not aligned, or is longer than memory. */
@@ -218,11 +227,14 @@ uint64_t katydidzinc_warm_start(float dt, float length_unit, float normalized_ma
                                 float *bodies, size_t bodies_len, const uint32_t *words, size_t words_len,
                                 const float *numbers, size_t numbers_len, const float *rows, size_t rows_len);
 
-/* Solves each row n times, joints ascending. Writes velocities in `bodies`, and the rows' impulses. */
+/* Solves each row n times, joints ascending. Writes velocities in `bodies`, the rows' impulses, and to `counts`, a byte a joint, how many of the joint's motor
+ * rows were at their lower or upper bound in the last round; 0 where n is 0. `counts` has at least KATYDIDZINC_MOST_JOINTS bytes; else the answer is
+ * KATYDIDZINC_SHORT_SLICE, and nothing is done. A granted sweep writes the first KATYDIDZINC_MOST_JOINTS, zeros past the joints; the rest stays. A motor is at a bound where the impulse that its
+ * row wants lies beyond it, and so was cut. */
 uint64_t katydidzinc_sweep(float dt, float length_unit, float normalized_max_corrective_velocity, uint32_t built,
                            float *bodies, size_t bodies_len, const uint32_t *words, size_t words_len,
                            const float *numbers, size_t numbers_len, float *rows, size_t rows_len,
-                           uint32_t n);
+                           uint32_t n, uint8_t *counts, size_t counts_len);
 
 /* Sets each row's rhs to its rhs_wo_bias. Writes `rows`. */
 uint64_t katydidzinc_remove_bias(float dt, float length_unit, float normalized_max_corrective_velocity, uint32_t built,
@@ -249,10 +261,45 @@ uint64_t katydidzinc_read_velocity(float dt, float length_unit, float normalized
                                    const float *numbers, size_t numbers_len,
                                    uint32_t body, float *out, size_t out_len);
 
+/* Sets the motors' target velocities that a motor table names (see there). Writes them in `numbers`. The first faulty record decides, and then no target is set. */
+uint64_t katydidzinc_set_targets(float dt, float length_unit, float normalized_max_corrective_velocity, uint32_t built,
+                                 const float *bodies, size_t bodies_len, const uint32_t *words, size_t words_len,
+                                 float *numbers, size_t numbers_len, const uint8_t *table, size_t table_len);
+
 /* A number in millionths, exactly, rounded half to even: a whole number below 2^31 in size, KATYDIDZINC_MICRO_OVER where it is larger, KATYDIDZINC_MICRO_NAN. */
 int64_t katydidzinc_micro_report(float x);
 
-/* ---- Answers, read. */
+/* ---- Motor tables: the bytes of RFC 4180 records (comma-separated values), three whole numbers each: joint, axis (0 and 1 linear, 2 the angle), target velocity in
+ * thousandths. Fields may be quoted. There is no heading; no bytes hold no record; the last record may end without CRLF. A later record for the same axis
+ * wins. A call on a model reads one (katydidzinc_set_targets); these functions need no model, only its number of joints.
+ *
+ * As words, a record is three, each a number in two's complement. A refusal is answered as 2^32 plus its number, 13 to 15: what is granted is a length or a number of records.
+ */
+
+#define KATYDIDZINC_TABLE_REFUSED UINT64_C(4294967296)
+
+/* How many records a table holds, or its refusal by a model of so many joints. */
+uint64_t katydidzinc_motor_table_read(const uint8_t *text, size_t text_len, uint32_t joints);
+
+/* The record at byte `at`, 0 or what this function answered last: writes its three words, where `words` has room for three, and answers where the next record starts, or the
+ * text's length after the last. It answers 0, and writes nothing, where no record of three numbers stands there. Whether joint and axis are there is not looked at. */
+size_t katydidzinc_motor_table_record(const uint8_t *text, size_t text_len, size_t at, uint32_t *words, size_t words_len);
+
+/* The target velocity of a word of thousandths: divided once by 1000. */
+float katydidzinc_motor_table_target(uint32_t word);
+
+/* Writes the table of records in `table`, three words each, in one spelling: no quotes, no leading zeros or plus, CRLF after each record. A part of a record at the end is
+ * passed over. Answers the text's length, or the table's refusal by a model of so many joints. Where `out` has fewer bytes than that, and where it is refused, nothing is written; bytes
+ * past the text stay. */
+uint64_t katydidzinc_motor_table_write(const uint32_t *table, size_t table_len, uint32_t joints, uint8_t *out, size_t out_len);
+
+/* The number of the rule that a table's answer was refused by, or 0. */
+static inline uint64_t katydidzinc_table_refusal(uint64_t answer)
+{
+    return answer >= KATYDIDZINC_TABLE_REFUSED ? answer - KATYDIDZINC_TABLE_REFUSED : 0;
+}
+
+/* ---- Answers, read. Those of motor tables are katydidzinc_table_refusal's. */
 
 static inline int katydidzinc_granted(uint64_t answer)
 {
@@ -284,7 +331,10 @@ static inline const char *katydidzinc_rule(uint64_t answer)
     case KATYDIDZINC_NOT_BUILT: return "the model is not built";
     case KATYDIDZINC_ABSENT: return "the joint or body asked for is absent";
     case KATYDIDZINC_LARGE_ANGLE: return "a centre's typed angle exceeds 1024 in size";
-    case KATYDIDZINC_SHORT_SLICE: return "a slice is too short for what is read";
+    case KATYDIDZINC_BROKEN_TABLE: return "a motor table breaks RFC 4180's grammar or holds more than 4096 records";
+    case KATYDIDZINC_NOT_THREE_NUMBERS: return "a record is not exactly three whole numbers, each at most 8000000 in size";
+    case KATYDIDZINC_ABSENT_AXIS: return "a record's joint or axis is absent";
+    case KATYDIDZINC_SHORT_SLICE: return "a slice is too short for what is read or counted";
     case KATYDIDZINC_BAD_SLICE: return "a slice is NULL, not aligned or longer than memory";
     case KATYDIDZINC_OVERLAP: return "two slices overlap";
     case KATYDIDZINC_FLOAT_MODE: return "the processor does not round to nearest, or takes subnormal numbers for zero";
@@ -308,6 +358,7 @@ typedef struct katydidzinc_study {
     size_t numbers_len;
     float *rows;
     size_t rows_len;
+    uint8_t counts[KATYDIDZINC_MOST_JOINTS]; /* of the last granted sweep */
 } katydidzinc_study;
 
 /* Whether sums and quotients of the calling thread are those of IEEE 754, to nearest, with subnormal numbers. */
@@ -327,21 +378,24 @@ static inline int katydidzinc_float_mode(void)
     return above == one && below == less && next != one && subnormal != 0.0f && again == smallest;
 }
 
-static inline int katydidzinc_slice_bad(const void *slice, size_t len)
+/* A slice of len elements, each of `width` bytes and aligned so. */
+static inline int katydidzinc_slice_bad(const void *slice, size_t len, size_t width)
 {
-    return len > 0 && (slice == NULL || (uintptr_t)slice % 4 != 0 || len > PTRDIFF_MAX / 4 || (uintptr_t)slice > UINTPTR_MAX - 4 * len);
+    return len > 0 && (slice == NULL || (uintptr_t)slice % width != 0 || len > PTRDIFF_MAX / width || (uintptr_t)slice > UINTPTR_MAX - width * len);
 }
 
+/* The lengths in bytes. */
 static inline int katydidzinc_slices_meet(const void *a, size_t a_len, const void *b, size_t b_len)
 {
-    return a_len > 0 && b_len > 0 && (uintptr_t)a < (uintptr_t)b + 4 * b_len && (uintptr_t)b < (uintptr_t)a + 4 * a_len;
+    return a_len > 0 && b_len > 0 && (uintptr_t)a < (uintptr_t)b + b_len && (uintptr_t)b < (uintptr_t)a + a_len;
 }
 
-/* 0, or what is wrong with the study's slices and two more. */
-static inline uint64_t katydidzinc_study_check(const katydidzinc_study *s, const void *out, size_t out_len, const void *ids, size_t ids_len)
+/* 0, or what is wrong with the study's slices and three more, of numbers, words and bytes. */
+static inline uint64_t katydidzinc_study_check(const katydidzinc_study *s, const void *out, size_t out_len, const void *ids, size_t ids_len,
+                                               const void *table, size_t table_len)
 {
-    const void *slices[6];
-    size_t lens[6];
+    const void *slices[7];
+    size_t lens[7];
     int i, j;
     if (!katydidzinc_float_mode()) {
         return KATYDIDZINC_FLOAT_MODE;
@@ -352,12 +406,15 @@ static inline uint64_t katydidzinc_study_check(const katydidzinc_study *s, const
     slices[3] = s->rows, lens[3] = s->rows_len;
     slices[4] = out, lens[4] = out_len;
     slices[5] = ids, lens[5] = ids_len;
-    for (i = 0; i < 6; i++) {
-        if (katydidzinc_slice_bad(slices[i], lens[i])) {
+    slices[6] = table, lens[6] = table_len;
+    for (i = 0; i < 7; i++) {
+        size_t width = i < 6 ? 4 : 1;
+        if (katydidzinc_slice_bad(slices[i], lens[i], width)) {
             return KATYDIDZINC_BAD_SLICE;
         }
+        lens[i] *= width;
     }
-    for (i = 0; i < 6; i++) {
+    for (i = 0; i < 7; i++) {
         for (j = 0; j < i; j++) {
             if (katydidzinc_slices_meet(slices[i], lens[i], slices[j], lens[j])) {
                 return KATYDIDZINC_OVERLAP;
@@ -388,7 +445,7 @@ static inline uint32_t *katydidzinc_words_at(uint32_t *slice)
 
 static inline uint64_t katydidzinc_study_load(katydidzinc_study *s)
 {
-    uint64_t answer = katydidzinc_study_check(s, NULL, 0, NULL, 0);
+    uint64_t answer = katydidzinc_study_check(s, NULL, 0, NULL, 0, NULL, 0);
     if (answer == KATYDIDZINC_GRANTED) {
         answer = katydidzinc_load(KATYDIDZINC_MODEL_OF(s), KATYDIDZINC_ROWS_OF(s));
         if (katydidzinc_granted(answer)) {
@@ -400,13 +457,13 @@ static inline uint64_t katydidzinc_study_load(katydidzinc_study *s)
 
 static inline uint64_t katydidzinc_study_place(katydidzinc_study *s, uint32_t body, float re, float im, float x, float y)
 {
-    uint64_t answer = katydidzinc_study_check(s, NULL, 0, NULL, 0);
+    uint64_t answer = katydidzinc_study_check(s, NULL, 0, NULL, 0, NULL, 0);
     return answer != KATYDIDZINC_GRANTED ? answer : katydidzinc_place(KATYDIDZINC_MODEL_OF(s), body, re, im, x, y);
 }
 
 static inline uint64_t katydidzinc_study_build(katydidzinc_study *s, uint32_t warm, float coefficient, uint32_t substep_id)
 {
-    uint64_t answer = katydidzinc_study_check(s, NULL, 0, NULL, 0);
+    uint64_t answer = katydidzinc_study_check(s, NULL, 0, NULL, 0, NULL, 0);
     if (answer == KATYDIDZINC_GRANTED) {
         answer = katydidzinc_build(KATYDIDZINC_MODEL_OF(s), KATYDIDZINC_ROWS_OF(s), warm, coefficient, substep_id);
         if (katydidzinc_granted(answer)) {
@@ -418,31 +475,34 @@ static inline uint64_t katydidzinc_study_build(katydidzinc_study *s, uint32_t wa
 
 static inline uint64_t katydidzinc_study_warm_start(katydidzinc_study *s)
 {
-    uint64_t answer = katydidzinc_study_check(s, NULL, 0, NULL, 0);
+    uint64_t answer = katydidzinc_study_check(s, NULL, 0, NULL, 0, NULL, 0);
     return answer != KATYDIDZINC_GRANTED ? answer : katydidzinc_warm_start(KATYDIDZINC_MODEL_OF(s), KATYDIDZINC_ROWS_OF(s));
 }
 
+/* The counts go to the struct. */
 static inline uint64_t katydidzinc_study_sweep(katydidzinc_study *s, uint32_t n)
 {
-    uint64_t answer = katydidzinc_study_check(s, NULL, 0, NULL, 0);
-    return answer != KATYDIDZINC_GRANTED ? answer : katydidzinc_sweep(KATYDIDZINC_MODEL_OF(s), KATYDIDZINC_ROWS_OF(s), n);
+    uint64_t answer = katydidzinc_study_check(s, NULL, 0, NULL, 0, NULL, 0);
+    return answer != KATYDIDZINC_GRANTED
+               ? answer
+               : katydidzinc_sweep(KATYDIDZINC_MODEL_OF(s), KATYDIDZINC_ROWS_OF(s), n, s->counts, KATYDIDZINC_MOST_JOINTS);
 }
 
 static inline uint64_t katydidzinc_study_remove_bias(katydidzinc_study *s)
 {
-    uint64_t answer = katydidzinc_study_check(s, NULL, 0, NULL, 0);
+    uint64_t answer = katydidzinc_study_check(s, NULL, 0, NULL, 0, NULL, 0);
     return answer != KATYDIDZINC_GRANTED ? answer : katydidzinc_remove_bias(KATYDIDZINC_MODEL_OF(s), KATYDIDZINC_ROWS_OF(s));
 }
 
 static inline uint64_t katydidzinc_study_write_back(katydidzinc_study *s)
 {
-    uint64_t answer = katydidzinc_study_check(s, NULL, 0, NULL, 0);
+    uint64_t answer = katydidzinc_study_check(s, NULL, 0, NULL, 0, NULL, 0);
     return answer != KATYDIDZINC_GRANTED ? answer : katydidzinc_write_back(KATYDIDZINC_MODEL_OF(s), KATYDIDZINC_ROWS_OF(s));
 }
 
 static inline uint64_t katydidzinc_study_read_rows(const katydidzinc_study *s, uint32_t joint, float *out, size_t out_len, uint32_t *ids, size_t ids_len)
 {
-    uint64_t answer = katydidzinc_study_check(s, out, out_len, ids, ids_len);
+    uint64_t answer = katydidzinc_study_check(s, out, out_len, ids, ids_len, NULL, 0);
     return answer != KATYDIDZINC_GRANTED ? answer
                                          : katydidzinc_read_rows(KATYDIDZINC_MODEL_OF(s), KATYDIDZINC_ROWS_OF(s), joint, katydidzinc_numbers_at(out), out_len,
                                                                  katydidzinc_words_at(ids), ids_len);
@@ -450,8 +510,15 @@ static inline uint64_t katydidzinc_study_read_rows(const katydidzinc_study *s, u
 
 static inline uint64_t katydidzinc_study_read_velocity(const katydidzinc_study *s, uint32_t body, float *out, size_t out_len)
 {
-    uint64_t answer = katydidzinc_study_check(s, out, out_len, NULL, 0);
+    uint64_t answer = katydidzinc_study_check(s, out, out_len, NULL, 0, NULL, 0);
     return answer != KATYDIDZINC_GRANTED ? answer : katydidzinc_read_velocity(KATYDIDZINC_MODEL_OF(s), body, katydidzinc_numbers_at(out), out_len);
+}
+
+static inline uint64_t katydidzinc_study_set_targets(katydidzinc_study *s, const uint8_t *table, size_t table_len)
+{
+    static const uint8_t none[1] = {0};
+    uint64_t answer = katydidzinc_study_check(s, NULL, 0, NULL, 0, table, table_len);
+    return answer != KATYDIDZINC_GRANTED ? answer : katydidzinc_set_targets(KATYDIDZINC_MODEL_OF(s), table != NULL ? table : none, table_len);
 }
 
 /* ---- The Rust's defaults: its settings; a body at rest at the origin that no impulse moves; a joint that makes no row. */

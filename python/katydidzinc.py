@@ -55,11 +55,13 @@ ROW_IMPULSE, ROW_IMPULSE_MIN, ROW_IMPULSE_MAX, ROW_LIN_JAC, ROW_ANG_JAC1, ROW_AN
 ROW_INV_LHS, ROW_RHS, ROW_RHS_WO_BIAS, ROW_CFM_GAIN, ROW_CFM_COEFF, ROW_IM1, ROW_IM2 = 9, 10, 11, 12, 13, 14, 16
 ID_DOF, ID_LIMIT, ID_MOTOR = 0, 4, 8
 READ_NUMBERS, READ_IDS, VELOCITY_NUMBERS = 108, 6, 3
+MOST_RECORDS, LARGEST_SIZE, TABLE_REFUSED = 4096, 8000000, 4294967296
 GRANTED, ROWS_GRANTED = 0, 4294967296
 MICRO_OVER, MICRO_NAN = 4294967296, 8589934592
 
 TOO_MANY_BODIES, TOO_MANY_JOINTS, LARGE_MASK, ABSENT_BODY, SAME_BODY, NOT_FINITE = range(1, 7)
 NEGATIVE_DT, SMALL_STORAGE, TOO_MANY_ROUNDS, NOT_BUILT, ABSENT, LARGE_ANGLE = range(7, 13)
+BROKEN_TABLE, NOT_THREE_NUMBERS, ABSENT_AXIS = range(13, 16)
 SHORT_SLICE, BAD_SLICE, OVERLAP, FLOAT_MODE = range(1000, 1004)
 
 RULES = {
@@ -75,7 +77,10 @@ RULES = {
     NOT_BUILT: "the model is not built",
     ABSENT: "the joint or body asked for is absent",
     LARGE_ANGLE: "a centre's typed angle exceeds 1024 in size",
-    SHORT_SLICE: "a slice is too short for what is read",
+    BROKEN_TABLE: "a motor table breaks RFC 4180's grammar or holds more than 4096 records",
+    NOT_THREE_NUMBERS: "a record is not exactly three whole numbers, each at most 8000000 in size",
+    ABSENT_AXIS: "a record's joint or axis is absent",
+    SHORT_SLICE: "a slice is too short for what is read or counted",
     BAD_SLICE: "a slice is NULL, not aligned or longer than memory",
     OVERLAP: "two slices overlap",
     FLOAT_MODE: "the processor does not round to nearest, or takes subnormal numbers for zero",
@@ -115,7 +120,7 @@ def _library():
 
 
 _lib = _library()
-_numbers, _words = (ctypes.c_void_p, ctypes.c_size_t), (ctypes.c_void_p, ctypes.c_size_t)
+_numbers = _words = _bytes = (ctypes.c_void_p, ctypes.c_size_t)
 _f32, _u32 = ctypes.c_float, ctypes.c_uint32
 _model = (_f32, _f32, _f32, _u32) + _numbers + _words + _numbers
 _ARGUMENTS = {
@@ -123,16 +128,21 @@ _ARGUMENTS = {
     "place": _model + (_u32, _f32, _f32, _f32, _f32),
     "build": _model + _numbers + (_u32, _f32, _u32),
     "warm_start": _model + _numbers,
-    "sweep": _model + _numbers + (_u32,),
+    "sweep": _model + _numbers + (_u32,) + _bytes,
     "remove_bias": _model + _numbers,
     "write_back": _model + _numbers,
     "read_rows": _model + _numbers + (_u32,) + _numbers + _words,
     "read_velocity": _model + (_u32,) + _numbers,
+    "set_targets": _model + _bytes,
+    "motor_table_read": _bytes + (_u32,),
+    "motor_table_write": _words + (_u32,) + _bytes,
 }
 for _name, _types in _ARGUMENTS.items():
     _function = getattr(_lib, "katydidzinc_" + _name)
     _function.argtypes, _function.restype = _types, ctypes.c_uint64
 _lib.katydidzinc_micro_report.argtypes, _lib.katydidzinc_micro_report.restype = (_f32,), ctypes.c_int64
+_lib.katydidzinc_motor_table_record.argtypes, _lib.katydidzinc_motor_table_record.restype = _bytes + (ctypes.c_size_t,) + _words, ctypes.c_size_t
+_lib.katydidzinc_motor_table_target.argtypes, _lib.katydidzinc_motor_table_target.restype = (_u32,), _f32
 
 _ONE, _QUARTER, _MOST, _SMALLEST, _HALF = 1.0, 2.0**-54, 3 * 2.0**-54, sys.float_info.min, 0.5
 
@@ -167,6 +177,47 @@ def _word(n):
     if not 0 <= n < 2**32:
         raise OverflowError(f"{n} is not from 0 to 4294967295")
     return n
+
+
+def _table_bytes(table):
+    """The bytes of a motor table, of text or bytes, with one more, so that there is a first."""
+    table = table.encode() if isinstance(table, str) else bytes(table)
+    return (ctypes.c_char * (len(table) + 1)).from_buffer_copy(table + b"\0"), len(table)
+
+
+def _table_answer(name, answer):
+    if answer >= TABLE_REFUSED:
+        raise Refused(name, answer - TABLE_REFUSED)
+    return answer
+
+
+def read_motor_table(table, joints=MOST_JOINTS):
+    """The records of a motor table, text or bytes, as a model of so many joints takes them: a list of (joint, axis, thousandths)."""
+    text, length = _table_bytes(table)
+    count = _table_answer("motor_table_read", _lib.katydidzinc_motor_table_read(text, length, _word(joints)))
+    at, words, records = 0, (ctypes.c_int32 * 3)(), []
+    for _ in range(count):
+        at = _lib.katydidzinc_motor_table_record(text, length, at, words, 3)
+        records.append(tuple(words))
+    return records
+
+
+def write_motor_table(records, joints=MOST_JOINTS):
+    """The bytes of a motor table of (joint, axis, thousandths), in one spelling; it reads back as these records."""
+    flat = [n for joint, axis, thousandths in records for n in (joint, axis, thousandths)]
+    if not all(-(2**31) <= operator.index(n) < 2**31 for n in flat):
+        raise OverflowError("a number of a record is not one of 32 bits")
+    words = (ctypes.c_int32 * (len(flat) + 1))(*flat)
+    call = lambda out, length: _table_answer("motor_table_write", _lib.katydidzinc_motor_table_write(words, len(flat), _word(joints), out, length))
+    length = call((ctypes.c_char * 1)(), 0)
+    out = (ctypes.c_char * (length + 1))()
+    call(out, length)
+    return out.raw[:length]
+
+
+def motor_target(thousandths):
+    """The target velocity that a motor table sets by so many thousandths."""
+    return _lib.katydidzinc_motor_table_target(operator.index(thousandths) % 2**32)
 
 
 def _bits(x):
@@ -373,7 +424,7 @@ class Study:
             raise Refused("a call", BAD_SLICE)
         return address, length
 
-    def _call(self, name, rows, *arguments, out=None, ids=None):
+    def _call(self, name, rows, *arguments, out=None, ids=None, of_bytes=None):
         if not float_mode():
             raise Refused(name, FLOAT_MODE)
         slices = [self._slice(self.bodies, "f"), self._slice(self.words, "IL"), self._slice(self.numbers, "f")]
@@ -384,7 +435,7 @@ class Study:
         if any(first[1] > second[0] for first, second in zip(spans, spans[1:])):
             raise Refused(name, OVERLAP)
         flat = [part for one in slices + (storage if rows else []) for part in one]
-        last = [part for one in reads for part in one]
+        last = [part for one in reads for part in one] + list(of_bytes or ())
         answer = getattr(_lib, "katydidzinc_" + name)(
             self.dt, self.length_unit, self.normalized_max_corrective_velocity, int(bool(self.built)), *flat, *arguments, *last
         )
@@ -413,8 +464,11 @@ class Study:
         self._call("warm_start", True)
 
     def sweep(self, n=1):
-        """Solves each row n times, joints ascending."""
-        self._call("sweep", True, _word(n))
+        """Solves each row n times, joints ascending. A list, a number a joint: how many of its motor rows were at a bound in the last round."""
+        counts = (ctypes.c_uint8 * MOST_JOINTS)()
+        self._call("sweep", True, _word(n), of_bytes=(counts, MOST_JOINTS))
+        joints = min(memoryview(self.words).nbytes // (4 * WORDS_WIDTH), memoryview(self.numbers).nbytes // (4 * NUMBERS_WIDTH))
+        return list(counts[:joints])
 
     def remove_bias(self):
         """Takes the bias from each row."""
@@ -440,6 +494,10 @@ class Study:
         out = array.array("f", bytes(4 * VELOCITY_NUMBERS))
         self._call("read_velocity", False, _word(self.body_number(body)), out=out)
         return Velocity(*out)
+
+    def set_targets(self, table):
+        """Sets the motors' target velocities that a motor table names: text or bytes of RFC 4180 records, each a joint's number, an axis and thousandths."""
+        self._call("set_targets", False, of_bytes=_table_bytes(table))
 
     def _end(self, number):
         return "world" if number == WORLD else self.body_names[number]

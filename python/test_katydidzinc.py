@@ -1,6 +1,7 @@
 """Tests of the Python module: its numbers are the header's, its calls are the library's, and what the library cannot see is refused before a call."""
 
 import array
+import ctypes
 import math
 import pathlib
 import re
@@ -109,6 +110,52 @@ class Calls(unittest.TestCase):
         self.assertEqual(len(lines), 6)
         self.assertEqual({line.count(",") for line in lines[:5]}, {13})
 
+    def test_counts(self):
+        for force, count in ((math.inf, 0), (3.0, 0), (0.001, 1)):
+            s = pendulum()
+            memoryview(s.numbers).cast("B").cast("f")[kz.MOTOR_ANGULAR + kz.MOTOR_MAX_FORCE] = force
+            s.load()
+            s.build()
+            self.assertEqual((s.sweep(0), s.sweep(4)), ([0], [count]))
+            self.assertEqual(s.table()[0].at, "low" if count else "")
+
+    def test_set_targets(self):
+        s = pendulum()
+        s.load()
+        s.build()
+        numbers = memoryview(s.numbers).cast("B").cast("f")
+        targets = lambda: [numbers[at + kz.MOTOR_TARGET_VEL] for at in (kz.MOTOR_X, kz.MOTOR_Y, kz.MOTOR_ANGULAR)]
+        for table in ("", b""):
+            s.set_targets(table)
+            self.assertEqual(targets(), [0.0, 0.0, 1.0])
+        s.set_targets('0,2,-2500\r\n"0","1",+0500')
+        self.assertEqual(targets(), [0.0, 0.5, -2.5])
+        s.set_targets(bytearray(b"0,2,1\r\n0,2,3\r\n"))
+        self.assertEqual(targets(), [0.0, 0.5, kz.motor_target(3)])
+        self.assertTrue(s.built)
+
+    def test_motor_table(self):
+        records = [(0, 2, -1500), (127, 0, 8000000), (3, 1, 0)]
+        text = kz.write_motor_table(records)
+        self.assertEqual(text, b"0,2,-1500\r\n127,0,8000000\r\n3,1,0\r\n")
+        self.assertEqual(kz.read_motor_table(text), records)
+        self.assertEqual(kz.read_motor_table(text.decode()), records)
+        self.assertEqual((kz.write_motor_table([]), kz.read_motor_table(b"")), (b"", []))
+        self.assertEqual([kz.motor_target(n) for n in (-1500, 0, 250)], [-1.5, 0.0, 0.25])
+        for number, call in (
+            (kz.BROKEN_TABLE, lambda: kz.read_motor_table(b"0,0,1\n")),
+            (kz.BROKEN_TABLE, lambda: kz.write_motor_table([(0, 0, 1)] * 4097)),
+            (kz.NOT_THREE_NUMBERS, lambda: kz.read_motor_table(b"joint,axis,velocity")),
+            (kz.NOT_THREE_NUMBERS, lambda: kz.write_motor_table([(0, 0, 8000001)])),
+            (kz.ABSENT_AXIS, lambda: kz.read_motor_table(b"3,0,1", 3)),
+            (kz.ABSENT_AXIS, lambda: kz.write_motor_table([(0, -1, 1)])),
+        ):
+            with self.assertRaises(kz.Refused) as caught:
+                call()
+            self.assertEqual(caught.exception.number, number)
+        with self.assertRaises(OverflowError):
+            kz.write_motor_table([(0, 0, 2**31)])
+
     def test_micro_report(self):
         self.assertEqual([kz.micro_report(x) for x in (1 / 128, -1 / 128, 0.0)], [7812, -7812, 0])
         self.assertEqual([kz.millionths(x) for x in (3000.0, math.inf, math.nan)], ["over", "over", "nan"])
@@ -165,6 +212,15 @@ class Refusals(unittest.TestCase):
         s.load()
         for call in (s.warm_start, lambda: s.sweep(1), s.remove_bias, s.write_back, lambda: s.read_rows(0), lambda: s.build(1.0, 1)):
             self.refused(kz.NOT_BUILT, s, call)
+        for number, table in (
+            (kz.BROKEN_TABLE, "0,2,1\r\n0,2,1\n"),
+            (kz.BROKEN_TABLE, "0,2,1\r\n" * 4097),
+            (kz.NOT_THREE_NUMBERS, "0,2,1\r\n0,2"),
+            (kz.NOT_THREE_NUMBERS, "0,2,8000001"),
+            (kz.ABSENT_AXIS, "0,2,1\r\n1,2,1"),
+            (kz.ABSENT_AXIS, "0,3,1"),
+        ):
+            self.refused(number, s, lambda: s.set_targets(table))
         s.build()
         self.refused(kz.TOO_MANY_ROUNDS, s, lambda: s.sweep(65))
         for call in (lambda: s.read_rows(1), lambda: s.read_velocity(1), lambda: s.read_velocity(kz.WORLD), lambda: s.place(7, 0.0, 0.0)):
@@ -183,6 +239,10 @@ class Refusals(unittest.TestCase):
             else:
                 self.refused(number, s, call)
                 self.assertEqual((set(out) | {7.0}, set(ids) | {7}), ({7.0}, {7}))
+        for n in (0, 127):
+            counts = (ctypes.c_uint8 * 128)(*[7] * 128)
+            self.refused(kz.SHORT_SLICE, s, lambda: s._call("sweep", True, 1, of_bytes=(counts, n)))
+            self.assertEqual(set(counts), {7})
         out = array.array("f", [7.0] * 2)
         self.refused(kz.SHORT_SLICE, s, lambda: s._call("read_velocity", False, 0, out=out))
         self.assertEqual(list(out), [7.0, 7.0])
@@ -209,8 +269,6 @@ class Refusals(unittest.TestCase):
         self.assertTrue(kz.float_mode())
         libm = None
         try:
-            import ctypes
-
             libm = ctypes.CDLL("libm.so.6")
         except OSError:
             self.skipTest("no libm.so.6")

@@ -3,9 +3,9 @@
  *   boundary [COUNT] [SEED]
  *
  * Each slice lies in a page of its own between two pages that cannot be read, flush with one of them, and the rest of its page holds a pattern. So a
- * number read or written past an end of a slice that is flush there ends the program; one that is written elsewhere breaks the pattern. A refused call, and one whose
+ * number or byte read or written past an end of a slice that is flush there ends the program; one that is written elsewhere breaks the pattern. A refused call, and one whose
  * slice is too short, must leave every slice as it was; a granted one may change only the slices that the header names, a build and a row read only so
- * many rows as they answer. The program itself is to be compiled with -fsanitize=address,undefined.
+ * many rows as they answer, a sweep only the first 128 of the bytes for its counts. The program itself is to be compiled with -fsanitize=address,undefined.
  */
 #define _DEFAULT_SOURCE
 #include "katydidzinc.h"
@@ -19,6 +19,8 @@
 #define JOINTS 3
 #define BODIES 3
 #define MOST 512 /* words in a page that a slice may take */
+#define BYTES 200  /* bytes of a motor table, at most */
+#define COUNTS 160 /* bytes for a sweep's counts are fewer */
 #define GUARD 16
 #define PATTERN UINT32_C(0x7FEDCBA9)
 
@@ -31,17 +33,26 @@ static const size_t whole[SLICES] = {BODIES * KATYDIDZINC_BODY_WIDTH,
                                      KATYDIDZINC_READ_NUMBERS,
                                      KATYDIDZINC_READ_IDS};
 
-enum { LOAD, PLACE, BUILD, WARM_START, SWEEP, REMOVE_BIAS, WRITE_BACK, READ_ROWS, READ_VELOCITY, CALLS };
-static const char *const call_names[CALLS] = {"load", "place", "build", "warm start", "sweep", "bias removal", "write-back", "row read", "velocity read"};
+enum { LOAD, PLACE, BUILD, WARM_START, SWEEP, REMOVE_BIAS, WRITE_BACK, READ_ROWS, READ_VELOCITY, SET_TARGETS, CALLS };
+static const char *const call_names[CALLS] = {"load", "place", "build", "warm start", "sweep", "bias removal", "write-back", "row read", "velocity read", "motor table"};
 /* which slices a granted call may write */
 static const unsigned writes[CALLS] = {0, 1 << IN_BODIES, 1 << IN_ROWS, 1 << IN_BODIES, 1 << IN_BODIES | 1 << IN_ROWS,
-                                       1 << IN_ROWS, 1 << IN_NUMBERS, 1 << IN_OUT | 1 << IN_IDS, 1 << IN_OUT};
+                                       1 << IN_ROWS, 1 << IN_NUMBERS, 1 << IN_OUT | 1 << IN_IDS, 1 << IN_OUT, 1 << IN_NUMBERS};
+
+/* A slice of bytes beside those: a sweep's counts, or a motor table. */
+static unsigned char *byte_page;
+static unsigned char byte_model[BYTES];
+static unsigned char byte_lengths_seen[COUNTS];
 
 static uint32_t *pages[SLICES];
 static size_t page_words;
 static uint32_t model[SLICES][MOST]; /* what a slice holds before the call */
-static uint64_t counts[CALLS][16];
+static uint64_t answers[CALLS][17]; /* granted, refused with 1 to 15, short */
+#define SHORT 16
 static unsigned char lengths_seen[SLICES][MOST];
+
+static uint64_t motors_at_bound; /* counted by granted sweeps */
+static uint64_t tables_read;
 
 static uint64_t state;
 
@@ -131,6 +142,61 @@ static uint32_t *lend(int slice, size_t len, int at_end)
     return at;
 }
 
+/* A motor table's bytes: mostly of records that are read, now and then with a fault; and its length, around 128 too. */
+static size_t draw_table(void)
+{
+    size_t len = 0, wanted = draw(3) == 0 ? draw(BYTES - 32) : draw(40), k;
+    char record[32];
+    while (len < wanted) {
+        int width = snprintf(record, sizeof record, draw(4) == 0 ? "\"%u\",%u,\"%d\"" : "%u,%u,%d", draw(JOINTS), draw(3), (int)draw(16000001) - 8000000);
+        memcpy(byte_model + len, record, (size_t)width);
+        len += (size_t)width;
+        if (len < wanted || draw(2)) {
+            byte_model[len++] = '\r';
+            byte_model[len++] = '\n';
+        }
+    }
+    if (len > 0 && draw(4) == 0) {
+        for (k = 0; k < 1 + draw(2); k++) {
+            byte_model[draw((uint32_t)len)] = (unsigned char)"\"\r\n,09-+ a"[draw(10)];
+        }
+    }
+    if (draw(8) == 0) {
+        len = draw((uint32_t)len + 1);
+    }
+    return len;
+}
+
+/* Bytes for counts: their number around 128, and what they hold before the call. */
+static size_t draw_counts(void)
+{
+    size_t k;
+    for (k = 0; k < COUNTS; k++) {
+        byte_model[k] = (unsigned char)(0x80 + draw(100));
+    }
+    return draw(2) ? KATYDIDZINC_MOST_JOINTS : draw(3) == 0 ? 120 + draw(16) : draw(COUNTS);
+}
+
+static unsigned char *lend_bytes(size_t len, int at_end)
+{
+    unsigned char *at = at_end ? byte_page + page_words * sizeof(uint32_t) - len : byte_page;
+    memcpy(at, byte_model, len);
+    return at;
+}
+
+/* Whether the bytes about the slice still hold the pattern; the slice's own get it again. */
+static int guarded_bytes(unsigned char *at, size_t len)
+{
+    unsigned char *end = byte_page + page_words * sizeof(uint32_t), *p;
+    for (p = at - byte_page < GUARD ? byte_page : at - GUARD; p < end && p < at + len + GUARD; p++) {
+        if ((p < at || p >= at + len) && *p != 0xA9) {
+            return 0;
+        }
+    }
+    memset(at, 0xA9, len);
+    return 1;
+}
+
 static void fail(const char *what, int call, int slice, uint64_t answer, const size_t *lens)
 {
     int i;
@@ -168,8 +234,14 @@ static void one_call(void)
     uint32_t index = draw(3) == 0 ? draw(2) ? KATYDIDZINC_WORLD : 3 : draw(3), n = draw(16) == 0 ? 65 + draw(3) : draw(4);
     uint32_t mark = draw(4) == 0 ? 0 : draw(2) ? 1 : UINT32_C(0xFFFFFF00), before = mark;
     uint64_t answer = 0;
-    size_t filled[SLICES];
+    size_t filled[SLICES], bytes_len, k;
+    unsigned char *bytes_at;
     vary();
+    bytes_len = call == SET_TARGETS ? draw_table() : draw_counts();
+    bytes_at = lend_bytes(bytes_len, at_end);
+    if (call == SWEEP) {
+        byte_lengths_seen[bytes_len] = 1;
+    }
     for (i = 0; i < SLICES; i++) {
         lens[i] = draw(3) > 0 ? whole[i] : draw((uint32_t)whole[i] + 3);
         lengths_seen[i][lens[i]] = 1;
@@ -188,15 +260,16 @@ static void one_call(void)
     case PLACE: answer = katydidzinc_study_place(&s, index, 0.6f, 0.8f, 1.0f, 2.0f); break;
     case BUILD: answer = katydidzinc_study_build(&s, draw(2), 0.5f, draw(2)); break;
     case WARM_START: answer = katydidzinc_study_warm_start(&s); break;
-    case SWEEP: answer = katydidzinc_study_sweep(&s, n); break;
+    case SWEEP: answer = katydidzinc_sweep(KATYDIDZINC_MODEL_OF(&s), KATYDIDZINC_ROWS_OF(&s), n, bytes_at, bytes_len); break;
     case REMOVE_BIAS: answer = katydidzinc_study_remove_bias(&s); break;
     case WRITE_BACK: answer = katydidzinc_study_write_back(&s); break;
     case READ_ROWS: answer = katydidzinc_study_read_rows(&s, index, (float *)(void *)at[IN_OUT], lens[IN_OUT], at[IN_IDS], lens[IN_IDS]); break;
-    default: answer = katydidzinc_study_read_velocity(&s, index, (float *)(void *)at[IN_OUT], lens[IN_OUT]); break;
+    case READ_VELOCITY: answer = katydidzinc_study_read_velocity(&s, index, (float *)(void *)at[IN_OUT], lens[IN_OUT]); break;
+    default: answer = katydidzinc_study_set_targets(&s, bytes_at, bytes_len); break;
     }
 
     if (katydidzinc_granted(answer)) {
-        counts[call][0]++;
+        answers[call][0]++;
         if ((call == BUILD || call == READ_ROWS) != (answer >= KATYDIDZINC_ROWS_GRANTED)) {
             fail("a wrong kind of answer", call, SLICES, answer, lens);
         }
@@ -208,23 +281,37 @@ static void one_call(void)
             fail("granted into a short slice", call, IN_OUT, answer, lens);
         }
     } else if (answer == KATYDIDZINC_SHORT_SLICE) {
-        counts[call][13]++;
-        if (call == READ_ROWS ? lens[IN_OUT] >= KATYDIDZINC_READ_NUMBERS && lens[IN_IDS] >= KATYDIDZINC_READ_IDS
-                              : call != READ_VELOCITY || lens[IN_OUT] >= KATYDIDZINC_VELOCITY_NUMBERS) {
+        answers[call][SHORT]++;
+        if (call == READ_ROWS       ? lens[IN_OUT] >= KATYDIDZINC_READ_NUMBERS && lens[IN_IDS] >= KATYDIDZINC_READ_IDS
+            : call == READ_VELOCITY ? lens[IN_OUT] >= KATYDIDZINC_VELOCITY_NUMBERS
+                                    : call != SWEEP || bytes_len >= KATYDIDZINC_MOST_JOINTS) {
             fail("no slice is short", call, IN_OUT, answer, lens);
         }
-    } else if (answer >= 1 && answer <= 12) {
-        counts[call][answer]++;
+    } else if (answer >= 1 && answer <= (call == SET_TARGETS ? 15 : 12)) {
+        answers[call][answer]++;
     } else {
         fail("no answer of the model", call, SLICES, answer, lens);
     }
     if (s.built != before) {
         fail("a wrong mark", call, SLICES, answer, lens);
     }
+    if (call == SWEEP && (bytes_len < KATYDIDZINC_MOST_JOINTS) != (answer == KATYDIDZINC_SHORT_SLICE)) {
+        fail("a sweep's counts: too short a slice, or not", call, SLICES, answer, lens);
+    }
+    for (k = 0; k < bytes_len; k++) {
+        int counted = call == SWEEP && katydidzinc_granted(answer) && k < KATYDIDZINC_MOST_JOINTS;
+        if (counted ? bytes_at[k] > (k < JOINTS ? 3 : 0) : bytes_at[k] != byte_model[k]) {
+            fail("bytes written where none may be, or no count", call, SLICES, answer, lens);
+        }
+        motors_at_bound += counted ? bytes_at[k] : 0;
+    }
+    if (!guarded_bytes(bytes_at, bytes_len)) {
+        fail("a guard of the bytes is broken", call, SLICES, answer, lens);
+    }
 
     /* from where on each slice must be as it was */
     for (i = 0; i < SLICES; i++) {
-        size_t from = 0, rows = katydidzinc_rows_of(answer), k;
+        size_t from = 0, rows = katydidzinc_rows_of(answer);
         if (katydidzinc_granted(answer) && (writes[call] >> i & 1)) {
             from = call == BUILD                     ? rows * KATYDIDZINC_ROW_WIDTH
                    : call == READ_ROWS && i == IN_OUT ? rows * KATYDIDZINC_ROW_WIDTH
@@ -247,14 +334,61 @@ static void one_call(void)
     }
 }
 
+/* Motor tables without a model: each slice flush with the end of its page. A text is read record by record, written by its words, and read again. */
+static void one_table(void)
+{
+    size_t len = draw_table(), at = 0, written, room;
+    unsigned char *text = lend_bytes(len, 1), *out;
+    uint32_t *words = pages[IN_OUT] + page_words - 3, *table = pages[IN_ROWS];
+    uint64_t answer = katydidzinc_motor_table_read(text, len, JOINTS), n = 0;
+    size_t none[SLICES] = {0};
+    int i;
+    if (katydidzinc_table_refusal(answer) == 0) {
+        for (n = 0; n < answer; n++) {
+            at = katydidzinc_motor_table_record(text, len, at, words, 3);
+            memcpy(table + 3 * n, words, 3 * sizeof *words);
+        }
+        if (at != (answer == 0 ? 0 : len)) {
+            fail("records end elsewhere", SET_TARGETS, SLICES, answer, none);
+        }
+        memmove(pages[IN_ROWS] + page_words - 3 * n, table, 3 * n * sizeof *table);
+        table = pages[IN_ROWS] + page_words - 3 * n;
+        written = (size_t)katydidzinc_motor_table_write(table, 3 * n, JOINTS, (unsigned char *)pages[IN_NUMBERS], 0);
+        for (i = 0; i < 2; i++) {
+            room = i == 0 && written > 0 ? written - 1 : written;
+            out = (unsigned char *)(pages[IN_NUMBERS] + page_words) - room;
+            if (katydidzinc_motor_table_write(table, 3 * n, JOINTS, out, room) != written) {
+                fail("a text's length depends on the room for it", SET_TARGETS, SLICES, written, none);
+            }
+            if (room < written && room >= sizeof(uint32_t) && pages[IN_NUMBERS][page_words - 1] != PATTERN) {
+                fail("a part of a text is written", SET_TARGETS, SLICES, written, none);
+            }
+        }
+        if (katydidzinc_motor_table_read(out, written, JOINTS) != n) {
+            fail("a text that was written does not read back", SET_TARGETS, SLICES, written, none);
+        }
+        tables_read++;
+    } else if (katydidzinc_table_refusal(answer) < 13 || katydidzinc_table_refusal(answer) > 15) {
+        fail("no answer of a table", SET_TARGETS, SLICES, answer, none);
+    }
+    for (i = 0; i < SLICES; i++) {
+        size_t k;
+        for (k = 0; k < page_words; k++) {
+            pages[i][k] = PATTERN;
+        }
+    }
+    memset(text, 0xA9, len);
+}
+
 /* What the checked calls find before they make a call. */
+#define CHECKS 17
 static void checks(void)
 {
     static float bodies[KATYDIDZINC_BODY_WIDTH], numbers[KATYDIDZINC_NUMBERS_WIDTH], rows[KATYDIDZINC_ROW_WIDTH], out[KATYDIDZINC_READ_NUMBERS + 1];
     static uint32_t words[KATYDIDZINC_WORDS_WIDTH], ids[KATYDIDZINC_READ_IDS];
-    katydidzinc_study s = {0.0f, 1.0f, 3.0f, 0, bodies, KATYDIDZINC_BODY_WIDTH, words, 0, numbers, 0, rows, 0}, t = s;
-    uint64_t got[10];
-    static const uint64_t wanted[10] = {0,
+    katydidzinc_study s = {0.0f, 1.0f, 3.0f, 0, bodies, KATYDIDZINC_BODY_WIDTH, words, 0, numbers, 0, rows, 0, {0}}, t = s;
+    uint64_t got[CHECKS];
+    static const uint64_t wanted[CHECKS] = {0,
                                         KATYDIDZINC_BAD_SLICE,
                                         0,
                                         KATYDIDZINC_BAD_SLICE,
@@ -263,7 +397,15 @@ static void checks(void)
                                         KATYDIDZINC_OVERLAP,
                                         0,
                                         KATYDIDZINC_BAD_SLICE,
-                                        KATYDIDZINC_OVERLAP};
+                                        KATYDIDZINC_OVERLAP,
+                                        0,
+                                        KATYDIDZINC_BAD_SLICE,
+                                        KATYDIDZINC_OVERLAP,
+                                        KATYDIDZINC_BROKEN_TABLE,
+                                        KATYDIDZINC_NOT_THREE_NUMBERS,
+                                        KATYDIDZINC_ABSENT_AXIS,
+                                        KATYDIDZINC_BAD_SLICE};
+    static const uint8_t table[] = "0,2,1\n0,2\r\n0,2,1";
     int i;
     katydidzinc_default_body(bodies);
     got[0] = katydidzinc_study_load(&s);
@@ -281,8 +423,15 @@ static void checks(void)
     got[7] = katydidzinc_study_read_velocity(&s, 0, out, KATYDIDZINC_VELOCITY_NUMBERS);
     got[8] = katydidzinc_study_read_velocity(&s, 0, NULL, KATYDIDZINC_VELOCITY_NUMBERS);
     got[9] = katydidzinc_study_read_rows(&s, 0, out, KATYDIDZINC_READ_NUMBERS, (uint32_t *)(void *)out, 6);
+    got[10] = katydidzinc_study_set_targets(&s, NULL, 0);
+    got[11] = katydidzinc_study_set_targets(&s, NULL, 1);
+    got[12] = katydidzinc_study_set_targets(&s, (const uint8_t *)(const void *)bodies + 39, 2);
+    got[13] = katydidzinc_study_set_targets(&s, table, 6);
+    got[14] = katydidzinc_study_set_targets(&s, table + 6, 5);
+    got[15] = katydidzinc_study_set_targets(&s, table + 11, 5);
+    got[16] = katydidzinc_study_set_targets(&s, table, SIZE_MAX);
     (void)ids;
-    for (i = 0; i < 10; i++) {
+    for (i = 0; i < CHECKS; i++) {
         if (got[i] != wanted[i]) {
             printf("check %d answers %" PRIu64 ", not %" PRIu64 "\n", i, got[i], wanted[i]);
             exit(1);
@@ -311,19 +460,31 @@ int main(int argc, char **argv)
             model[slice][k] = UINT32_C(0x3F000000) + (uint32_t)k;
         }
     }
+    {
+        char *three = (char *)mmap(NULL, 3 * bytes, PROT_NONE, MAP_PRIVATE | MAP_ANONYMOUS, -1, 0);
+        if (three == (char *)MAP_FAILED || mprotect(three + bytes, bytes, PROT_READ | PROT_WRITE) != 0) {
+            printf("no pages\n");
+            return 1;
+        }
+        byte_page = (unsigned char *)three + bytes;
+        memset(byte_page, 0xA9, bytes);
+    }
     checks();
     for (i = 0; i < count; i++) {
         one_call();
     }
+    for (i = 0; i < count / 20; i++) {
+        one_table();
+    }
     printf("%-14s %8s", "", "granted");
-    for (k = 1; k <= 12; k++) {
+    for (k = 1; k <= 15; k++) {
         printf(" %6zu", k);
     }
     printf("  short\n");
     for (call = 0; call < CALLS; call++) {
-        printf("%-14s %8" PRIu64, call_names[call], counts[call][0]);
-        for (k = 1; k <= 13; k++) {
-            printf(" %6" PRIu64, counts[call][k]);
+        printf("%-14s %8" PRIu64, call_names[call], answers[call][0]);
+        for (k = 1; k <= SHORT; k++) {
+            printf(" %6" PRIu64, answers[call][k]);
         }
         printf("\n");
     }
@@ -335,6 +496,13 @@ int main(int argc, char **argv)
             }
         }
     }
+    for (k = 0; k < COUNTS; k++) {
+        if (!byte_lengths_seen[k]) {
+            printf("no counts of length %zu were lent: too few calls\n", k);
+            return count >= 100000;
+        }
+    }
+    printf("%" PRIu64 " motors at a bound in the last rounds; %" PRIu64 " motor tables read, written and read again\n", motors_at_bound, tables_read);
     printf("%ld calls, every length from 0 to two past the last record, no guard broken\n", count);
     return 0;
 }

@@ -1,5 +1,5 @@
 /* A leg in C: thigh, shank and foot hang from the world by hip, knee and ankle. The hip has a motor, the straight knee rests at its stop, the ankle
- * has both. It prints what crates/leg prints: the impulse of every row and the velocity of every body, in millionths.
+ * has both. It prints what crates/leg prints: how many motors ran out of force, the impulse of every row and the velocity of every body, in millionths.
  *
  *   cc -Iinclude examples/c/leg.c target/lib/libkatydidzinc.a -o target/leg && target/leg
  */
@@ -126,7 +126,7 @@ static void print_body(const katydidzinc_study *s, uint32_t i)
 int main(void)
 {
     katydidzinc_study s = {0.015625f, 1.0f, 10.0f, 0, bodies, sizeof bodies / sizeof *bodies, words, sizeof words / sizeof *words,
-                           numbers, sizeof numbers / sizeof *numbers, rows, sizeof rows / sizeof *rows};
+                           numbers, sizeof numbers / sizeof *numbers, rows, sizeof rows / sizeof *rows, {0}};
     uint32_t i;
     body(0, 0.0f, 0.75f, 10.0f, 0.125f, 0.5f, -0.25f, 1.5f);
     body(1, 0.0f, 0.3f, 20.0f, 0.25f, 0.25f, -0.25f, -2.0f);
@@ -144,6 +144,8 @@ int main(void)
     said("sweep 20", katydidzinc_study_sweep(&s, 20));
     said("bias removal", katydidzinc_study_remove_bias(&s));
     said("sweep 4", katydidzinc_study_sweep(&s, 4));
+    printf("hip motors out of force = %d\n", s.counts[0]);
+    printf("ankle motors out of force = %d\n", s.counts[2]);
     said("write-back", katydidzinc_study_write_back(&s));
     for (i = 0; i < JOINTS; i++) {
         print_joint(&s, i);

@@ -1,5 +1,5 @@
 """A leg in Python: thigh, shank and foot hang from the world by hip, knee and ankle. The hip has a motor, the straight knee rests at its stop, the
-ankle has both. It prints what crates/leg prints: the impulse of every row and the velocity of every body, in millionths.
+ankle has both. It prints what crates/leg prints: how many motors ran out of force, the impulse of every row and the velocity of every body, in millionths.
 
     tools/library && PYTHONPATH=python python3 examples/python/leg.py [--table | --csv | --plot FILE]
 """
@@ -41,14 +41,15 @@ def main():
     study = leg()
     study.load()
     said = [f"rows = {study.build()}"]
-    for name, call in (
-        ("sweep 20", lambda: study.sweep(20)),
-        ("bias removal", study.remove_bias),
-        ("sweep 4", lambda: study.sweep(4)),
-        ("write-back", study.write_back),
-    ):
-        call()
-        said.append(f"{name} = granted")
+    study.sweep(20)
+    said.append("sweep 20 = granted")
+    study.remove_bias()
+    said.append("bias removal = granted")
+    hip, knee, ankle = study.sweep(4)
+    said.append("sweep 4 = granted")
+    said += [f"hip motors out of force = {hip}", f"ankle motors out of force = {ankle}"]
+    study.write_back()
+    said.append("write-back = granted")
     if sys.argv[1:] == ["--table"]:
         print(study.table(), end="")
     elif sys.argv[1:] == ["--csv"]:

@@ -4,6 +4,7 @@
 use std::hint::black_box;
 
 pub const WORLD: u32 = 4294967295;
+pub const MOST_JOINTS: usize = 128;
 pub const MOST_ROWS: usize = 6;
 pub const POSE_RE: usize = 0;
 pub const POSE_X: usize = 2;
@@ -72,11 +73,12 @@ calls! {
     katydidzinc_place(*mut f32, *const f32, body: u32, re: f32, im: f32, x: f32, y: f32);
     katydidzinc_build(*const f32, *const f32, rows: *mut f32, rows_len: usize, warm: u32, coefficient: f32, substep_id: u32);
     katydidzinc_warm_start(*mut f32, *const f32, rows: *const f32, rows_len: usize);
-    katydidzinc_sweep(*mut f32, *const f32, rows: *mut f32, rows_len: usize, n: u32);
+    katydidzinc_sweep(*mut f32, *const f32, rows: *mut f32, rows_len: usize, n: u32, counts: *mut u8, counts_len: usize);
     katydidzinc_remove_bias(*const f32, *const f32, rows: *mut f32, rows_len: usize);
     katydidzinc_write_back(*const f32, *mut f32, rows: *const f32, rows_len: usize);
     katydidzinc_read_rows(*const f32, *const f32, rows: *const f32, rows_len: usize, joint: u32, out: *mut f32, out_len: usize, ids: *mut u32, ids_len: usize);
     katydidzinc_read_velocity(*const f32, *const f32, body: u32, out: *mut f32, out_len: usize);
+    katydidzinc_set_targets(*const f32, *mut f32, table: *const u8, table_len: usize);
 }
 
 /// The number of the rule that refused a call; the header has its words.
@@ -201,8 +203,11 @@ impl Study {
         call!(self, katydidzinc_warm_start, as_mut_ptr, as_ptr, self.rows.as_ptr(), self.rows.len())
     }
 
-    pub fn sweep(&mut self, n: u32) -> Answer {
-        call!(self, katydidzinc_sweep, as_mut_ptr, as_ptr, self.rows.as_mut_ptr(), self.rows.len(), n)
+    /// How many motors of each joint were at a bound in the last round.
+    pub fn sweep(&mut self, n: u32) -> Result<[u8; MOST_JOINTS], Refused> {
+        let mut counts = [0; MOST_JOINTS];
+        call!(self, katydidzinc_sweep, as_mut_ptr, as_ptr, self.rows.as_mut_ptr(), self.rows.len(), n, counts.as_mut_ptr(), counts.len())?;
+        Ok(counts)
     }
 
     pub fn remove_bias(&mut self) -> Answer {
@@ -224,5 +229,10 @@ impl Study {
         let mut v = [0.0; VELOCITY_NUMBERS];
         call!(self, katydidzinc_read_velocity, as_ptr, as_ptr, body, v.as_mut_ptr(), v.len())?;
         Ok(v)
+    }
+
+    /// The target velocities of a motor table's records.
+    pub fn set_targets(&mut self, table: &[u8]) -> Answer {
+        call!(self, katydidzinc_set_targets, as_ptr, as_mut_ptr, table.as_ptr(), table.len())
     }
 }
