@@ -62,7 +62,7 @@ fn catalogue_length() -> usize
 
 // ---- text put in: each function puts a text in from `at` on and answers where it ends
 
-fn put_text(out: &mut [u8], at: usize, text: &[u8]) -> usize
+pub fn put_text(out: &mut [u8], at: usize, text: &[u8]) -> usize
     requires { ⌜ at + length (now text) ≤ length (now out) ⌝ }
     ensures { λ r. ⌜ Put (now (out .entry)) at (now (text .entry)) (now (out .exit)) r ⌝ }
 {

@@ -153,7 +153,7 @@ fn put_digits(out: &mut [u8], end: usize, n: u32) -> usize
     put_byte(&mut *out, at, 48 + left as u8)
 }
 
-fn put_number(out: &mut [u8], end: usize, n: Number) -> usize
+pub fn put_number(out: &mut [u8], end: usize, n: Number) -> usize
     requires { ⌜ (length (numberText n) ≤ end) × (end ≤ length (now out)) ⌝ }
     ensures { λ r. ⌜ Put (now (out .entry)) end (numberText n) (now (out .exit)) r ⌝ }
 {

@@ -1,0 +1,53 @@
+-- A number of a study's table: millionths by the micro report, at the right of a column.
+use Prim.Native.Nat.{ℕ, suc, _-_}
+use mathlib.Core.Bool.{true, false}
+use mathlib.Core.List.{List, [], _∷_, _++_}
+use lib.IntN.{ℤ, pos, negsuc}
+use lib.Ieee.{Float, nan, inf, fin}
+use lib.ListN.{length, replicate}
+use Rattle.floats.specs.MicroReport.{microReportOf}
+use Rattle.floats.specs.declared.micro_report.MicroReport.{MicroReport}
+use Rattle.floats.specs.declared.micro_report.MicroReport.the-variants.{Whole, Over, Nan}
+use Rattle.motor_table.specs.Text.{numberText}
+use Rattle.motor_table.specs.declared.whole_number.Number.{Number}
+use Rattle.study_text.specs.declared.number.Column.{Column}
+
+abbrev pub SPACE : ℕ
+SPACE = 0x20
+
+abbrev pub blanks : ℕ → List ℕ
+blanks n = replicate n SPACE
+
+-- a text at the left or at the right of w bytes; a longer text is not cut
+abbrev pub filled : ℕ → List ℕ → List ℕ
+filled w text = text ++ blanks (w - length text)
+
+abbrev pub atRight : ℕ → List ℕ → List ℕ
+atRight w text = blanks (w - length text) ++ text
+
+-- ---- millionths
+
+-- a whole number's sign and size
+unfoldable pub signed : ℤ → Number
+signed (pos n) = record { negative = false; size = n }
+signed (negsuc n) = record { negative = true; size = suc n }
+
+-- what the report calls Over: "-inf", "inf" or "over"
+unfoldable pub overText : Float → List ℕ
+overText (inf true) = 0x2d ∷ 0x69 ∷ 0x6e ∷ 0x66 ∷ []
+overText (inf false) = 0x69 ∷ 0x6e ∷ 0x66 ∷ []
+overText (fin s m e) = 0x6f ∷ 0x76 ∷ 0x65 ∷ 0x72 ∷ []
+overText nan = 0x6f ∷ 0x76 ∷ 0x65 ∷ 0x72 ∷ []
+
+-- a minus before a negative number, and its digits; or a word, of which the last is "nan"
+unfoldable pub reportText : Float → MicroReport → List ℕ
+reportText x (Whole n) = numberText (signed n)
+reportText x Over = overText x
+reportText x Nan = 0x6e ∷ 0x61 ∷ 0x6e ∷ []
+
+unfoldable pub millionthsText : Float → List ℕ
+millionthsText x = reportText x (microReportOf x)
+
+-- the text at the right of 11 bytes and a blank, and where it starts
+unfoldable pub columnOf : List ℕ → Column
+columnOf text = record { bytes = atRight 11 text ++ SPACE ∷ []; start = 11 - length text }

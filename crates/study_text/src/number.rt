@@ -1,0 +1,93 @@
+// A number in millionths: the micro report in decimal, or a word where there is none.
+ghost use mathlib.Core.Path.{_≡_};
+ghost use Rattle.study_text.specs.Number.{signed, overText, millionthsText, columnOf};
+ghost use Rattle.motor_table.specs.Text.{numberText};
+use floats::bits::Parts;
+use floats::bits::parts_of;
+use floats::micro_report::MicroReport;
+use floats::micro_report::micro_report;
+use motor_table::text::put_number;
+use motor_table::whole_number::Number;
+
+// A text at the right of 11 bytes and a blank, and where it starts.
+pub struct Column {
+    pub bytes: [u8; 12],
+    pub start: usize,
+}
+
+fn signed(n: i32) -> Number
+    ensures { λ r. ⌜ r ≡ signed n ⌝ }
+{
+    if n < 0 {
+        let size = -(n as i64) as u32;
+        return Number {
+            negative: true,
+            size,
+        };
+    }
+    Number {
+        negative: false,
+        size: n as u32,
+    }
+}
+
+fn whole_column(n: i32) -> Column
+    ensures { λ r. ⌜ r ≡ columnOf (numberText (signed n)) ⌝ }
+{
+    let number = signed(n);
+    let mut bytes = [b' '; 12];
+    let start = put_number(&mut bytes, 11, number);
+    Column { bytes, start }
+}
+
+fn over_column(x: f32) -> Column
+    ensures { λ r. ⌜ r ≡ columnOf (overText x) ⌝ }
+{
+    let parts = parts_of(x);
+    match parts {
+        Parts::Infinite(negative) => {
+            if negative {
+                return Column {
+                    bytes: [
+                        b' ', b' ', b' ', b' ', b' ', b' ', b' ', b'-', b'i', b'n', b'f', b' ',
+                    ],
+                    start: 7,
+                };
+            }
+            Column {
+                bytes: [
+                    b' ', b' ', b' ', b' ', b' ', b' ', b' ', b' ', b'i', b'n', b'f', b' ',
+                ],
+                start: 8,
+            }
+        }
+        Parts::Finite(_, _, _) => Column {
+            bytes: [
+                b' ', b' ', b' ', b' ', b' ', b' ', b' ', b'o', b'v', b'e', b'r', b' ',
+            ],
+            start: 7,
+        },
+        Parts::Nan => Column {
+            bytes: [
+                b' ', b' ', b' ', b' ', b' ', b' ', b' ', b'o', b'v', b'e', b'r', b' ',
+            ],
+            start: 7,
+        },
+    }
+}
+
+pub fn number_column(x: f32) -> Column
+    ensures { λ r. ⌜ r ≡ columnOf (millionthsText x) ⌝ }
+{
+    let report = micro_report(x);
+    match report {
+        MicroReport::Whole(n) => whole_column(n),
+        MicroReport::Over => over_column(x),
+        MicroReport::Nan => Column {
+            bytes: [
+                b' ', b' ', b' ', b' ', b' ', b' ', b' ', b' ', b'n', b'a', b'n', b' ',
+            ],
+            start: 8,
+        },
+    }
+}
