@@ -1,1 +1,3 @@
 pub mod Number
+pub mod Rules
+pub mod Words

@@ -1,2 +1,4 @@
 // The lines of a study's table: a row's joint, bodies and id, its impulse and bounds in millionths, the rule that it came from.
 pub mod number;
+pub mod rules;
+pub mod words;
