@@ -113,11 +113,12 @@ number-short n h = go (n .negative)
   where
     ten : length (decimal (n .size)) ≤ 10
     ten = onto-short 9 (n .size) (n .size) [] (omega arith)
+
     go : (t : Bool) → length (cond t (MINUS ∷ decimal (n .size)) (decimal (n .size))) ≤ 11
     go true = omega (arith, ten)
     go false = omega (arith, ten)
 
-signed-size : (z : ℤ) → mag z < 2 ^ 31 → signed z .size ≤ 2 ^ 31
+pub signed-size : (z : ℤ) → mag z < 2 ^ 31 → signed z .size ≤ 2 ^ 31
 unfolding signed
 signed-size (pos n) h = omega arith
 signed-size (negsuc n) h = omega arith
@@ -127,7 +128,7 @@ signed-short z f = number-short (signed z) (signed-size z (f .sfits))
 
 -- ---- columns
 
-take-blanks : (n m : ℕ) → n ≤ m → take n (blanks m) ≡ blanks n
+pub take-blanks : (n m : ℕ) → n ≤ m → take n (blanks m) ≡ blanks n
 take-blanks zero m h = refl
 take-blanks (suc n) zero h = absurd (let z : ⊥ = omega arith in z)
 take-blanks (suc n) (suc m) h = ap (λ (l : List ℕ). SPACE ∷ l) (take-blanks n m (omega arith))

@@ -1,3 +1,4 @@
 pub mod Number
 pub mod Rules
 pub mod Words
+pub mod Row

@@ -1,0 +1,58 @@
+-- A line of a study's table, as text.
+use Prim.Native.Nat.{ℕ, _-_}
+use mathlib.Core.Bool.{Bool, cond, _&&_}
+use mathlib.Core.List.{List, [], _∷_, _++_}
+use lib.Dec.{leb}
+use lib.Ieee.{Float}
+use lib.ListN.{length}
+use Rattle.rows.specs.declared.joint_velocity_constraint.WritebackId.{WritebackId}
+use Rattle.catalogue.specs.Text.{LF}
+use Rattle.study_text.specs.Number.{SPACE, filled, atRight, millionthsText}
+use Rattle.study_text.specs.Rules.{ruleOf}
+use Rattle.study_text.specs.Words.{idText, boundOf, boundText, numberOf, definitionText}
+use Rattle.study_text.specs.declared.rules.Rule.{Rule}
+
+-- a text filled up with blanks to w bytes, and one blank more
+unfoldable pub column : ℕ → List ℕ → List ℕ
+column w text = filled w text ++ SPACE ∷ []
+
+-- a number in millionths at the right of 11 bytes, and a blank
+unfoldable pub numberColumn : Float → List ℕ
+numberColumn x = atRight 11 (millionthsText x) ++ SPACE ∷ []
+
+-- the names of the joint and its two bodies
+unfoldable pub namesText : List ℕ → List ℕ → List ℕ → List ℕ
+namesText joint body1 body2 = column 11 joint ++ column 9 body1 ++ column 9 body2
+
+-- the impulse, its lower and its upper bound
+unfoldable pub numbersText : Float → Float → Float → List ℕ
+numbersText impulse low high = numberColumn impulse ++ numberColumn low ++ numberColumn high
+
+-- the id, the three numbers, and the bound that the impulse stands at
+unfoldable pub valuesText : WritebackId → Float → Float → Float → List ℕ
+valuesText id impulse low high = column 6 (idText id) ++ numbersText impulse low high ++ column 4 (boundText (boundOf impulse low high))
+
+-- the rule's number, the definition, and the line's end
+unfoldable pub ruleText : Rule → List ℕ
+ruleText rule = column 3 (numberOf rule) ++ definitionText rule ++ LF ∷ []
+
+-- the line of a row that comes from a rule
+unfoldable pub lineWith : List ℕ → List ℕ → List ℕ → WritebackId → Rule → Float → Float → Float → List ℕ
+lineWith joint body1 body2 id rule impulse low high = namesText joint body1 body2 ++ valuesText id impulse low high ++ ruleText rule
+
+abbrev pub rowLine : List ℕ → List ℕ → List ℕ → WritebackId → ℕ → Float → Float → Float → List ℕ
+rowLine joint body1 body2 id coupled impulse low high = lineWith joint body1 body2 id (ruleOf id coupled) impulse low high
+
+-- ---- what a caller is given
+
+-- places in a study's text are numbers of 32 bits, so no name of it is longer
+abbrev pub longestName : ℕ
+longestName = 0xffffffff
+
+abbrev pub areNames : ℕ → ℕ → ℕ → Bool
+areNames a b c = leb a longestName && leb b longestName && leb c longestName
+
+-- the line; none where a name is longer than a study's can be
+unfoldable pub rowText : List ℕ → List ℕ → List ℕ → WritebackId → ℕ → Float → Float → Float → List ℕ
+rowText joint body1 body2 id coupled impulse low high =
+    cond (areNames (length joint) (length body1) (length body2)) (rowLine joint body1 body2 id coupled impulse low high) []
