@@ -2,3 +2,4 @@ pub mod Number
 pub mod Rules
 pub mod Words
 pub mod Row
+pub mod Made
