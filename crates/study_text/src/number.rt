@@ -48,73 +48,21 @@ fn over_column(x: f32) -> Column
         Parts::Infinite(negative) => {
             if negative {
                 return Column {
-                    bytes: [
-                        b' ',
-                        b' ',
-                        b' ',
-                        b' ',
-                        b' ',
-                        b' ',
-                        b' ',
-                        b'-',
-                        b'i',
-                        b'n',
-                        b'f',
-                        b' ',
-                    ],
+                    bytes: *b"       -inf ",
                     start: 7,
                 };
             }
             Column {
-                bytes: [
-                    b' ',
-                    b' ',
-                    b' ',
-                    b' ',
-                    b' ',
-                    b' ',
-                    b' ',
-                    b' ',
-                    b'i',
-                    b'n',
-                    b'f',
-                    b' ',
-                ],
+                bytes: *b"        inf ",
                 start: 8,
             }
         }
         Parts::Finite(_, _, _) => Column {
-            bytes: [
-                b' ',
-                b' ',
-                b' ',
-                b' ',
-                b' ',
-                b' ',
-                b' ',
-                b'o',
-                b'v',
-                b'e',
-                b'r',
-                b' ',
-            ],
+            bytes: *b"       over ",
             start: 7,
         },
         Parts::Nan => Column {
-            bytes: [
-                b' ',
-                b' ',
-                b' ',
-                b' ',
-                b' ',
-                b' ',
-                b' ',
-                b'o',
-                b'v',
-                b'e',
-                b'r',
-                b' ',
-            ],
+            bytes: *b"       over ",
             start: 7,
         },
     }
@@ -128,20 +76,7 @@ pub fn number_column(x: f32) -> Column
         MicroReport::Whole(n) => whole_column(n),
         MicroReport::Over => over_column(x),
         MicroReport::Nan => Column {
-            bytes: [
-                b' ',
-                b' ',
-                b' ',
-                b' ',
-                b' ',
-                b' ',
-                b' ',
-                b' ',
-                b'n',
-                b'a',
-                b'n',
-                b' ',
-            ],
+            bytes: *b"        nan ",
             start: 8,
         },
     }

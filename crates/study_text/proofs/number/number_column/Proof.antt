@@ -40,7 +40,7 @@ returns-2 c = c .over-column .ensures ∙ ap (λ r. columnOf (reportText (c .bef
 
 returns-3 : tie.Need-returns-3
 unfolding reportText millionthsText columnOf
-returns-3 c = ap (λ r. columnOf (reportText (c .before .before .before .args .x) r)) (sym (c .enum-told2 .given .1) ∙ c .before .before .micro-report .ensures)
+returns-3 c = ap (λ r. columnOf (reportText (c .before .before .before .before .before .args .x) r)) (sym (c .before .before .enum-told2 .given .1) ∙ c .before .before .before .before .micro-report .ensures)
 
 pub number-column-spec : {M : Type 1} → statement M
 number-column-spec =

@@ -15,7 +15,7 @@ enum-known-parts c = search needs
 
 returns : tie.Need-returns
 unfolding columnOf over-parts
-returns c = ap columnOf (sym (ap (λ s. over-parts (Infinite s)) (c .if1 .taken)) ∙ ap over-parts (sym (c .before .before .parts .given .1) ∙ c .before .before .before .before .parts-of .ensures) ∙ over-by-parts _)
+returns c = ap columnOf (sym (ap (λ s. over-parts (Infinite s)) (c .before .before .if1 .taken)) ∙ ap over-parts (sym (c .before .before .before .before .parts .given .1) ∙ c .before .before .before .before .before .before .parts-of .ensures) ∙ over-by-parts _)
 
 enum-told : tie.Need-enum-told
 enum-told c = search needs
@@ -25,15 +25,15 @@ enum-told-2 c = search needs
 
 returns-2 : tie.Need-returns-2
 unfolding columnOf over-parts
-returns-2 c = ap columnOf (sym (ap (λ s. over-parts (Infinite s)) (c .if1 .left)) ∙ ap over-parts (sym (c .before .before .parts .given .1) ∙ c .before .before .before .before .parts-of .ensures) ∙ over-by-parts _)
+returns-2 c = ap columnOf (sym (ap (λ s. over-parts (Infinite s)) (c .before .before .if1 .left)) ∙ ap over-parts (sym (c .before .before .before .before .parts .given .1) ∙ c .before .before .before .before .before .before .parts-of .ensures) ∙ over-by-parts _)
 
 returns-3 : tie.Need-returns-3
 unfolding columnOf over-parts
-returns-3 c = ap (λ p. columnOf (over-parts p)) (sym (c .enum-told .given .1) ∙ c .before .before .parts-of .ensures) ∙ ap columnOf (over-by-parts _)
+returns-3 c = ap (λ p. columnOf (over-parts p)) (sym (c .before .before .enum-told .given .1) ∙ c .before .before .before .before .parts-of .ensures) ∙ ap columnOf (over-by-parts _)
 
 returns-4 : tie.Need-returns-4
 unfolding columnOf over-parts
-returns-4 c = ap (λ p. columnOf (over-parts p)) (sym (c .enum-told2 .given .1) ∙ c .before .before .parts-of .ensures) ∙ ap columnOf (over-by-parts _)
+returns-4 c = ap (λ p. columnOf (over-parts p)) (sym (c .before .before .enum-told2 .given .1) ∙ c .before .before .before .before .parts-of .ensures) ∙ ap columnOf (over-by-parts _)
 
 pub over-column-spec : {M : Type 1} → statement M
 over-column-spec =

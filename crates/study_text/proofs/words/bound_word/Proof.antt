@@ -18,16 +18,16 @@ enum-told-4 : tie.Need-enum-told-4
 enum-told-4 c = search needs
 
 returns : tie.Need-returns
-returns c = sym (ap (λ r. wordOf (boundText r)) (c .enum-told .given .1))
+returns c = sym (ap (λ r. wordOf (boundText r)) (c .before .before .enum-told .given .1))
 
 returns-2 : tie.Need-returns-2
-returns-2 c = sym (ap (λ r. wordOf (boundText r)) (c .enum-told2 .given .1))
+returns-2 c = sym (ap (λ r. wordOf (boundText r)) (c .before .before .enum-told2 .given .1))
 
 returns-3 : tie.Need-returns-3
-returns-3 c = sym (ap (λ r. wordOf (boundText r)) (c .enum-told3 .given .1))
+returns-3 c = sym (ap (λ r. wordOf (boundText r)) (c .before .before .enum-told3 .given .1))
 
 returns-4 : tie.Need-returns-4
-returns-4 c = sym (ap (λ r. wordOf (boundText r)) (c .enum-told4 .given .1))
+returns-4 c = sym (ap (λ r. wordOf (boundText r)) (c .before .before .enum-told4 .given .1))
 
 pub bound-word-spec : {M : Type 1} → statement M
 bound-word-spec =

@@ -14,11 +14,17 @@ enum-known-id c = search needs
 axis-digit-requires : tie.Need-axis-digit-requires
 axis-digit-requires c κs = search needs
 
+array-write-bytes : tie.Need-array-write-bytes
+array-write-bytes c = search needs
+
 enum-known-id-2 : tie.Need-enum-known-id-2
 enum-known-id-2 c = search needs
 
 axis-digit-requires-2 : tie.Need-axis-digit-requires-2
 axis-digit-requires-2 c κs = search needs
+
+array-write-bytes-2 : tie.Need-array-write-bytes-2
+array-write-bytes-2 c = search needs
 
 enum-known-id-3 : tie.Need-enum-known-id-3
 enum-known-id-3 c = search needs
@@ -26,14 +32,17 @@ enum-known-id-3 c = search needs
 axis-digit-requires-3 : tie.Need-axis-digit-requires-3
 axis-digit-requires-3 c κs = search needs
 
+array-write-bytes-3 : tie.Need-array-write-bytes-3
+array-write-bytes-3 c = search needs
+
 returns : tie.Need-returns
-returns c = ap (λ (d : ℕ). wordOf (0x44 ∷ 0x6f ∷ 0x66 ∷ d ∷ [])) (c .axis-digit .ensures) ∙ sym (ap (λ (i : WritebackId). wordOf (idText i)) (c .before .before .id .given .1))
+returns c = ap (λ (d : ℕ). wordOf (0x44 ∷ 0x6f ∷ 0x66 ∷ d ∷ [])) (c .axis-digit .ensures) ∙ sym (ap (λ (i : WritebackId). wordOf (idText i)) (c .before .before .before .before .id .given .1))
 
 returns-2 : tie.Need-returns-2
-returns-2 c = ap (λ (d : ℕ). wordOf (0x4c ∷ 0x69 ∷ 0x6d ∷ 0x69 ∷ 0x74 ∷ d ∷ [])) (c .axis-digit2 .ensures) ∙ sym (ap (λ (i : WritebackId). wordOf (idText i)) (c .before .before .id2 .given .1))
+returns-2 c = ap (λ (d : ℕ). wordOf (0x4c ∷ 0x69 ∷ 0x6d ∷ 0x69 ∷ 0x74 ∷ d ∷ [])) (c .axis-digit2 .ensures) ∙ sym (ap (λ (i : WritebackId). wordOf (idText i)) (c .before .before .before .before .id2 .given .1))
 
 returns-3 : tie.Need-returns-3
-returns-3 c = ap (λ (d : ℕ). wordOf (0x4d ∷ 0x6f ∷ 0x74 ∷ 0x6f ∷ 0x72 ∷ d ∷ [])) (c .axis-digit3 .ensures) ∙ sym (ap (λ (i : WritebackId). wordOf (idText i)) (c .before .before .id3 .given .1))
+returns-3 c = ap (λ (d : ℕ). wordOf (0x4d ∷ 0x6f ∷ 0x74 ∷ 0x6f ∷ 0x72 ∷ d ∷ [])) (c .axis-digit3 .ensures) ∙ sym (ap (λ (i : WritebackId). wordOf (idText i)) (c .before .before .before .before .id3 .given .1))
 
 pub id-word-spec : {M : Type 1} → statement M
 id-word-spec =
@@ -41,10 +50,13 @@ id-word-spec =
     (tie.spec
     enum-known-id
     axis-digit-requires
+    array-write-bytes
     enum-known-id-2
     axis-digit-requires-2
+    array-write-bytes-2
     enum-known-id-3
     axis-digit-requires-3
+    array-write-bytes-3
     returns
     returns-2
     returns-3)
