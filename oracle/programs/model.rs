@@ -8,6 +8,9 @@
 //!   model answers                   a fixed list of calls with the oracle's answers
 //!   model replay < ANSWERS          the answers again, by each side that is there
 //!   model leg                       what the program leg must print, by the oracle
+//!   model study PROGRAM FILE...     what the program study prints for each file, against the second reading of it
+//!   model reading FILE...           what the second reading prints, the rules by their numbers alone
+//!   model damaged PROGRAM SEED COUNT FILE...   the same for damaged copies of the files
 //!   model bench                     the same work by the Rust and by the Rattle library, timed
 //!   model rendering SEED CALLS      against the second rendering
 //!   model fault NUMBER SEED CALLS   against the second rendering with one fault
@@ -44,6 +47,10 @@ mod sines;
 #[path = "model/run.rs"]
 mod run;
 mod studies;
+#[path = "model/study.rs"]
+mod study;
+#[path = "model/study_runs.rs"]
+mod study_runs;
 
 use std::process::exit;
 
@@ -86,6 +93,14 @@ fn main() {
             }
         }
         Some("leg") => leg::print(),
+        Some("study") => study_runs::compare(&arguments[1..]),
+        Some("reading") => study_runs::reading(&arguments[1..]),
+        Some("damaged") => study_runs::damaged(
+            &arguments[1],
+            number(2, 1),
+            number(3, 1000),
+            &arguments[4..],
+        ),
         #[cfg(rattle)]
         Some("bench") => bench::bench(),
         Some("rendering") => run::compare(library::RENDERING, number(1, 1), number(2, calls)),
@@ -101,7 +116,7 @@ fn main() {
         Some("faults") => run::faults(number(1, 1), number(2, calls), number(3, 1_000)),
         _ => {
             eprintln!(
-                "model: cases | compare SEED CALLS | pairs SEED COUNT | answers | replay | leg | bench | \
+                "model: cases | compare SEED CALLS | pairs SEED COUNT | answers | replay | leg | bench | study PROGRAM FILE... | reading FILE... | damaged PROGRAM SEED COUNT FILE... | \
                  rendering SEED CALLS | fault NUMBER SEED CALLS | faults SEED CALLS PAIRS"
             );
             exit(2)

@@ -1,0 +1,58 @@
+-- `files` ends.
+use Prim.Native.Nat.{_-_}
+use borrow.Author.Needs.{needs}
+use Rattle.study.proofs.files.Statement.{statement}
+use Rattle.study.proofs.files.Tie as tie
+
+abbrev Inv-loop : tie.InvT-loop
+Inv-loop from mode i₀ status₀ count several i status = Unit
+
+abbrev μ-loop : tie.MeasureT-loop
+μ-loop from mode i₀ status₀ count several i status = count - i
+
+returns : tie.Need-returns Inv-loop μ-loop
+returns c = search needs
+
+arg-count-requires : tie.Need-arg-count-requires Inv-loop μ-loop
+arg-count-requires c κs = search needs
+
+add-several : tie.Need-add-several Inv-loop μ-loop
+add-several c = search needs
+
+loop-holds : tie.Need-loop-holds Inv-loop μ-loop
+loop-holds c = search needs
+
+argument-file-requires : tie.Need-argument-file-requires Inv-loop μ-loop
+argument-file-requires c κs = search needs
+
+worse-requires : tie.Need-worse-requires Inv-loop μ-loop
+worse-requires c κs = search needs
+
+add-i : tie.Need-add-i Inv-loop μ-loop
+add-i c = search needs
+
+loop-less : tie.Need-loop-less Inv-loop μ-loop
+loop-less c = search needs
+
+loop-again : tie.Need-loop-again Inv-loop μ-loop
+loop-again c = search needs
+
+returns-2 : tie.Need-returns-2 Inv-loop μ-loop
+returns-2 c = search needs
+
+pub files-spec : {M : Type 1} → statement M
+files-spec =
+    tie.close
+    (tie.spec
+    Inv-loop
+    μ-loop
+    returns
+    arg-count-requires
+    add-several
+    loop-holds
+    argument-file-requires
+    worse-requires
+    add-i
+    loop-less
+    loop-again
+    returns-2)

@@ -1,0 +1,70 @@
+-- `joint_place` ends.
+use Prim.Native.Nat.{_-_}
+use borrow.Author.Needs.{needs}
+use Rattle.study.proofs.refusals.joint_place.Statement.{statement}
+use Rattle.study.proofs.refusals.joint_place.Tie as tie
+
+abbrev Inv-loop : tie.InvT-loop
+Inv-loop words numbers j p₀ p = Unit
+
+abbrev μ-loop : tie.MeasureT-loop
+μ-loop words numbers j p₀ p = 42 - p
+
+loop-holds : tie.Need-loop-holds Inv-loop μ-loop
+loop-holds c = search needs
+
+is-asked-requires : tie.Need-is-asked-requires Inv-loop μ-loop
+is-asked-requires c κs = search needs
+
+mul-number-at : tie.Need-mul-number-at Inv-loop μ-loop
+mul-number-at c = search needs
+
+cast-number-at : tie.Need-cast-number-at Inv-loop μ-loop
+cast-number-at c = search needs
+
+add-number-at : tie.Need-add-number-at Inv-loop μ-loop
+add-number-at c = search needs
+
+number-at-requires : tie.Need-number-at-requires Inv-loop μ-loop
+number-at-requires c κs = search needs
+
+is-finite-requires : tie.Need-is-finite-requires Inv-loop μ-loop
+is-finite-requires c κs = search needs
+
+is-beside-requires : tie.Need-is-beside-requires Inv-loop μ-loop
+is-beside-requires c κs = search needs
+
+returns : tie.Need-returns Inv-loop μ-loop
+returns c = search needs
+
+add-p : tie.Need-add-p Inv-loop μ-loop
+add-p c = search needs
+
+loop-less : tie.Need-loop-less Inv-loop μ-loop
+loop-less c = search needs
+
+loop-again : tie.Need-loop-again Inv-loop μ-loop
+loop-again c = search needs
+
+returns-2 : tie.Need-returns-2 Inv-loop μ-loop
+returns-2 c = search needs
+
+pub joint-place-spec : {M : Type 1} → statement M
+joint-place-spec =
+    tie.close
+    (tie.spec
+    Inv-loop
+    μ-loop
+    loop-holds
+    is-asked-requires
+    mul-number-at
+    cast-number-at
+    add-number-at
+    number-at-requires
+    is-finite-requires
+    is-beside-requires
+    returns
+    add-p
+    loop-less
+    loop-again
+    returns-2)

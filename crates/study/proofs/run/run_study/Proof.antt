@@ -1,0 +1,80 @@
+-- `run_study` ends.
+use Prim.Native.Nat.{_-_}
+use lib.ListN.{length}
+use mathlib.Core.Path.{_≡_}
+use borrow.Author.Needs.{needs}
+use Rattle.study.proofs.run.run_study.Statement.{statement}
+use Rattle.study.proofs.run.run_study.Tie as tie
+
+abbrev Inv-loop : tie.InvT-loop
+Inv-loop text names origins settings bodies₀ words numbers₀ rows₀ st r₀ calls₀ bodies numbers rows r calls = (length bodies ≡ length bodies₀) × ((length numbers ≡ length numbers₀) × (length rows ≡ length rows₀))
+
+abbrev μ-loop : tie.MeasureT-loop
+μ-loop text names origins settings bodies₀ words numbers₀ rows₀ st r₀ calls₀ bodies numbers rows r calls = 1000000000000000 - calls
+
+begun-requires : tie.Need-begun-requires Inv-loop μ-loop
+begun-requires c κs = search needs
+
+loop-holds : tie.Need-loop-holds Inv-loop μ-loop
+loop-holds c = search needs
+
+same-length : tie.Need-same-length Inv-loop μ-loop
+same-length c = search needs
+
+same-length-2 : tie.Need-same-length-2 Inv-loop μ-loop
+same-length-2 c = search needs
+
+same-length-3 : tie.Need-same-length-3 Inv-loop μ-loop
+same-length-3 c = search needs
+
+returns : tie.Need-returns Inv-loop μ-loop
+returns c = search needs
+
+turn-requires : tie.Need-turn-requires Inv-loop μ-loop
+turn-requires c κs = search needs
+
+add-calls : tie.Need-add-calls Inv-loop μ-loop
+add-calls c = search needs
+
+say-progress-requires : tie.Need-say-progress-requires Inv-loop μ-loop
+say-progress-requires c κs = search needs
+
+loop-less : tie.Need-loop-less Inv-loop μ-loop
+loop-less c = search needs
+
+loop-again : tie.Need-loop-again Inv-loop μ-loop
+loop-again c = search needs
+
+same-length-4 : tie.Need-same-length-4 Inv-loop μ-loop
+same-length-4 c = search needs
+
+same-length-5 : tie.Need-same-length-5 Inv-loop μ-loop
+same-length-5 c = search needs
+
+same-length-6 : tie.Need-same-length-6 Inv-loop μ-loop
+same-length-6 c = search needs
+
+returns-2 : tie.Need-returns-2 Inv-loop μ-loop
+returns-2 c = search needs
+
+pub run-study-spec : {M : Type 1} → statement M
+run-study-spec =
+    tie.close
+    (tie.spec
+    Inv-loop
+    μ-loop
+    begun-requires
+    loop-holds
+    same-length
+    same-length-2
+    same-length-3
+    returns
+    turn-requires
+    add-calls
+    say-progress-requires
+    loop-less
+    loop-again
+    same-length-4
+    same-length-5
+    same-length-6
+    returns-2)

@@ -1,0 +1,62 @@
+-- `row_lines` ends.
+use Prim.Native.Nat.{_-_}
+use borrow.Author.Needs.{needs}
+use Rattle.study.proofs.table.row_lines.Statement.{statement}
+use Rattle.study.proofs.table.row_lines.Tie as tie
+
+abbrev Inv-loop : tie.InvT-loop
+Inv-loop text names h used named made all₀ i₀ all i = Unit
+
+abbrev μ-loop : tie.MeasureT-loop
+μ-loop text names h used named made all₀ i₀ all i = 6 - i
+
+loop-holds : tie.Need-loop-holds Inv-loop μ-loop
+loop-holds c = search needs
+
+mul-one : tie.Need-mul-one Inv-loop μ-loop
+mul-one c = search needs
+
+element-copy-out-one : tie.Need-element-copy-out-one Inv-loop μ-loop
+element-copy-out-one c = search needs
+
+mul-row : tie.Need-mul-row Inv-loop μ-loop
+mul-row c = search needs
+
+element-copy-out-row : tie.Need-element-copy-out-row Inv-loop μ-loop
+element-copy-out-row c = search needs
+
+row-line-requires : tie.Need-row-line-requires Inv-loop μ-loop
+row-line-requires c κs = search needs
+
+bit-requires : tie.Need-bit-requires Inv-loop μ-loop
+bit-requires c κs = search needs
+
+add-i : tie.Need-add-i Inv-loop μ-loop
+add-i c = search needs
+
+loop-less : tie.Need-loop-less Inv-loop μ-loop
+loop-less c = search needs
+
+loop-again : tie.Need-loop-again Inv-loop μ-loop
+loop-again c = search needs
+
+returns : tie.Need-returns Inv-loop μ-loop
+returns c = search needs
+
+pub row-lines-spec : {M : Type 1} → statement M
+row-lines-spec =
+    tie.close
+    (tie.spec
+    Inv-loop
+    μ-loop
+    loop-holds
+    mul-one
+    element-copy-out-one
+    mul-row
+    element-copy-out-row
+    row-line-requires
+    bit-requires
+    add-i
+    loop-less
+    loop-again
+    returns)

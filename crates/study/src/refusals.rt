@@ -1,0 +1,456 @@
+// A refused call: its rule in words, and the first setting, body or joint that broke it, with the line that gave it.
+use crate::draft::NUMBERS;
+use crate::draft::body_base;
+use crate::draft::joint_base;
+use crate::draft::number_at;
+use crate::draft::word_at;
+use crate::draft::words_base;
+use crate::names::body_name;
+use crate::names::joint_name;
+use crate::out::err;
+use crate::out::err_number;
+use crate::out::err_part;
+use crate::words::Word;
+use crate::words::line_of;
+use floats::scalar::is_finite;
+
+fn say_late_rule(k: u32) {
+    match k {
+        9 => err(b"a sweep has at most 64 rounds"),
+        10 => err(
+            b"a build comes before this call (or before a build with a warm coefficient and a substep above 0)",
+        ),
+        11 => err(b"a joint or body that is asked for by index is present"),
+        12 => err(b"a typed angle of a centre is at most 1024 in size"),
+        13 => err(b"a motor table keeps RFC 4180's grammar and has at most 4096 records"),
+        14 => err(
+            b"a record of a motor table is three whole numbers, each at most 8000000 in size",
+        ),
+        15 => err(b"the joint and axis of a record of a motor table are present"),
+        _ => err(b"(no such rule)"),
+    }
+}
+
+// The rule that a refusal's number stands for: what has to hold.
+pub fn say_rule(k: u32) {
+    match k {
+        1 => err(b"a model has at most 128 bodies"),
+        2 => err(b"a model has at most 128 joints"),
+        3 => err(b"a mask is at most 7"),
+        4 => err(b"a joint's bodies are present, or the world"),
+        5 => err(b"a joint's two bodies differ, the world included"),
+        6 => err(
+            b"poses, masses, inertia, settings, centres, frames, softness, motor numbers, limit ends and warm coefficients are finite (limit ends and maximum forces may be infinite)",
+        ),
+        7 => err(b"dt is not below zero"),
+        8 => err(b"row storage holds the total count"),
+        _ => say_late_rule(k),
+    }
+}
+
+fn say_line(text: &[u8], at: u32) {
+    if at == 0 {
+        err(b", by default");
+        return;
+    }
+    err(b", line ");
+    err_number(line_of(text, at as usize));
+}
+
+fn say_name(text: &[u8], what: &[u8], w: Word) {
+    err(what);
+    err_part(text, w.start, w.end);
+}
+
+// ---- rules 1 and 2
+
+fn say_last_body(text: &[u8], names: &[u32]) {
+    let w = body_name(names, 128);
+    say_name(text, b"body ", w);
+    say_line(text, crate::draft::kept(w.start));
+}
+
+fn say_last_joint(text: &[u8], names: &[u32]) {
+    let w = joint_name(names, 128);
+    say_name(text, b"joint ", w);
+    say_line(text, crate::draft::kept(w.start));
+}
+
+// ---- rules 3 and 5
+
+fn say_mask_name(m: u32) {
+    match m {
+        0 => err(b"lock"),
+        1 => err(b"limit"),
+        2 => err(b"motor"),
+        _ => err(b"couple"),
+    }
+}
+
+// Joint j's first mask above 7; 4 where it has none.
+fn large_mask(words: &[u32], o: usize) -> u32 {
+    let mut m: u32 = 0;
+    while m < 4 {
+        if o < NUMBERS {
+            if 7 < word_at(words, o + 2 + m as usize) {
+                return m;
+            }
+        }
+        m += 1;
+    }
+    m
+}
+
+fn say_mask(text: &[u8], names: &[u32], origins: &[u32], words: &[u32], j: u32) -> bool {
+    let o = words_base(j);
+    let m = large_mask(words, o);
+    if 4 <= m {
+        return false;
+    }
+    say_name(text, b"joint ", joint_name(names, j));
+    err(b", ");
+    say_mask_name(m);
+    if o < NUMBERS {
+        say_line(text, word_at(origins, NUMBERS + o + 2 + m as usize));
+    }
+    true
+}
+
+fn say_masks(text: &[u8], names: &[u32], origins: &[u32], words: &[u32], joints: u32) {
+    let mut j: u32 = 0;
+    while j < joints {
+        if say_mask(text, names, origins, words, j) {
+            return;
+        }
+        j += 1;
+    }
+}
+
+fn say_twice(text: &[u8], names: &[u32], origins: &[u32], words: &[u32], j: u32) -> bool {
+    let o = words_base(j);
+    if NUMBERS <= o {
+        return false;
+    }
+    if word_at(words, o) != word_at(words, o + 1) {
+        return false;
+    }
+    say_name(text, b"joint ", joint_name(names, j));
+    say_line(text, word_at(origins, NUMBERS + o));
+    true
+}
+
+fn say_first_twice(text: &[u8], names: &[u32], origins: &[u32], words: &[u32], joints: u32) {
+    let mut j: u32 = 0;
+    while j < joints {
+        if say_twice(text, names, origins, words, j) {
+            return;
+        }
+        j += 1;
+    }
+}
+
+// ---- rules 6 and 12
+
+fn say_setting(i: u32) {
+    match i {
+        0 => err(b"dt"),
+        1 => err(b"length_unit"),
+        _ => err(b"normalized_max_corrective_velocity"),
+    }
+}
+
+fn say_body_place(p: u32) {
+    match p {
+        0 => err(b"rotation, first number"),
+        1 => err(b"rotation, second number"),
+        2 => err(b"position x"),
+        3 => err(b"position y"),
+        4 => err(b"inverse inertia"),
+        5 => err(b"inverse mass along x"),
+        _ => err(b"inverse mass along y"),
+    }
+}
+
+fn say_axis(axis: u32) {
+    match axis {
+        0 => err(b" x"),
+        1 => err(b" y"),
+        _ => err(b" angle"),
+    }
+}
+
+fn say_motor_place(p: u32) {
+    match p % 6 {
+        0 => err(b"target_velocity"),
+        1 => err(b"target_position"),
+        2 => err(b"stiffness"),
+        3 => err(b"damping"),
+        4 => err(b"max_force"),
+        _ => err(b"motor_impulse"),
+    }
+    say_axis(p / 6);
+}
+
+fn say_frame_place(p: u32) {
+    match p {
+        0 => err(b"frame1_rotation, first number"),
+        1 => err(b"frame1_rotation, second number"),
+        2 => err(b"frame1 x"),
+        3 => err(b"frame1 y"),
+        4 => err(b"frame2_rotation, first number"),
+        5 => err(b"frame2_rotation, second number"),
+        6 => err(b"frame2 x"),
+        _ => err(b"frame2 y"),
+    }
+}
+
+fn say_joint_place(p: u32) {
+    if p < 8 {
+        say_frame_place(p);
+        return;
+    }
+    if p < 17 {
+        err(b"limits");
+        say_axis((p - 8) / 3);
+        return;
+    }
+    if p < 35 {
+        say_motor_place(p - 17);
+        return;
+    }
+    match p {
+        35 => err(b"natural_frequency"),
+        36 => err(b"damping_ratio"),
+        _ => err(b"center"),
+    }
+}
+
+// Rule 6 asks that a joint's number at this place is finite.
+fn is_asked(p: u32) -> bool {
+    if p < 8 {
+        return true;
+    }
+    if p < 17 {
+        return false;
+    }
+    if p < 35 {
+        return (p - 17) % 6 < 4;
+    }
+    if p < 37 {
+        return true;
+    }
+    40 <= p
+}
+
+// A typed angle stands in the first number of the centre; the second is then nobody's.
+fn is_beside(words: &[u32], j: u32, p: u32) -> bool {
+    let o = words_base(j);
+    if NUMBERS <= o {
+        return false;
+    }
+    if p != 41 {
+        return false;
+    }
+    word_at(words, o + 10) != 0
+}
+
+fn joint_place(words: &[u32], numbers: &[f32], j: u32) -> u32 {
+    let mut p: u32 = 0;
+    while p < 42 {
+        if is_asked(p) {
+            if j < 129 {
+                if !is_finite(number_at(numbers, 42 * j as usize + p as usize)) {
+                    if !is_beside(words, j, p) {
+                        return p;
+                    }
+                }
+            }
+        }
+        p += 1;
+    }
+    p
+}
+
+fn body_place(bodies: &[f32], i: u32) -> u32 {
+    let mut p: u32 = 0;
+    while p < 7 {
+        if i < 129 {
+            if !is_finite(number_at(bodies, 10 * i as usize + p as usize)) {
+                return p;
+            }
+        }
+        p += 1;
+    }
+    p
+}
+
+fn say_body(text: &[u8], names: &[u32], origins: &[u32], bodies: &[f32], i: u32) -> bool {
+    let p = body_place(bodies, i);
+    if 7 <= p {
+        return false;
+    }
+    say_name(text, b"body ", body_name(names, i));
+    err(b", ");
+    say_body_place(p);
+    let base = body_base(i);
+    if base < NUMBERS {
+        say_line(text, word_at(origins, base + p as usize));
+    }
+    true
+}
+
+fn say_bodies(text: &[u8], names: &[u32], origins: &[u32], bodies: &[f32], count: u32) -> bool {
+    let mut i: u32 = 0;
+    while i < count {
+        if say_body(text, names, origins, bodies, i) {
+            return true;
+        }
+        i += 1;
+    }
+    false
+}
+
+fn say_joint_number(text: &[u8], names: &[u32], origins: &[u32], j: u32, p: u32) {
+    say_name(text, b"joint ", joint_name(names, j));
+    err(b", ");
+    say_joint_place(p);
+    let base = joint_base(j);
+    if base < NUMBERS {
+        if p < 42 {
+            say_line(text, word_at(origins, base + p as usize));
+        }
+    }
+}
+
+fn say_joints(
+    text: &[u8],
+    names: &[u32],
+    origins: &[u32],
+    words: &[u32],
+    numbers: &[f32],
+    count: u32,
+) -> bool {
+    let mut j: u32 = 0;
+    while j < count {
+        let p = joint_place(words, numbers, j);
+        if p < 42 {
+            say_joint_number(text, names, origins, j, p);
+            return true;
+        }
+        j += 1;
+    }
+    false
+}
+
+fn say_settings(text: &[u8], origins: &[u32], settings: &[f32]) -> bool {
+    let mut i: u32 = 0;
+    while i < 3 {
+        if !is_finite(number_at(settings, i as usize)) {
+            err(b"settings, ");
+            say_setting(i);
+            say_line(text, word_at(origins, i as usize));
+            return true;
+        }
+        i += 1;
+    }
+    false
+}
+
+fn is_large(words: &[u32], numbers: &[f32], j: u32) -> bool {
+    let o = words_base(j);
+    if NUMBERS <= o {
+        return false;
+    }
+    if word_at(words, o + 10) == 0 {
+        return false;
+    }
+    if 129 <= j {
+        return false;
+    }
+    let x = number_at(numbers, 42 * j as usize + 40);
+    if x > 1024.0 {
+        return true;
+    }
+    x < -1024.0
+}
+
+fn say_large(
+    text: &[u8],
+    names: &[u32],
+    origins: &[u32],
+    words: &[u32],
+    numbers: &[f32],
+    count: u32,
+) {
+    let mut j: u32 = 0;
+    while j < count {
+        if is_large(words, numbers, j) {
+            say_joint_number(text, names, origins, j, 40);
+            return;
+        }
+        j += 1;
+    }
+}
+
+// How many bodies and joints there are, and the line of the call.
+pub struct Counts {
+    pub bodies: u32,
+    pub joints: u32,
+    pub call: usize,
+}
+
+fn say_call(text: &[u8], c: Counts) {
+    err(b"the call itself, line ");
+    err_number(line_of(text, c.call));
+}
+
+fn say_not_finite(
+    text: &[u8],
+    names: &[u32],
+    origins: &[u32],
+    settings: &[f32],
+    bodies: &[f32],
+    words: &[u32],
+    numbers: &[f32],
+    c: Counts,
+) {
+    if say_settings(text, origins, settings) {
+        return;
+    }
+    if say_bodies(text, names, origins, bodies, c.bodies) {
+        return;
+    }
+    if say_joints(text, names, origins, words, numbers, c.joints) {
+        return;
+    }
+    say_call(text, c);
+}
+
+fn say_dt(text: &[u8], origins: &[u32]) {
+    err(b"settings, dt");
+    say_line(text, word_at(origins, 0));
+}
+
+// Where a model broke its rule.
+pub fn say_where(
+    text: &[u8],
+    names: &[u32],
+    origins: &[u32],
+    settings: &[f32],
+    bodies: &[f32],
+    words: &[u32],
+    numbers: &[f32],
+    c: Counts,
+    k: u32,
+) {
+    match k {
+        1 => say_last_body(text, names),
+        2 => say_last_joint(text, names),
+        3 => say_masks(text, names, origins, words, c.joints),
+        5 => say_first_twice(text, names, origins, words, c.joints),
+        6 => say_not_finite(text, names, origins, settings, bodies, words, numbers, c),
+        7 => say_dt(text, origins),
+        12 => say_large(text, names, origins, words, numbers, c.joints),
+        _ => say_call(text, c),
+    }
+}

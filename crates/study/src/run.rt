@@ -1,0 +1,700 @@
+// The calls of a study, in order. The first refused call ends it.
+use crate::calls::Line;
+use crate::calls::read_call;
+use crate::draft::State;
+use crate::draft::word_at;
+use crate::draft::words_base;
+use crate::keywords::BUILD;
+use crate::keywords::END;
+use crate::keywords::LOAD;
+use crate::keywords::PLACE;
+use crate::keywords::READ_ROWS;
+use crate::keywords::READ_VELOCITY;
+use crate::keywords::REMOVE_BIAS;
+use crate::keywords::REPEAT;
+use crate::keywords::SET_TARGETS;
+use crate::keywords::SWEEP;
+use crate::keywords::TABLE;
+use crate::keywords::WARM_START;
+use crate::keywords::WRITE_BACK;
+use crate::keywords::call_keyword;
+use crate::names::body_name;
+use crate::out::err;
+use crate::out::err_number;
+use crate::out::out;
+use crate::out::out_millionths;
+use crate::out::out_part;
+use crate::refusals::Counts;
+use crate::refusals::say_rule;
+use crate::refusals::say_where;
+use crate::table::Heading;
+use crate::table::Printed;
+use crate::table::joint_lines;
+use crate::table::out_heading;
+use crate::table::out_rules;
+use crate::words::Word;
+use crate::words::is_empty;
+use crate::words::line_of;
+use crate::words::next_line;
+use crate::words::next_word;
+use floats::pose::Pose;
+use floats::rotation_ops::Rotation;
+use floats::vector::Vector;
+use libc::STDERR_FILENO;
+use model::calls::BuildAnswer;
+use model::calls::LoadAnswer;
+use model::calls::Plain;
+use model::calls::VelocityAnswer;
+use model::calls::build;
+use model::calls::load;
+use model::calls::place;
+use model::calls::read_velocity;
+use model::calls::remove_bias;
+use model::calls::set_targets;
+use model::calls::sweep;
+use model::calls::warm_start;
+use model::calls::write_back;
+use model::header::Header;
+use rows::joint_constraint_builder::Warmstart;
+
+// A call's refusal, or 0, and the header after it.
+pub struct Done {
+    pub header: Header,
+    pub refused: u32,
+}
+
+fn plain(header: Header, answer: Plain) -> Done {
+    match answer {
+        Plain::Granted => Done { header, refused: 0 },
+        Plain::Refused(k) => Done { header, refused: k },
+    }
+}
+
+fn run_load(header: Header, bodies: &[f32], words: &[u32], numbers: &[f32], rows: &[f32]) -> Done {
+    match load(header, bodies, words, numbers, rows) {
+        LoadAnswer::Loaded(after) => Done {
+            header: after,
+            refused: 0,
+        },
+        LoadAnswer::Refused(k) => Done { header, refused: k },
+    }
+}
+
+fn warmstart_of(l: Line) -> Warmstart {
+    if l.warm {
+        return Warmstart::Warm(l.x);
+    }
+    Warmstart::Cold
+}
+
+fn run_build(
+    header: Header,
+    bodies: &[f32],
+    words: &[u32],
+    numbers: &[f32],
+    rows: &mut [f32],
+    l: Line,
+) -> Done {
+    let warmstart = warmstart_of(l);
+    match build(header, bodies, words, numbers, rows, warmstart, l.number) {
+        BuildAnswer::Built(after, _) => Done {
+            header: after,
+            refused: 0,
+        },
+        BuildAnswer::Refused(k) => Done { header, refused: k },
+    }
+}
+
+fn run_place(header: Header, bodies: &mut [f32], words: &[u32], numbers: &[f32], l: Line) -> Done {
+    let pose = Pose {
+        rotation: Rotation { re: l.re, im: l.im },
+        translation: Vector { x: l.x, y: l.y },
+    };
+    plain(
+        header,
+        place(header, bodies, words, numbers, l.number, pose),
+    )
+}
+
+// ---- a motor table
+
+// Not a refusal's number: a file that cannot be read.
+pub const NO_FILE: u32 = 99;
+
+fn too_long(name: &[u8]) -> u32 {
+    err(name);
+    err(b": a motor table has at most 262143 bytes\n");
+    NO_FILE
+}
+
+// A table's bytes from a descriptor.
+fn targets_from(
+    name: &[u8],
+    fd: i32,
+    header: Header,
+    bodies: &[f32],
+    words: &[u32],
+    numbers: &mut [f32],
+) -> u32 {
+    let mut table = [0u8; 262144];
+    let n = io::read_full(fd, &mut table);
+    if n == 262144 {
+        return too_long(name);
+    }
+    match set_targets(header, bodies, words, numbers, &table[..n]) {
+        Plain::Granted => 0,
+        Plain::Refused(k) => k,
+    }
+}
+
+fn targets_file(
+    name: &[u8],
+    header: Header,
+    bodies: &[f32],
+    words: &[u32],
+    numbers: &mut [f32],
+) -> u32 {
+    let fd = os::open_read(name);
+    if fd < 0 {
+        os::fail(name);
+        return NO_FILE;
+    }
+    let k = targets_from(name, fd, header, bodies, words, numbers);
+    libc::close(fd);
+    k
+}
+
+fn run_targets(
+    text: &[u8],
+    header: Header,
+    bodies: &[f32],
+    words: &[u32],
+    numbers: &mut [f32],
+    l: Line,
+) -> Done {
+    let start = l.start;
+    let end = l.end;
+    if text.len() < end {
+        return Done {
+            header,
+            refused: NO_FILE,
+        };
+    }
+    if end < start {
+        return Done {
+            header,
+            refused: NO_FILE,
+        };
+    }
+    let refused = targets_file(&text[start..end], header, bodies, words, numbers);
+    Done { header, refused }
+}
+
+// ---- what is printed
+
+fn heading_of(words: &[u32], j: u32, csv: bool) -> Heading {
+    let o = words_base(j);
+    if o < 2048 {
+        return Heading {
+            joint: j,
+            body1: word_at(words, o),
+            body2: word_at(words, o + 1),
+            coupled: word_at(words, o + 5),
+            csv,
+        };
+    }
+    Heading {
+        joint: j,
+        body1: 0,
+        body2: 0,
+        coupled: 0,
+        csv,
+    }
+}
+
+fn run_read_rows(
+    text: &[u8],
+    names: &[u32],
+    header: Header,
+    bodies: &[f32],
+    words: &[u32],
+    numbers: &[f32],
+    rows: &[f32],
+    j: u32,
+) -> Done {
+    let h = heading_of(words, j, false);
+    let p = joint_lines(text, names, header, bodies, words, numbers, rows, h, 0);
+    Done {
+        header,
+        refused: p.refused,
+    }
+}
+
+fn all_lines(
+    text: &[u8],
+    names: &[u32],
+    header: Header,
+    bodies: &[f32],
+    words: &[u32],
+    numbers: &[f32],
+    rows: &[f32],
+    joints: u32,
+    csv: bool,
+) -> Printed {
+    let mut p = Printed {
+        refused: 0,
+        used: 0,
+    };
+    let mut j: u32 = 0;
+    while j < joints {
+        let h = heading_of(words, j, csv);
+        p = joint_lines(text, names, header, bodies, words, numbers, rows, h, p.used);
+        if p.refused != 0 {
+            return p;
+        }
+        j += 1;
+    }
+    p
+}
+
+fn run_table(
+    text: &[u8],
+    names: &[u32],
+    header: Header,
+    bodies: &[f32],
+    words: &[u32],
+    numbers: &[f32],
+    rows: &[f32],
+    joints: u32,
+    csv: bool,
+) -> Done {
+    if !header.built {
+        return Done {
+            header,
+            refused: 10,
+        };
+    }
+    out_heading(csv);
+    let p = all_lines(
+        text,
+        names,
+        header,
+        bodies,
+        words,
+        numbers,
+        rows,
+        joints,
+        csv,
+    );
+    if p.refused == 0 {
+        if !csv {
+            out_rules(p.used);
+        }
+    }
+    Done {
+        header,
+        refused: p.refused,
+    }
+}
+
+fn run_read_velocity(
+    text: &[u8],
+    names: &[u32],
+    header: Header,
+    bodies: &[f32],
+    words: &[u32],
+    numbers: &[f32],
+    i: u32,
+) -> Done {
+    match read_velocity(header, bodies, words, numbers, i) {
+        VelocityAnswer::Velocity(v) => {
+            let linear = v.linear;
+            let w = body_name(names, i);
+            out_part(text, w.start, w.end);
+            out(b" moves ");
+            out_millionths(linear.x, 0);
+            out(b" ");
+            out_millionths(linear.y, 0);
+            out(b" millionths of m/s, turns ");
+            out_millionths(v.angular, 0);
+            out(b" millionths of rad/s\n");
+            Done { header, refused: 0 }
+        }
+        VelocityAnswer::Refused(k) => Done { header, refused: k },
+    }
+}
+
+// ---- one call
+
+fn run_reading(
+    text: &[u8],
+    names: &[u32],
+    header: Header,
+    bodies: &[f32],
+    words: &[u32],
+    numbers: &[f32],
+    rows: &[f32],
+    joints: u32,
+    l: Line,
+) -> Done {
+    if l.keyword == READ_ROWS {
+        return run_read_rows(text, names, header, bodies, words, numbers, rows, l.number);
+    }
+    if l.keyword == READ_VELOCITY {
+        return run_read_velocity(text, names, header, bodies, words, numbers, l.number);
+    }
+    if l.keyword == TABLE {
+        return run_table(
+            text,
+            names,
+            header,
+            bodies,
+            words,
+            numbers,
+            rows,
+            joints,
+            l.csv,
+        );
+    }
+    Done { header, refused: 0 }
+}
+
+fn run_working(
+    header: Header,
+    bodies: &mut [f32],
+    words: &[u32],
+    numbers: &mut [f32],
+    rows: &mut [f32],
+    l: Line,
+) -> Done {
+    if l.keyword == WARM_START {
+        return plain(header, warm_start(header, bodies, words, numbers, rows));
+    }
+    if l.keyword == SWEEP {
+        let swept = sweep(header, bodies, words, numbers, rows, l.number);
+        let answer = swept.answer;
+        return plain(header, answer);
+    }
+    if l.keyword == REMOVE_BIAS {
+        return plain(header, remove_bias(header, bodies, words, numbers, rows));
+    }
+    plain(header, write_back(header, bodies, words, numbers, rows))
+}
+
+fn run_call(
+    text: &[u8],
+    names: &[u32],
+    header: Header,
+    bodies: &mut [f32],
+    words: &[u32],
+    numbers: &mut [f32],
+    rows: &mut [f32],
+    joints: u32,
+    l: Line,
+) -> Done {
+    if l.keyword == LOAD {
+        return run_load(header, bodies, words, numbers, rows);
+    }
+    if l.keyword == PLACE {
+        return run_place(header, bodies, words, numbers, l);
+    }
+    if l.keyword == BUILD {
+        return run_build(header, bodies, words, numbers, rows, l);
+    }
+    if l.keyword == SET_TARGETS {
+        return run_targets(text, header, bodies, words, numbers, l);
+    }
+    if l.keyword <= WRITE_BACK {
+        return run_working(header, bodies, words, numbers, rows, l);
+    }
+    run_reading(text, names, header, bodies, words, numbers, rows, joints, l)
+}
+
+// ---- all calls
+
+// How far a study is: the header; where the next line is; the `repeat` that is open, by where its first line is and how many turns are left
+// after this one; whether it is over, and the refusal that ended it, or 0.
+pub struct Run {
+    pub header: Header,
+    pub at: usize,
+    pub first: usize,
+    pub left: u32,
+    pub over: bool,
+    pub refused: u32,
+}
+
+// Past the `end` of a `repeat` of no turns.
+fn skip(text: &[u8], from: usize) -> usize {
+    let mut at = from;
+    let mut lines = text.len();
+    while 0 < lines {
+        let w = next_word(text, at);
+        at = next_line(text, w.end);
+        if call_keyword(text, w) == END {
+            return at;
+        }
+        lines -= 1;
+    }
+    at
+}
+
+// The same `repeat`, another line.
+fn moved(r: Run, at: usize) -> Run {
+    let mut s = r;
+    s.at = at;
+    s
+}
+
+fn repeating(r: Run, first: usize, left: u32) -> Run {
+    let mut s = r;
+    s.at = first;
+    s.first = first;
+    s.left = left;
+    s
+}
+
+fn after_repeat(text: &[u8], r: Run, next: usize, turns: u32) -> Run {
+    if turns == 0 {
+        return moved(r, skip(text, next));
+    }
+    repeating(r, next, turns - 1)
+}
+
+fn after_end(r: Run, next: usize) -> Run {
+    let left = r.left;
+    if left == 0 {
+        return moved(r, next);
+    }
+    repeating(r, r.first, left - 1)
+}
+
+fn after_call(text: &[u8], r: Run, l: Line) -> Run {
+    let next = next_line(text, l.at);
+    if l.keyword == REPEAT {
+        return after_repeat(text, r, next, l.number);
+    }
+    if l.keyword == END {
+        return after_end(r, next);
+    }
+    moved(r, next)
+}
+
+fn say_refused(text: &[u8], k: u32, at: usize) {
+    err(b"study: line ");
+    err_number(line_of(text, at));
+    err(b": refused with ");
+    err_number(k as u64);
+    err(b": ");
+    say_rule(k);
+    err(b"; here: ");
+}
+
+// How far a long study is, where somebody watches.
+fn say_progress(calls: u64) {
+    if calls % 100000 == 0 {
+        if libc::isatty(STDERR_FILENO) == 1 {
+            err(b"study: ");
+            err_number(calls);
+            err(b" calls\n");
+        }
+    }
+}
+
+// Tells where a call was refused.
+fn say_all(
+    text: &[u8],
+    names: &[u32],
+    origins: &[u32],
+    settings: &[f32],
+    bodies: &[f32],
+    words: &[u32],
+    numbers: &[f32],
+    c: Counts,
+    k: u32,
+) {
+    say_refused(text, k, c.call);
+    say_where(text, names, origins, settings, bodies, words, numbers, c, k);
+    err(b"\n");
+}
+
+// Loads and runs nothing.
+pub fn check_study(
+    text: &[u8],
+    names: &[u32],
+    origins: &[u32],
+    settings: &[f32],
+    header: Header,
+    bodies: &[f32],
+    words: &[u32],
+    numbers: &[f32],
+    rows: &[f32],
+    read: State,
+) -> u32 {
+    let done = run_load(header, bodies, words, numbers, rows);
+    if done.refused != 0 {
+        let c = Counts {
+            bodies: read.bodies,
+            joints: read.joints,
+            call: read.calls,
+        };
+        say_all(
+            text,
+            names,
+            origins,
+            settings,
+            bodies,
+            words,
+            numbers,
+            c,
+            done.refused,
+        );
+    }
+    done.refused
+}
+
+// The run after a call that was granted.
+fn granted(text: &[u8], r: Run, header: Header, l: Line) -> Run {
+    let mut s = r;
+    s.header = header;
+    after_call(text, s, l)
+}
+
+// The run that a refusal ends.
+fn refused(r: Run, k: u32) -> Run {
+    let mut s = r;
+    s.over = true;
+    s.refused = k;
+    s
+}
+
+// The call that starts with a word.
+fn turn_call(
+    text: &[u8],
+    names: &[u32],
+    origins: &[u32],
+    settings: &[f32],
+    bodies: &mut [f32],
+    words: &[u32],
+    numbers: &mut [f32],
+    rows: &mut [f32],
+    st: State,
+    r: Run,
+    w: Word,
+) -> Run {
+    let l = read_call(text, names, opened(text, st, w), w);
+    let done = run_call(
+        text,
+        names,
+        r.header,
+        bodies,
+        words,
+        numbers,
+        rows,
+        st.joints,
+        l,
+    );
+    let k = done.refused;
+    if k == 0 {
+        return granted(text, r, done.header, l);
+    }
+    if k == NO_FILE {
+        return refused(r, k);
+    }
+    let c = Counts {
+        bodies: st.bodies,
+        joints: st.joints,
+        call: w.start,
+    };
+    say_all(text, names, origins, settings, bodies, words, numbers, c, k);
+    refused(r, k)
+}
+
+// One line.
+fn turn(
+    text: &[u8],
+    names: &[u32],
+    origins: &[u32],
+    settings: &[f32],
+    bodies: &mut [f32],
+    words: &[u32],
+    numbers: &mut [f32],
+    rows: &mut [f32],
+    st: State,
+    r: Run,
+) -> Run {
+    if text.len() <= r.at {
+        return refused(r, 0);
+    }
+    let w = next_word(text, r.at);
+    if is_empty(w) {
+        return moved(r, next_line(text, w.end));
+    }
+    turn_call(
+        text,
+        names,
+        origins,
+        settings,
+        bodies,
+        words,
+        numbers,
+        rows,
+        st,
+        r,
+        w,
+    )
+}
+
+// All calls; the number of the refusal that ended the study, or 0.
+pub fn run_study(
+    text: &[u8],
+    names: &[u32],
+    origins: &[u32],
+    settings: &[f32],
+    header: Header,
+    bodies: &mut [f32],
+    words: &[u32],
+    numbers: &mut [f32],
+    rows: &mut [f32],
+    st: State,
+) -> u32 {
+    let mut r = begun(header, st.calls);
+    let mut calls: u64 = 0;
+    while calls < 1000000000000000 {
+        if r.over {
+            return r.refused;
+        }
+        r = turn(
+            text,
+            names,
+            origins,
+            settings,
+            bodies,
+            words,
+            numbers,
+            rows,
+            st,
+            r,
+        );
+        calls += 1;
+        say_progress(calls);
+    }
+    0
+}
+
+fn begun(header: Header, at: usize) -> Run {
+    Run {
+        header,
+        at,
+        first: 0,
+        left: 0,
+        over: false,
+        refused: 0,
+    }
+}
+
+// A `repeat` is read where none is open, an `end` where one is: the text was read before.
+fn opened(text: &[u8], st: State, w: Word) -> State {
+    let mut s = st;
+    s.repeats = call_keyword(text, w) == END;
+    s
+}

@@ -1,0 +1,191 @@
+// What document 01 lets through and a person wants to hear about. Warnings go to standard error and change nothing.
+use crate::draft::NUMBERS;
+use crate::draft::body_base;
+use crate::draft::joint_base;
+use crate::draft::number_at;
+use crate::draft::word_at;
+use crate::draft::words_base;
+use crate::names::body_name;
+use crate::names::joint_name;
+use crate::out::err;
+use crate::out::err_number;
+use crate::out::err_part;
+use crate::words::Word;
+use crate::words::line_of;
+
+fn warn(text: &[u8], what: &[u8], w: Word, message: &[u8]) {
+    err(b"study: line ");
+    err_number(line_of(text, w.start));
+    err(b": warning: ");
+    err(what);
+    err_part(text, w.start, w.end);
+    err(message);
+}
+
+// A rotation's length is more than a thousandth away from 1.
+fn is_far(re: f32, im: f32) -> bool {
+    let length = re * re + im * im;
+    if length > 1.002 {
+        return true;
+    }
+    length < 0.998
+}
+
+fn warn_rotation(text: &[u8], draft: &[f32], at: usize, what: &[u8], w: Word, message: &[u8]) {
+    if at < NUMBERS {
+        if is_far(number_at(draft, at), number_at(draft, at + 1)) {
+            warn(text, what, w, message);
+        }
+    }
+}
+
+fn names_body(words: &[u32], j: u32, i: u32) -> bool {
+    let o = words_base(j);
+    if NUMBERS <= o {
+        return false;
+    }
+    if word_at(words, o) == i {
+        return true;
+    }
+    word_at(words, o + 1) == i
+}
+
+fn is_named(words: &[u32], joints: u32, i: u32) -> bool {
+    let mut j: u32 = 0;
+    while j < joints {
+        if names_body(words, j, i) {
+            return true;
+        }
+        j += 1;
+    }
+    false
+}
+
+fn warn_body(text: &[u8], draft: &[f32], words: &[u32], names: &[u32], joints: u32, i: u32) {
+    let base = body_base(i);
+    let w = body_name(names, i);
+    if NUMBERS <= base {
+        return;
+    }
+    warn_rotation(
+        text,
+        draft,
+        base,
+        b"body ",
+        w,
+        b": its rotation is far from unit length\n",
+    );
+    if number_at(draft, base + 5) < 0.0 {
+        warn(text, b"body ", w, b": a negative inverse mass\n");
+    } else if number_at(draft, base + 6) < 0.0 {
+        warn(text, b"body ", w, b": a negative inverse mass\n");
+    }
+    if !is_named(words, joints, i) {
+        warn(text, b"body ", w, b": no joint names it\n");
+    }
+}
+
+fn warn_frames(text: &[u8], draft: &[f32], origins: &[u32], base: usize, w: Word) {
+    if NUMBERS <= base {
+        return;
+    }
+    if word_at(origins, base + 2) == 0 {
+        if word_at(origins, base) == 0 {
+            warn(text, b"joint ", w, b": frame1 was never given\n");
+        }
+    }
+    if word_at(origins, base + 6) == 0 {
+        if word_at(origins, base + 4) == 0 {
+            warn(text, b"joint ", w, b": frame2 was never given\n");
+        }
+    }
+    warn_rotation(
+        text,
+        draft,
+        base,
+        b"joint ",
+        w,
+        b": frame1's rotation is far from unit length\n",
+    );
+    warn_rotation(
+        text,
+        draft,
+        base + 4,
+        b"joint ",
+        w,
+        b": frame2's rotation is far from unit length\n",
+    );
+}
+
+fn warn_limits(text: &[u8], draft: &[f32], base: usize, w: Word) {
+    if NUMBERS <= base {
+        return;
+    }
+    if number_at(draft, base + 9) < number_at(draft, base + 8) {
+        warn(text, b"joint ", w, b": the limits of x are reversed\n");
+    }
+    if number_at(draft, base + 12) < number_at(draft, base + 11) {
+        warn(text, b"joint ", w, b": the limits of y are reversed\n");
+    }
+    if number_at(draft, base + 15) < number_at(draft, base + 14) {
+        warn(text, b"joint ", w, b": the limits of angle are reversed\n");
+    }
+}
+
+fn warn_joint(text: &[u8], draft: &[f32], origins: &[u32], words: &[u32], names: &[u32], j: u32) {
+    let base = joint_base(j);
+    let o = words_base(j);
+    let w = joint_name(names, j);
+    warn_frames(text, draft, origins, base, w);
+    warn_limits(text, draft, base, w);
+    if o < NUMBERS {
+        if word_at(words, o + 10) == 0 {
+            if base < NUMBERS {
+                warn_rotation(
+                    text,
+                    draft,
+                    base + 40,
+                    b"joint ",
+                    w,
+                    b": its centre is far from unit length\n",
+                );
+            }
+        }
+    }
+}
+
+fn warn_bodies(text: &[u8], draft: &[f32], words: &[u32], names: &[u32], bodies: u32, joints: u32) {
+    let mut i: u32 = 0;
+    while i < bodies {
+        warn_body(text, draft, words, names, joints, i);
+        i += 1;
+    }
+}
+
+fn warn_joints(
+    text: &[u8],
+    draft: &[f32],
+    origins: &[u32],
+    words: &[u32],
+    names: &[u32],
+    joints: u32,
+) {
+    let mut j: u32 = 0;
+    while j < joints {
+        warn_joint(text, draft, origins, words, names, j);
+        j += 1;
+    }
+}
+
+pub fn warnings(
+    text: &[u8],
+    draft: &[f32],
+    origins: &[u32],
+    words: &[u32],
+    names: &[u32],
+    bodies: u32,
+    joints: u32,
+) {
+    warn_bodies(text, draft, words, names, bodies, joints);
+    warn_joints(text, draft, origins, words, names, joints);
+}
