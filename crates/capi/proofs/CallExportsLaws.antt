@@ -30,8 +30,11 @@ pub counts-stored : {r : SweepAnswer} {out′ : List ℕ} (a : Answer) (out : Li
     → out′ ≡ countsOut (sweepAnswerOf a) out
 counts-stored {r} a out told g e = e ∙ ap (λ p. countsIf p (r .counts) out) (sym g) ∙ ap (λ (r : SweepAnswer). countsOut r out) told
 
+pub refused-counts : (r : SweepAnswer) (k : ℕ) (out : List ℕ) → r .answer ≡ Plain.Refused k → countsOut r out ≡ out
+refused-counts r k out g = simp g
+
 pub counts-kept : {r : SweepAnswer} {k : ℕ} (a : Answer) (out : List ℕ) → r ≡ sweepAnswerOf a → r .answer ≡ Plain.Refused k → out ≡ countsOut (sweepAnswerOf a) out
-counts-kept {r} a out told g = ap (λ p. countsIf p (r .counts) out) (sym g) ∙ ap (λ (r : SweepAnswer). countsOut r out) told
+counts-kept {r} {k} a out told g = sym (refused-counts r k out g) ∙ ap (λ (r : SweepAnswer). countsOut r out) told
 
 -- the same of a number that shows the mark too, and of what a velocity read answers and stores
 pub marked-told : {a : Answer} {m : Model} {rows : List Float} {o : Outcome} (r : ℕ) → r ≡ marked a (m .built) → outcome a m rows ≡ o → r ≡ markedNumber o
