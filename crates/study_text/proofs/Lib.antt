@@ -1,3 +1,4 @@
 pub mod NumberLaws
 pub mod RowLaws
 pub mod Made
+pub mod CsvLaws

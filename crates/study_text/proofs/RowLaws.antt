@@ -125,7 +125,7 @@ bound-column High = refl
 bound-column Both = refl
 bound-column No = refl
 
-three-long : (r : Rule) → length (numberOf r) ≡ 3
+pub three-long : (r : Rule) → length (numberOf r) ≡ 3
 three-long Motor2 = refl
 three-long Motor0 = refl
 three-long Motor1 = refl
@@ -205,7 +205,7 @@ over-short (inf true) = omega arith
 over-short (inf false) = omega arith
 over-short (fin s m e) = omega arith
 
-millionths-short : (x : Float) → length (millionthsText x) ≤ 11
+pub millionths-short : (x : Float) → length (millionthsText x) ≤ 11
 unfolding millionthsText microReportOf reportText
 millionths-short nan = omega arith
 millionths-short (inf s) = over-short (inf s)

@@ -3,3 +3,4 @@ pub mod Rules
 pub mod Words
 pub mod Row
 pub mod Made
+pub mod Csv

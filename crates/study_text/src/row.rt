@@ -78,7 +78,7 @@ fn put_rule_number(out: &mut [u8], at: usize, rule: Rule) -> usize
     put_text(&mut *out, at, &bytes[..4])
 }
 
-fn put_definition(out: &mut [u8], at: usize, rule: Rule) -> usize
+pub fn put_definition(out: &mut [u8], at: usize, rule: Rule) -> usize
     requires { ⌜ at + length (definitionText rule) ≤ length (now out) ⌝ }
     ensures { λ r. ⌜ Put (now (out .entry)) at (definitionText rule) (now (out .exit)) r ⌝ }
 {
@@ -155,7 +155,7 @@ fn put_row(
 
 // ---- its length
 
-fn are_names(a: usize, b: usize, c: usize) -> bool
+pub fn are_names(a: usize, b: usize, c: usize) -> bool
     ensures { λ r. ⌜ r ≡ areNames a b c ⌝ }
 {
     if LONGEST_NAME < a {

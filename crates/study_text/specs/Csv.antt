@@ -1,0 +1,91 @@
+-- A line of a study's table, as a record of comma-separated values.
+use Prim.Native.Nat.{ℕ, _+_, _/_, _%_}
+use mathlib.Core.Bool.{cond}
+use mathlib.Core.List.{List, [], _∷_, _++_}
+use lib.Dec.{eqb, ltb}
+use lib.Ieee.{Float, binary32, toBits}
+use lib.ListN.{length}
+use Rattle.rows.specs.declared.joint_velocity_constraint.WritebackId.{WritebackId}
+use Rattle.motor_table.specs.Rfc4180.{COMMA, CR, LF}
+use Rattle.model.specs.Store.{axisOf}
+use Rattle.study_text.specs.Number.{millionthsText}
+use Rattle.study_text.specs.Rules.{ruleOf}
+use Rattle.study_text.specs.Words.{idText, boundOf, numberOf, definitionText}
+use Rattle.study_text.specs.Row.{areNames}
+use Rattle.study_text.specs.declared.rules.Rule.{Rule}
+use Rattle.study_text.specs.declared.words.Bound.{Bound}
+use Rattle.study_text.specs.declared.words.Bound.the-variants.{Low, High, Both, No}
+
+-- a text and a comma
+unfoldable pub field : List ℕ → List ℕ
+field text = text ++ COMMA ∷ []
+
+-- ---- words
+
+-- an impulse's unit: "N*m*s" of the angle, "N*s" of a linear axis
+abbrev pub unitOf : ℕ → List ℕ
+unitOf i = cond (eqb i 2) (0x4e ∷ 0x2a ∷ 0x6d ∷ 0x2a ∷ 0x73 ∷ []) (0x4e ∷ 0x2a ∷ 0x73 ∷ [])
+
+abbrev pub unitText : WritebackId → List ℕ
+unitText id = unitOf (axisOf id)
+
+-- "low", "high", "both" or "no"
+abbrev pub atText : Bound → List ℕ
+atText Low = 0x6c ∷ 0x6f ∷ 0x77 ∷ []
+atText High = 0x68 ∷ 0x69 ∷ 0x67 ∷ 0x68 ∷ []
+atText Both = 0x62 ∷ 0x6f ∷ 0x74 ∷ 0x68 ∷ []
+atText No = 0x6e ∷ 0x6f ∷ []
+
+-- a digit to the base 16, in lower case
+abbrev pub hexDigit : ℕ → ℕ
+hexDigit d = cond (ltb d 10) (0x30 + d) (0x57 + d)
+
+-- eight digits
+abbrev pub hexText : ℕ → List ℕ
+hexText n =
+    hexDigit (n / 0x10000000 % 16)
+    ∷ hexDigit (n / 0x1000000 % 16)
+    ∷ hexDigit (n / 0x100000 % 16)
+    ∷ hexDigit (n / 0x10000 % 16)
+    ∷ hexDigit (n / 0x1000 % 16)
+    ∷ hexDigit (n / 0x100 % 16)
+    ∷ hexDigit (n / 0x10 % 16)
+    ∷ hexDigit (n % 16)
+    ∷ []
+
+-- "0x" and the digits of a number's bits
+abbrev pub bitsText : Float → List ℕ
+bitsText x = 0x30 ∷ 0x78 ∷ hexText (toBits binary32 x)
+
+-- ---- the record
+
+unfoldable pub csvNames : List ℕ → List ℕ → List ℕ → List ℕ
+csvNames joint body1 body2 = field joint ++ field body1 ++ field body2
+
+unfoldable pub csvId : WritebackId → List ℕ
+csvId id = field (idText id) ++ field (unitText id)
+
+-- a number in millionths, and its bits
+unfoldable pub csvNumber : Float → List ℕ
+csvNumber x = field (millionthsText x) ++ field (bitsText x)
+
+-- the impulse, its lower and its upper bound
+unfoldable pub csvNumbers : Float → Float → Float → List ℕ
+csvNumbers impulse low high = csvNumber impulse ++ csvNumber low ++ csvNumber high
+
+-- the definition, and the record's end
+unfoldable pub csvEnd : Rule → List ℕ
+csvEnd rule = definitionText rule ++ CR ∷ LF ∷ []
+
+-- the bound that the impulse stands at, the rule's number, and its definition
+unfoldable pub csvRule : Bound → Rule → List ℕ
+csvRule bound rule = field (atText bound) ++ field (numberOf rule) ++ csvEnd rule
+
+-- all after the names
+unfoldable pub csvValues : WritebackId → Rule → Float → Float → Float → List ℕ
+csvValues id rule impulse low high = csvId id ++ csvNumbers impulse low high ++ csvRule (boundOf impulse low high) rule
+
+-- the line; none where a name is longer than a study's can be
+unfoldable pub csvText : List ℕ → List ℕ → List ℕ → WritebackId → ℕ → Float → Float → Float → List ℕ
+csvText joint body1 body2 id coupled impulse low high =
+    cond (areNames (length joint) (length body1) (length body2)) (csvNames joint body1 body2 ++ csvValues id (ruleOf id coupled) impulse low high) []
