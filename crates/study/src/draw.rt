@@ -130,10 +130,11 @@ fn attribute(name: &[u8], x: f32) {
     out(b"\" ");
 }
 
-fn label(text: &[u8], w: Word, p: Vector, unit: f32) {
+// A label beside a point, so many units below it.
+fn label(text: &[u8], w: Word, p: Vector, unit: f32, below: f32) {
     out(b"<text ");
     attribute(b"x", p.x + unit * 1.5);
-    attribute(b"y", -p.y - unit * 0.5);
+    attribute(b"y", -p.y + unit * below);
     attribute(b"font-size", unit * 2.0);
     out(b"font-family=\"sans-serif\">");
     escaped(text, w.start, w.end);
@@ -239,7 +240,7 @@ fn draw_joint(text: &[u8], draft: &[f32], words: &[u32], names: &[u32], j: u32, 
     draw_tie(draft, word_at(words, o), one, unit);
     draw_tie(draft, word_at(words, o + 1), two, unit);
     square(one, unit);
-    label(text, joint_name(names, j), one, unit);
+    label(text, joint_name(names, j), one, unit, 2.5);
     joint_ids(words, j);
     out(b"</text>\n");
 }
@@ -247,7 +248,7 @@ fn draw_joint(text: &[u8], draft: &[f32], words: &[u32], names: &[u32], j: u32, 
 fn draw_body(text: &[u8], draft: &[f32], names: &[u32], i: u32, unit: f32) {
     let p = body_at(draft, i);
     disc(p, unit);
-    label(text, body_name(names, i), p, unit);
+    label(text, body_name(names, i), p, unit, -1.0);
     out(b"</text>\n");
 }
 
@@ -281,13 +282,14 @@ fn begin(f: Frame, unit: f32) {
 
 // The whole picture. Numbers past 2147 m are over, and draw nothing that can be seen.
 pub fn draw(text: &[u8], draft: &[f32], words: &[u32], names: &[u32], bodies: u32, joints: u32) {
-    let none = Frame {
-        left: 0.0,
-        right: 0.0,
-        low: 0.0,
-        high: 0.0,
+    let first = body_at(draft, 0);
+    let point = Frame {
+        left: first.x,
+        right: first.x,
+        low: first.y,
+        high: first.y,
     };
-    let f = all_joints(draft, words, joints, all_bodies(draft, bodies, none));
+    let f = all_joints(draft, words, joints, all_bodies(draft, bodies, point));
     let unit = most(most(f.right - f.left, f.high - f.low), 0.001) * 0.02;
     begin(f, unit);
     draw_joints(text, draft, words, names, joints, unit);

@@ -47,6 +47,8 @@ pub const FILE_NAME: u32 = 22;
 
 pub const LONG_NAME: u32 = 23;
 
+pub const PLAIN_NAME: u32 = 24;
+
 fn say_more(fault: u32) {
     match fault {
         13 => err(b"expected a whole number from 0 to 4294967289"),
@@ -60,6 +62,9 @@ fn say_more(fault: u32) {
             b"expected `warm` and a coefficient, `substep` and a number, or the end of the line",
         ),
         23 => err(b"a name has at most 64 bytes"),
+        24 => err(
+            b"a name has no comma and no quote, so that it is a field of comma-separated values",
+        ),
         21 => err(b"expected `csv` or the end of the line"),
         _ => err(b"expected the name of a file"),
     }

@@ -105,9 +105,3 @@ fn out_over(x: f32, width: usize) {
     }
     out_right(b"over", width);
 }
-
-// A number's bits: 0x and eight digits.
-pub fn out_bits(x: f32) {
-    out(b"0x");
-    io::print_hex(STDOUT_FILENO, to_bits(x) as u64, 8);
-}

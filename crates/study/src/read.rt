@@ -37,6 +37,7 @@ use crate::faults::NAME;
 use crate::faults::NO_BODY;
 use crate::faults::NUMBER;
 use crate::faults::OPEN_REPEAT;
+use crate::faults::PLAIN_NAME;
 use crate::faults::TAKEN;
 use crate::faults::UNKNOWN;
 use crate::faults::WORLD_NAME;
@@ -65,6 +66,7 @@ use crate::names::find_joint;
 use crate::number::number_in;
 use crate::words::Whole;
 use crate::words::Word;
+use crate::words::holds;
 use crate::words::is;
 use crate::words::is_empty;
 use crate::words::next_line;
@@ -507,6 +509,12 @@ fn name_fault(text: &[u8], names: &[u32], st: State, w: Word) -> u32 {
     }
     if 64 < w.end - w.start {
         return LONG_NAME;
+    }
+    if holds(text, w, b',') {
+        return PLAIN_NAME;
+    }
+    if holds(text, w, b'"') {
+        return PLAIN_NAME;
     }
     if find_body(text, names, st.bodies, w) != ABSENT {
         return TAKEN;

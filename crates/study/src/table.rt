@@ -2,12 +2,8 @@
 use crate::names::body_name;
 use crate::names::joint_name;
 use crate::out::out;
-use crate::out::out_bits;
-use crate::out::out_millionths;
 use crate::out::out_part;
 use crate::rules::RULES;
-use crate::rules::out_definition;
-use crate::rules::out_number_of;
 use crate::rules::out_rule;
 use model::calls::Plain;
 use model::calls::read_rows;
@@ -16,19 +12,10 @@ use model::layout::WORLD;
 use rows::joint_velocity_constraint::Rows;
 use rows::joint_velocity_constraint::WritebackId;
 use rows::row_ids::RowIds;
+use study_text::csv::write_csv_row;
 use study_text::row::write_row;
 use study_text::rules::rule_index;
 use study_text::rules::rule_of;
-
-// The name of one of a joint's bodies.
-pub fn out_end(text: &[u8], names: &[u32], i: u32) {
-    if i == WORLD {
-        out(b"world");
-        return;
-    }
-    let w = body_name(names, i);
-    out_part(text, w.start, w.end);
-}
 
 fn out_axis(axis: usize) {
     match axis {
@@ -56,7 +43,7 @@ pub fn out_id(id: WritebackId) {
     }
 }
 
-// ---- as text
+// ---- one row, as text or as comma-separated values
 
 // One row, by the names of its joint and bodies. A name has at most 64 bytes, so that the line fits.
 fn text_row(
@@ -70,6 +57,21 @@ fn text_row(
     high: f32,
 ) {
     let mut line = io::buffer();
+    if h.csv {
+        let n = write_csv_row(
+            &mut line,
+            joint,
+            body1,
+            body2,
+            id,
+            h.coupled,
+            impulse,
+            low,
+            high,
+        );
+        out_part(&line, 0, n);
+        return;
+    }
     let n = write_row(
         &mut line,
         joint,
@@ -168,74 +170,6 @@ fn text_joint(
     text_body1(text, names, &text[start..end], h, id, impulse, low, high);
 }
 
-// ---- as comma-separated values
-
-fn csv_row(impulse: f32, low: f32, high: f32, rule: u32) {
-    out_millionths(impulse, 0);
-    out(b",");
-    out_bits(impulse);
-    out(b",");
-    out_millionths(low, 0);
-    out(b",");
-    out_bits(low);
-    out(b",");
-    out_millionths(high, 0);
-    out(b",");
-    out_bits(high);
-    out(b",");
-    csv_stands(impulse, low, high);
-    out(b",");
-    out_number_of(rule);
-    out(b",");
-    out_definition(rule);
-    out(b"\r\n");
-}
-
-fn csv_stands(impulse: f32, low: f32, high: f32) {
-    if impulse == low {
-        if impulse == high {
-            out(b"both");
-            return;
-        }
-        out(b"low");
-        return;
-    }
-    if impulse == high {
-        out(b"high");
-        return;
-    }
-    out(b"no");
-}
-
-fn csv_unit(axis: usize) {
-    match axis {
-        2 => out(b"N*m*s"),
-        _ => out(b"N*s"),
-    }
-}
-
-fn csv_id(id: WritebackId) {
-    out_id(id);
-    out(b",");
-    match id {
-        WritebackId::Motor(axis) => csv_unit(axis),
-        WritebackId::Dof(axis) => csv_unit(axis),
-        WritebackId::Limit(axis) => csv_unit(axis),
-    }
-    out(b",");
-}
-
-fn csv_joint(text: &[u8], names: &[u32], j: u32, body1: u32, body2: u32, id: WritebackId) {
-    let w = joint_name(names, j);
-    out_part(text, w.start, w.end);
-    out(b",");
-    out_end(text, names, body1);
-    out(b",");
-    out_end(text, names, body2);
-    out(b",");
-    csv_id(id);
-}
-
 // ---- rows
 
 // One joint: its number, bodies and coupled axes; whether as comma-separated values.
@@ -257,14 +191,8 @@ fn row_line(
     low: f32,
     high: f32,
 ) -> u32 {
-    let rule = rule_index(rule_of(id, h.coupled));
-    if h.csv {
-        csv_joint(text, names, h.joint, h.body1, h.body2, id);
-        csv_row(impulse, low, high, rule);
-    } else {
-        text_joint(text, names, h, id, impulse, low, high);
-    }
-    rule
+    text_joint(text, names, h, id, impulse, low, high);
+    rule_index(rule_of(id, h.coupled))
 }
 
 fn bit(rule: u32) -> u32 {

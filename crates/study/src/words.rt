@@ -163,6 +163,19 @@ pub fn same_words(text: &[u8], a: Word, b: Word) -> bool {
     is(text, b, &text[start..end])
 }
 
+// A word has this byte in it.
+pub fn holds(text: &[u8], w: Word, b: u8) -> bool {
+    let mut at = w.start;
+    let end = w.end;
+    while at < end {
+        if byte_at(text, at) == b {
+            return true;
+        }
+        at += 1;
+    }
+    false
+}
+
 // ---- whole numbers
 
 // A whole number without a sign, or what is none (or too large).

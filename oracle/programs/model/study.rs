@@ -200,7 +200,8 @@ impl Draft {
     fn free(&self, l: &Line) -> Result<(), usize> {
         let name = l.word(1);
         let taken = self.body(name).is_some() || self.joint(name).is_some();
-        if name.is_empty() || name.len() > 64 || name == b"world" || taken { Err(l.column(1)) } else { Ok(()) }
+        let plain = !name.contains(&b',') && !name.contains(&b'"');
+        if name.is_empty() || name.len() > 64 || !plain || name == b"world" || taken { Err(l.column(1)) } else { Ok(()) }
     }
     fn item(&mut self) -> &mut [f32] {
         match self.open {
