@@ -112,9 +112,9 @@ class Callee:
 
 im_sum = Callee("im_sum", "ImSum", [R], U, lambda a: f"imSumOf {a}")
 head = Callee("head", "Head", [U, R], R, lambda a, b: f"headOf {a} {b}")
-inv_dot = Callee("inv_dot", "InvDot", [U, R], F, lambda a, b: f"simdInvOf (rowDotOf {a} {b} {b})")
+inv_dot = Callee("inv_dot", "InvDot", [U, R], F, lambda a, b: f"invDotOf {a} {b}")
 is_lock = Callee("is_lock", "IsLock", [R], B, lambda a: f"isLock {a}")
-pair = Callee("pair", "Pair", [U, F, R, R], R, lambda a, b, c, d: f"reducedBy {a} {b} {c} {d}")
+pair = Callee("pair", "Pair", [U, F, R, R], R, lambda a, b, c, d: f"pairOf {a} {b} {c} {d}")
 callees = [im_sum, head, inv_dot, is_lock, pair]
 
 
@@ -225,10 +225,10 @@ more_o += is_lock.call(c, ["p"], [own_p], [P], LOCK, "t", "y", "et", "it")
 more_o.append(c.forget([A2, Y1, A1, M1, TO]))
 more_o.append(f"first ! $ branches ! {c.load(LOCK)}")
 more_o.append(f"(λ held. {c.forget([LOCK])} {next_index(c, J, I, 'j')} blocks ! $")
-more_o.append(f"inner j p {own_p} v {own_v} (between (map (reducedBy im v p)) (j + 1) n (set zs j p)) (afterTurn 𝓤 H X Q)")
+more_o.append(f"inner j p {own_p} v {own_v} (between (map (pairOf im v p)) (j + 1) n (set zs j p)) (afterTurn 𝓤 H X Q)")
 more_o.append(f"(λ ws lw same. tails j p {own_p} v {own_v} ws small X Q (k ws lw (lock-row im j n zs ws d p v small (fills zs len) ep (sym et ∙ yes-T t held) ev same)))")
 more_o.append("(record { i = j + 1; ws = set zs j p; len = length-set zs j p ∙ len; same = refl }))")
-more_o.append(f"(λ failed. {c.forget([LOCK])} skips ! $ exec ! C Λ En tail (anyQ (afterTurn 𝓤 H X Q)) $ tails j p {own_p} v {own_v} (set zs j p) small X Q (k (set zs j p) (length-set zs j p ∙ len) (free-turn (headOf im) isLock (pairOf im) j n zs d p small (fills zs len) ep (sym et ∙ no-T t failed))))" + ")" * 13)
+more_o.append(f"(λ failed. {c.forget([LOCK])} skips ! $ exec ! C Λ En tail (anyQ (afterTurn 𝓤 H X Q)) $ tails j p {own_p} v {own_v} (set zs j p) small X Q (k (set zs j p) (length-set zs j p ∙ len) (free-turn (headOf im) isLock (reduceOf im) j n zs d p small (fills zs len) ep (sym et ∙ no-T t failed))))" + ")" * 13)
 
 c = at_turn()
 ends_o = [compare(c, J, TO) + f" leaves-loop ! {c.load(TO)} $", f"exec ! C Λ En body.t-4 (atRet En Post) $ {c.forget([TO, J, IM])} finish zs len is"]
@@ -333,14 +333,13 @@ use denote.Triple.Call.{{calls-at}}
 use denote.Triple.Clauses.{{ensured, lasts}}
 use denote.Triple.Table.{{entered, cited}}
 use denote.Triple.Walked.{{says, Stays, stay-slice, walkOf, goes-slice, Walks, ends-at, walked, walk-meets}}
-use Rattle.floats.specs.Utils.{{simdInvOf}}
 use Rattle.floats.specs.declared.vector.Vector.{{Vector}}
 use Rattle.floats.proofs.vector.Vector as U
 use Rattle.floats.proofs.vector.Vector.Laws as U′
-use {SPECS}.Finalize.{{imSumOf, rowDotOf, headOf, isLock, pairOf, finalizeOf}}
+use {SPECS}.Finalize.{{imSumOf, headOf, isLock, invDotOf, pairOf, reduceOf, finalizeOf}}
 use {SPECS}.declared.joint_velocity_constraint.JointConstraint.{{JointConstraint}}
 use Rattle.rows.proofs.Orthogonalise.{{between, between-end, pair-turn, free-turn, rest-end}}
-use Rattle.rows.proofs.FinalizeLoops.{{reducedBy, restOf, lock-row, start, none}}
+use Rattle.rows.proofs.FinalizeLoops.{{restOf, lock-row, start, none}}
 use {VELOCITY}.JointConstraint as R
 use {VELOCITY}.JointConstraint.Laws as R′
 {"".join(k.uses() for k in callees)}use {MODULE}.finalize_constraints.Key.{{name as own-key}}
@@ -421,7 +420,7 @@ record Inner (n : ℕ) (im : Vector) (v : Float) (p : JointConstraint) (goal : L
   i : ℕ
   ws : List JointConstraint
   len : length ws ≡ n
-  same : between (map (reducedBy im v p)) i n ws ≡ goal
+  same : between (map (pairOf im v p)) i n ws ≡ goal
 
 record Outer (n : ℕ) (im : Vector) (goal : List JointConstraint) : Type 0 where
   j : ℕ
@@ -509,7 +508,7 @@ module _ {{M : Type 1}} (𝓤 : URA M) (H : Heap 𝓤) (A : Atoms 𝓤) (W : Giv
 
           -- a turn that reduces the row i
           moreI : (i : ℕ) (ws : List JointConstraint) → ltb i n ≡ true → i < n → i < length ws → (X : SProp 𝓤) (Q : Out → SProp 𝓤)
-              → ((r : JointConstraint) → r ≡ reducedBy im v p (getD ws i p) → Sq W (AtIn (i + 1) (set ws i r)) (prop X)) → Sq W (AtIn i ws) (runs C Λ En body.turn-1 (anyQ (afterTurn 𝓤 H X Q)))
+              → ((r : JointConstraint) → r ≡ pairOf im v p (getD ws i p) → Sq W (AtIn (i + 1) (set ws i r)) (prop X)) → Sq W (AtIn i ws) (runs C Λ En body.turn-1 (anyQ (afterTurn 𝓤 H X Q)))
           unfolding afterTurn
           moreI i ws e small at-i X Q k =
               {lines(more_i, 14)}
@@ -537,14 +536,14 @@ module _ {{M : Type 1}} (𝓤 : URA M) (H : Heap 𝓤) (A : Atoms 𝓤) (W : Giv
             at-i : (s : State) → ltb (s .i) n ≡ true → s .i < length (s .ws)
             at-i s e = subst (λ (m : ℕ). s .i < m) (sym (s .len)) (below (s .i) n e)
 
-            abbrev nextI : (s : State) → ltb (s .i) n ≡ true → (r : JointConstraint) → r ≡ reducedBy im v p (getD (s .ws) (s .i) p) → State
-            nextI s e r er = record {{ i = s .i + 1; ws = set (s .ws) (s .i) r; len = length-set (s .ws) (s .i) r ∙ s .len; same = pair-turn (reducedBy im v p) (s .i) n (s .ws) p r (below (s .i) n e) (fills (s .ws) (s .len)) er ∙ s .same }}
+            abbrev nextI : (s : State) → ltb (s .i) n ≡ true → (r : JointConstraint) → r ≡ pairOf im v p (getD (s .ws) (s .i) p) → State
+            nextI s e r er = record {{ i = s .i + 1; ws = set (s .ws) (s .i) r; len = length-set (s .ws) (s .i) r ∙ s .len; same = pair-turn (pairOf im v p) (s .i) n (s .ws) p r (below (s .i) n e) (fills (s .ws) (s .len)) er ∙ s .same }}
 
             inner : (Q : Out → SProp 𝓤) → ((ws : List JointConstraint) → length ws ≡ n → ws ≡ goal → Sq W (Mid ws) (runs C Λ En tail (anyQ Q)))
                 → (s : State) → Sq W (AtI s) (runs C Λ En (loop body.turn-1) (anyQ (afterBlock 𝓤 H (afterSeq 𝓤 H (Wp 𝓤 H C Λ En tail Q) Q))))
             inner Q k = loops ! 𝓣 NearerI NearerI-wf AtI (λ s. by-bool (ltb (s .i) n)
                 (λ e. moreI (s .i) (s .ws) e (below (s .i) n e) (at-i s e) _ _ (λ r er. again ! NearerI AtI s (nextI s e r er) (add-one-dec n (s .i) (below (s .i) n e))))
-                (λ e. endsI (s .i) (s .ws) e _ Q (k (s .ws) (s .len) (sym (between-end (map (reducedBy im v p)) refl (s .i) n (s .ws) (over (s .i) n e)) ∙ s .same))))
+                (λ e. endsI (s .i) (s .ws) e _ Q (k (s .ws) (s .len) (sym (between-end (map (pairOf im v p)) refl (s .i) n (s .ws) (over (s .i) n e)) ∙ s .same))))
 
         -- ---- the outer loop
         abbrev AtOut : ℕ → List JointConstraint → List (Item 𝓤)
@@ -586,7 +585,7 @@ module _ {{M : Type 1}} (𝓤 : URA M) (H : Heap 𝓤) (A : Atoms 𝓤) (W : Giv
         outer = loops ! 𝓣 NearerO NearerO-wf AtO (λ s. by-bool (ltb (s .j) n)
             (λ e. moreO (s .j) (s .zs) (stand-in (s .zs) (s .j) (at-j s e)) e (below (s .j) n e) (s .len) (at-j s e) _ _
             (λ ws len same. again ! NearerO AtO s (record {{ j = s .j + 1; zs = ws; len = len; same = same ∙ s .same }}) (add-one-dec n (s .j) (below (s .j) n e))))
-            (λ e. endsO (s .j) (s .zs) e (s .len) (sym (rest-end (headOf im) isLock (pairOf im) (s .j) n (s .zs) (over (s .j) n e)) ∙ s .same) _))
+            (λ e. endsO (s .j) (s .zs) e (s .len) (sym (rest-end (headOf im) isLock (reduceOf im) (s .j) n (s .zs) (over (s .j) n e)) ∙ s .same) _))
 
       -- where there is a row: the sum of the first one's inverse masses, and the loops
       some-rows : (d : JointConstraint) → 0 < n → Sq W ({free}) (runs C Λ En arm (anyQ (afterSeq 𝓤 H (Wp 𝓤 H C Λ En body.t-4 (atReturn 𝓤 H En Post)) (atReturn 𝓤 H En Post))))

@@ -31,7 +31,7 @@ arc-le t h = go (ltb t (2 ^ 29)) (ltb→lt t (2 ^ 29))
 pub arc-whole : (t : ℕ) → 2 ^ 29 ≤ t → series ((2 ^ 30 - t) * 2 ^ 30 / (2 ^ 30 + t)) ≤ 2 ^ 29
 arc-whole t h = let l = rest-le t h in omega (arith, series-le ((2 ^ 30 - t) * 2 ^ 30 / (2 ^ 30 + t)) (omega arith))
 
-pub folded-lt : (steep left : Bool) (a : ℕ) → a ≤ eighthTurn → folded steep left a < 2 ^ 32
+pub folded-lt : (steep obtuse : Bool) (a : ℕ) → a ≤ eighthTurn → folded steep obtuse a < 2 ^ 32
 folded-lt true true a h = omega arith
 folded-lt true false a h = omega arith
 folded-lt false true a h = omega arith

@@ -10,7 +10,7 @@ use native.Mathlib.Omega.{arith}
 use borrow.Author.Tests.{eq-eqb, ne-eqb}
 use lib.Dec.{eqb}
 use lib.Ieee.Nearest.{div-mono}
-use Rattle.floats.specs.Angle.{withTerm, seriesFrom, terms, series, power, nonzeroPowers, seriesSum}
+use Rattle.floats.specs.Angle.{withTerm, seriesFrom, termCount, series, power, nonzeroPowers, seriesSum}
 use Rattle.floats.specs.declared.angle.SeriesSum.{SeriesSum}
 
 -- ---- the terms
@@ -118,11 +118,11 @@ from (suc left) k w p sum n e h a r q =
     (subst (λ (x : ℕ). withTerm k x sum + odds w (k + 1) ≡ evens w (k + 1)) (sym a)
     (balance-next w k sum (subst (λ (x : ℕ). Safe w k x sum) a r) q))
 
-whole : (w : ℕ) → w ≤ 2 ^ 30 → (series w + odds w terms ≡ evens w terms) × (series w ≤ w)
+whole : (w : ℕ) → w ≤ 2 ^ 30 → (series w + odds w termCount ≡ evens w termCount) × (series w ≤ w)
 unfolding series power odds evens
-whole w h = from terms 0 w w 0 terms refl h refl (safe-first w) refl
+whole w h = from termCount 0 w w 0 termCount refl h refl (safe-first w) refl
 
-pub alternating : (w : ℕ) → w ≤ 2 ^ 30 → series w + odds w terms ≡ evens w terms
+pub alternating : (w : ℕ) → w ≤ 2 ^ 30 → series w + odds w termCount ≡ evens w termCount
 alternating w h = whole w h .0
 
 pub series-le : (w : ℕ) → w ≤ 2 ^ 30 → series w ≤ w
@@ -132,13 +132,13 @@ series-le w h = whole w h .1
 less : (n k : ℕ) → k < n → n - k ≡ suc (n - (k + 1))
 less n k h = omega arith
 
-pub turn : (k u p sum : ℕ) → k < terms → seriesFrom (terms - k) k u p sum ≡ seriesFrom (terms - (k + 1)) (k + 1) u (p * u / 2 ^ 30) (withTerm k p sum)
+pub turn : (k u p sum : ℕ) → k < termCount → seriesFrom (termCount - k) k u p sum ≡ seriesFrom (termCount - (k + 1)) (k + 1) u (p * u / 2 ^ 30) (withTerm k p sum)
 unfolding seriesFrom
-turn k u p sum h = rw (less terms k h)
+turn k u p sum h = rw (less termCount k h)
 
-pub done : (k u p sum : ℕ) → terms ≤ k → seriesFrom (terms - k) k u p sum ≡ sum
+pub done : (k u p sum : ℕ) → termCount ≤ k → seriesFrom (termCount - k) k u p sum ≡ sum
 unfolding seriesFrom
-done k u p sum h = let e : terms - k ≡ 0 = omega arith in rw e
+done k u p sum h = let e : termCount - k ≡ 0 = omega arith in rw e
 
 -- ---- what the loop leaves out is zero
 
@@ -175,7 +175,7 @@ unfolding nonzeroPowers
 count-next w k n e = rw (add-one k, ne-eqb (power w k) 0 n, e, add-one k)
 
 -- So every power from the count on is zero, among p0 to p14.
-pub left-out : (w k : ℕ) → k < terms → nonzeroPowers w terms ≤ k → power w k ≡ 0
+pub left-out : (w k : ℕ) → k < termCount → nonzeroPowers w termCount ≤ k → power w k ≡ 0
 left-out w k h c = go (eq-zero-or-pos (power w k))
   where
     -- as long as powers are not zero, the count grows with the index
@@ -198,29 +198,29 @@ left-out w k h c = go (eq-zero-or-pos (power w k))
     go (inr p) =
         let n : power w k ≡ 0 → ⊥ = λ z. omega arith in
         let a : nonzeroPowers w (k + 1) ≡ k + 1 = count-next w k n (counted k (le-refl k) n) in
-        let i : k + 1 + (terms - (k + 1)) ≡ terms = omega arith in
-        absurd (omega (arith, rw i at (grows (k + 1) (terms - (k + 1)))))
+        let i : k + 1 + (termCount - (k + 1)) ≡ termCount = omega arith in
+        absurd (omega (arith, rw i at (grows (k + 1) (termCount - (k + 1)))))
 
 -- ---- the end of the loop
 
 module _ (w k p sum : ℕ) where
   abbrev pub soFar : Type 0
-  soFar = seriesFrom (terms - k) k (w * w / 2 ^ 30) p sum ≡ seriesFrom terms 0 (w * w / 2 ^ 30) w 0
+  soFar = seriesFrom (termCount - k) k (w * w / 2 ^ 30) p sum ≡ seriesFrom termCount 0 (w * w / 2 ^ 30) w 0
 
   -- at a zero power
-  pub stopped : k ≤ terms → p ≡ 0 → soFar → p ≡ power w k → nonzeroPowers w k ≡ k → record { sum = sum; terms = k } ≡ seriesSum w
+  pub stopped : k ≤ termCount → p ≡ 0 → soFar → p ≡ power w k → nonzeroPowers w k ≡ k → record { sum = sum; terms = k } ≡ seriesSum w
   unfolding series seriesSum
   stopped h z s e c =
-      let i : k + (terms - k) ≡ terms = omega arith in
-      let a : sum ≡ series w = sym (rest-zero (terms - k) k (w * w / 2 ^ 30) sum) ∙ ap (λ (x : ℕ). seriesFrom (terms - k) k (w * w / 2 ^ 30) x sum) (sym z) ∙ s in
-      let b : k ≡ nonzeroPowers w terms = sym c ∙ sym (count-rest w k (terms - k) (sym e ∙ z)) ∙ ap (nonzeroPowers w) i in
+      let i : k + (termCount - k) ≡ termCount = omega arith in
+      let a : sum ≡ series w = sym (rest-zero (termCount - k) k (w * w / 2 ^ 30) sum) ∙ ap (λ (x : ℕ). seriesFrom (termCount - k) k (w * w / 2 ^ 30) x sum) (sym z) ∙ s in
+      let b : k ≡ nonzeroPowers w termCount = sym c ∙ sym (count-rest w k (termCount - k) (sym e ∙ z)) ∙ ap (nonzeroPowers w) i in
       cc
 
   -- after the last term
-  pub finished : k ≤ terms → terms ≤ k → soFar → nonzeroPowers w k ≡ k → record { sum = sum; terms = k } ≡ seriesSum w
+  pub finished : k ≤ termCount → termCount ≤ k → soFar → nonzeroPowers w k ≡ k → record { sum = sum; terms = k } ≡ seriesSum w
   unfolding series seriesSum
   finished h l s c =
-      let i : k ≡ terms = omega arith in
+      let i : k ≡ termCount = omega arith in
       let a : sum ≡ series w = sym (done k (w * w / 2 ^ 30) p sum l) ∙ s in
-      let b : k ≡ nonzeroPowers w terms = sym c ∙ ap (nonzeroPowers w) i in
+      let b : k ≡ nonzeroPowers w termCount = sym c ∙ ap (nonzeroPowers w) i in
       cc

@@ -12,7 +12,7 @@ use lib.Dec.{T, ltb, leb, eqb, ltb→lt, leb→le, eqb→eq}
 use lib.ListN.{getD}
 use lib.Ieee.Fits.{and-l, and-r}
 use Rattle.floats.specs.Angle.{quarterTurn}
-use Rattle.floats.specs.Sines.{parts, nextTerm, addTerm, sumFrom, mostTerms, sineOf, sineEntry, listed, sines}
+use Rattle.floats.specs.Sines.{quarterParts, nextTerm, addTerm, sumFrom, mostTerms, sineOf, sineEntry, listed, sines}
 
 -- ---- a test at every number below n
 
@@ -34,12 +34,12 @@ passed f (suc n) t k h =
 abbrev rise : ℕ → Bool
 rise k = ltb (sineEntry k) (sineEntry (k + 1))
 
-all-rise : T (passes rise parts)
+all-rise : T (passes rise quarterParts)
 unfolding passes sineEntry sineOf sumFrom
 all-rise = tt
 
-pub rises : (k : ℕ) → k < parts → sineEntry k < sineEntry (k + 1)
-rises k h = ltb→lt (sineEntry k) (sineEntry (k + 1)) (passed rise parts all-rise k h)
+pub rises : (k : ℕ) → k < quarterParts → sineEntry k < sineEntry (k + 1)
+rises k h = ltb→lt (sineEntry k) (sineEntry (k + 1)) (passed rise quarterParts all-rise k h)
 
 -- ---- the squares of entries k and 4096 − k
 
@@ -47,7 +47,7 @@ abbrev two-squares : ℕ → ℕ → ℕ
 two-squares a b = a * a + b * b
 
 abbrev squared : ℕ → ℕ
-squared k = two-squares (sineEntry k) (sineEntry (parts - k))
+squared k = two-squares (sineEntry k) (sineEntry (quarterParts - k))
 
 abbrev near-one : ℕ → Bool
 near-one n = leb n (2 ^ 60 + 2 ^ 36) && leb (2 ^ 60) (n + 2 ^ 36)
@@ -55,13 +55,13 @@ near-one n = leb n (2 ^ 60 + 2 ^ 36) && leb (2 ^ 60) (n + 2 ^ 36)
 abbrev near : ℕ → Bool
 near k = near-one (squared k)
 
-all-near : T (passes near (suc parts))
+all-near : T (passes near (suc quarterParts))
 unfolding passes sineEntry sineOf sumFrom
 all-near = tt
 
-pub squares : (k : ℕ) → k ≤ parts → (squared k ≤ 2 ^ 60 + 2 ^ 36) × (2 ^ 60 ≤ squared k + 2 ^ 36)
+pub squares : (k : ℕ) → k ≤ quarterParts → (squared k ≤ 2 ^ 60 + 2 ^ 36) × (2 ^ 60 ≤ squared k + 2 ^ 36)
 squares k h =
-    let t = passed near (suc parts) all-near k (omega arith) in
+    let t = passed near (suc quarterParts) all-near k (omega arith) in
     let a = leb (squared k) (2 ^ 60 + 2 ^ 36) in
     let b = leb (2 ^ 60) (squared k + 2 ^ 36) in
     (leb→le (squared k) (2 ^ 60 + 2 ^ 36) (and-l a b t), leb→le (2 ^ 60) (squared k + 2 ^ 36) (and-r a b t))
@@ -91,7 +91,7 @@ more-terms (suc left) more u n term sum t = rw suc-add (go (eqb term 0) t (more-
 
 -- h and u of entry k
 abbrev start : ℕ → ℕ
-start k = k * quarterTurn / parts
+start k = k * quarterTurn / quarterParts
 
 abbrev square : ℕ → ℕ
 square k = start k * start k / 2 ^ 30
@@ -99,13 +99,13 @@ square k = start k * start k / 2 ^ 30
 abbrev stop : ℕ → Bool
 stop k = stops mostTerms (square k) 0 (start k)
 
-all-stop : T (passes stop (suc parts))
+all-stop : T (passes stop (suc quarterParts))
 unfolding passes stops
 all-stop = tt
 
-pub ends : (k : ℕ) → k ≤ parts → (more : ℕ) → sumFrom (mostTerms + more) (square k) 0 (start k) 0 ≡ sineEntry k
+pub ends : (k : ℕ) → k ≤ quarterParts → (more : ℕ) → sumFrom (mostTerms + more) (square k) 0 (start k) 0 ≡ sineEntry k
 unfolding sineEntry sineOf
-ends k h more = more-terms mostTerms more (square k) 0 (start k) 0 (passed stop (suc parts) all-stop k (omega arith))
+ends k h more = more-terms mostTerms more (square k) 0 (start k) 0 (passed stop (suc quarterParts) all-stop k (omega arith))
 
 -- ---- the sum alternates
 
@@ -125,12 +125,12 @@ taken-off k = every-other false mostTerms (square k) 0 (start k)
 abbrev balance : ℕ → Bool
 balance k = eqb (sineEntry k + taken-off k) (added k)
 
-all-balance : T (passes balance (suc parts))
+all-balance : T (passes balance (suc quarterParts))
 unfolding passes every-other sineEntry sineOf sumFrom
 all-balance = tt
 
-pub alternates : (k : ℕ) → k ≤ parts → sineEntry k + taken-off k ≡ added k
-alternates k h = eqb→eq (sineEntry k + taken-off k) (added k) (passed balance (suc parts) all-balance k (omega arith))
+pub alternates : (k : ℕ) → k ≤ quarterParts → sineEntry k + taken-off k ≡ added k
+alternates k h = eqb→eq (sineEntry k + taken-off k) (added k) (passed balance (suc quarterParts) all-balance k (omega arith))
 
 -- ---- the list
 
@@ -140,9 +140,9 @@ from f zero i k h = absurd (not-suc-le-zero h)
 from f (suc n) i zero h = ap f (sym (add-zero i))
 from f (suc n) i (suc k) h = from f n (suc i) k (le-of-suc-le-suc h) ∙ ap f (suc-add i k ∙ sym (add-suc i k))
 
-pub entry-is : (k : ℕ) → k ≤ parts → getD sines k 0 ≡ sineEntry k
+pub entry-is : (k : ℕ) → k ≤ quarterParts → getD sines k 0 ≡ sineEntry k
 unfolding sines
-entry-is k h = from sineEntry (suc parts) 0 k (omega arith) ∙ ap sineEntry (zero-add k)
+entry-is k h = from sineEntry (suc quarterParts) 0 k (omega arith) ∙ ap sineEntry (zero-add k)
 
 -- ---- the line between two entries
 

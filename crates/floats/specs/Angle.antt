@@ -4,7 +4,8 @@ use mathlib.Core.Bool.{Bool, false, not, cond, _&&_}
 use lib.Dec.{eqb, leb, ltb}
 use lib.IntN.{pos}
 use lib.Ieee.{Float, nan, inf, fin, binary32, up, down, round, neg, lt, eq}
-use Rattle.floats.specs.Operators.{bits, _⊘_}
+use Rattle.floats.specs.Operators.{_⊘_}
+use Rattle.floats.specs.Constants.{smallTangent}
 use Rattle.floats.specs.Scalar.{minOf, maxOf, isFinite}
 use Rattle.floats.specs.Sign.{signBit, absOf}
 use Rattle.floats.specs.declared.angle.SeriesSum.{SeriesSum}
@@ -21,11 +22,11 @@ seriesFrom zero k u p sum = sum
 seriesFrom (suc left) k u p sum = seriesFrom left (k + 1) u (p * u / 2 ^ 30) (withTerm k p sum)
 
 -- the number of terms: k = 0 to 14
-abbrev pub terms : ℕ
-terms = 15
+abbrev pub termCount : ℕ
+termCount = 15
 
 unfoldable pub series : ℕ → ℕ
-series w = seriesFrom terms 0 (w * w / 2 ^ 30) w 0
+series w = seriesFrom termCount 0 (w * w / 2 ^ 30) w 0
 
 -- ---- how many terms a loop has to add (request R-5): a power that is zero adds nothing, and no later one does
 
@@ -41,7 +42,7 @@ nonzeroPowers w (suc k) = nonzeroPowers w k + cond (eqb (power w k) 0) 0 1
 
 -- S(w), and the number of nonzero powers among p0 to p14
 unfoldable pub seriesSum : ℕ → SeriesSum
-seriesSum w = record { sum = series w; terms = nonzeroPowers w terms }
+seriesSum w = record { sum = series w; terms = nonzeroPowers w termCount }
 
 -- the same for any w: there is no sum above 2 ^ 30
 unfoldable pub seriesSumUpTo : ℕ → SeriesSum
@@ -63,12 +64,13 @@ halfTurn = 3373259426
 unfoldable pub arc : ℕ → ℕ
 arc T = cond (ltb T (2 ^ 29)) (series T) (eighthTurn - series ((2 ^ 30 - T) * 2 ^ 30 / (2 ^ 30 + T)))
 
--- taken from a quarter turn where |im| > |re| (`steep`), then from a half turn where re's sign bit is set (`left`)
+-- taken from a quarter turn where |im| > |re| (`steep`), then from a half turn where re's sign bit is set (`obtuse`)
 abbrev pub folded : Bool → Bool → ℕ → ℕ
-folded steep left A = let B = cond steep (quarterTurn - A) A in cond left (halfTurn - B) B
+folded steep obtuse A = let B = cond steep (quarterTurn - A) A in cond obtuse (halfTurn - B) B
 
 -- ---- t and T
 
+-- +0
 abbrev pub plusZero : Float
 plusZero = fin false 0 (pos 0)
 
@@ -94,7 +96,7 @@ angleUnits re im = folded (lt (absOf re) (absOf im)) (signBit re) (arc (tangentU
 
 -- near zero (request R-7): re's sign bit is clear, |im| < |re|, and t is below 2 ^ -12
 unfoldable pub nearZero : Float → Float → Bool
-nearZero re im = not (signBit re) && (lt (absOf im) (absOf re) && lt (tangentOf re im) (bits 0x3980_0000))
+nearZero re im = not (signBit re) && (lt (absOf im) (absOf re) && lt (tangentOf re im) smallTangent)
 
 -- a magnitude with a sign
 abbrev pub signed : Bool → Float → Float

@@ -1,4 +1,4 @@
--- The constants that the definitions name, by their bit patterns. Document 01 gives e, π, 2π and MAX, and document 02 the largest angle; the others are the Rust's, and exact. +0 is `bits 0`.
+-- The constants that the definitions name, by their bit patterns. Document 01 gives e, π, 2π and MAX, and document 02 the small tangent and the largest angle; the others are the Rust's, and exact. +0 is `bits 0`.
 use lib.Ieee.{Float}
 use Rattle.floats.specs.Operators.{bits}
 
@@ -31,6 +31,10 @@ twoPi = bits 0x40C9_0FDB
 -- the largest finite value, f32::MAX
 abbrev pub maxFloat : Float
 maxFloat = bits 0x7F7F_FFFF
+
+-- 2 ^ -12: an angle of a smaller tangent is its tangent (R-7)
+abbrev pub smallTangent : Float
+smallTangent = bits 0x3980_0000
 
 -- 1024: the largest size of a typed angle (R-4)
 abbrev pub largestAngle : Float

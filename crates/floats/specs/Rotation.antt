@@ -2,7 +2,7 @@
 use Prim.Native.Nat.{ℕ}
 use mathlib.Core.Bool.{cond}
 use lib.Dec.{eqb}
-use lib.Ieee.{Float, neg}
+use lib.Ieee.{neg}
 use Rattle.floats.specs.Operators.{_⊕_, _⊖_, _⊗_}
 use Rattle.floats.specs.declared.vector.Vector.{Vector}
 use Rattle.floats.specs.declared.rotation_ops.Rotation.{Rotation}
@@ -27,5 +27,6 @@ toMatOf p = record {
   «y_axis» = record { x = neg (p .im); y = p .re };
 }
 
+-- column 0, or else column 1
 unfoldable pub columnOf : Matrix → ℕ → Vector
 columnOf m i = cond (eqb i 0) (m .«x_axis») (m .«y_axis»)

@@ -6,7 +6,7 @@ use lib.Ieee.{Float, nan, inf, fin, binary32, up, down, round, lt}
 use Rattle.floats.specs.Constants.{largestAngle}
 use Rattle.floats.specs.Sign.{absOf}
 use Rattle.floats.specs.Angle.{quarterTurn}
-use Rattle.floats.specs.Sines.{parts, sineEntry}
+use Rattle.floats.specs.Sines.{quarterParts, sineEntry}
 use Rattle.floats.specs.declared.rotation_ops.Rotation.{Rotation}
 
 -- "turns of 6746518852 come off": four quarters
@@ -15,13 +15,13 @@ turn = 6746518852
 
 -- "the remainder over 1686629713 is the fraction of the straight line from entry k to k + 1, rounded down": from one entry to the next
 abbrev pub lineOf : ℕ → ℕ → ℕ → ℕ
-lineOf from to rest = from + (to - from) * rest / quarterTurn
+lineOf from to remainder = from + (to - from) * remainder / quarterTurn
 
 -- "At place p in a quarter, k = floor(4096·p / 1686629713)"; "entry 4096 needs no line". No entry is above the next (proofs/SinesLaws.antt), so that no difference is cut off.
 unfoldable pub sineAt : ℕ → ℕ
 sineAt p =
-    let k = parts * p / quarterTurn in
-    cond (eqb k parts) (sineEntry k) (lineOf (sineEntry k) (sineEntry (k + 1)) (parts * p % quarterTurn))
+    let k = quarterParts * p / quarterTurn in
+    cond (eqb k quarterParts) (sineEntry k) (lineOf (sineEntry k) (sineEntry (k + 1)) (quarterParts * p % quarterTurn))
 
 -- "The cosine is the sine at 1686629713 − p."
 unfoldable pub cosineAt : ℕ → ℕ

@@ -81,15 +81,15 @@ fn arc(t: u64) -> u64
 
 // The angle a, taken from a quarter turn where |im| > |re|, then from a half turn where re's sign bit
 // is set.
-fn fold(steep: bool, left: bool, a: u64) -> u64
+fn fold(steep: bool, obtuse: bool, a: u64) -> u64
     requires { ⌜ a ≤ eighthTurn ⌝ }
-    ensures { λ r. ⌜ r ≡ folded steep left a ⌝ }
+    ensures { λ r. ⌜ r ≡ folded steep obtuse a ⌝ }
 {
     let mut b = a;
     if steep {
         b = QUARTER_TURN - b;
     }
-    if left {
+    if obtuse {
         b = HALF_TURN - b;
     }
     b

@@ -16,7 +16,7 @@ use Rattle.rows.specs.RowIds.{filled}
 use Rattle.rows.specs.Update.{blankRow}
 use Rattle.rows.specs.Builder.{builderUpdateOf}
 use Rattle.rows.specs.GenericJoint.{isEnabled}
-use Rattle.rows.specs.Named.{Names, SameNamed}
+use Rattle.rows.specs.Named.{GivesRow, SameNamed}
 use Rattle.rows.specs.declared.integration_parameters.IntegrationParameters.{IntegrationParameters}
 use Rattle.rows.specs.declared.joint_constraint_builder.SolverPose.{SolverPose}
 use Rattle.rows.specs.declared.joint_constraint_builder.ImpulseJoint.{ImpulseJoint}
@@ -223,7 +223,7 @@ module _ (set : ℕ → Bool) {named : ℕ → WritebackId → Type 0} (m m′ :
     -- where every id that the joint's masks give it is named
     module _ (gives : (id : WritebackId) → List·Memᴰ id (jointIds (m .words) j) → named j id) where
       named-same : isEnabled (enabledAt (m .words) j) ≡ true
-          → SameNamed (Names (jointAt (m .words) (m .numbers) j .«data» .masks)) (jointAt (m .words) (m .numbers) j) (jointAt (m′ .words) (m′ .numbers) j)
+          → SameNamed (GivesRow (jointAt (m .words) (m .numbers) j .«data» .masks)) (jointAt (m .words) (m .numbers) j) (jointAt (m′ .words) (m′ .numbers) j)
       unfolding jointIds jointAt masksAt
       named-same on = fewer-named _ _ (λ id h. gives id (rw (masks-enabled (m .words) j on) h)) (agree .contents j t)
 

@@ -21,7 +21,7 @@ use Rattle.rows.specs.declared.joint_velocity_constraint.WritebackId.{Wr
 use Rattle.rows.specs.declared.joint_velocity_constraint.WritebackId.the-variants.{Dof, Limit, Motor}
 use Rattle.rows.specs.RowIds.{isCoupled, groupOne, groupTwo, rowIds}
 use Rattle.rows.specs.Makers.{assembleOf, motorRowOf, lockLinearOf, lockAngularOf, limitLinearOf, limitLinearCoupledOf, limitAngularOf, motorLinearOf, motorLinearCoupledOf, motorAngularOf}
-use Rattle.rows.specs.Finalize.{orthogonaliseN, imSumOf, headOf, isLock, lessOf, pairOf, finalizeOf}
+use Rattle.rows.specs.Finalize.{orthogonaliseN, imSumOf, headOf, isLock, lessOf, reduceOf, finalizeOf}
 use Rattle.rows.specs.Update.{rowOf, updateOf}
 use Rattle.rows.specs.Builder.{jointContextOf, seedOf, warmedOf, warmedAll, builderUpdateOf}
 use Rattle.rows.proofs.UpdateRows.{length-updateOf}
@@ -81,22 +81,22 @@ module _ {Row B : Type 0} (g : Row → B) where
   reduced-kept f h true cs = map-kept f h cs
   reduced-kept f h false cs = refl
 
-  module _ (head : Row → Row) (lock : Row → Bool) (pair : Row → Row → Row) (heads : (c : Row) → g (head c) ≡ g c) (pairs : (p c : Row) → g (pair p c) ≡ g c) where
-    kept-N : (n : ℕ) (cs : List Row) → map g (orthogonaliseN head lock pair n cs) ≡ map g cs
+  module _ (head : Row → Row) (lock : Row → Bool) (reduce : Row → Row → Row) (heads : (c : Row) → g (head c) ≡ g c) (reduces : (p c : Row) → g (reduce p c) ≡ g c) where
+    kept-N : (n : ℕ) (cs : List Row) → map g (orthogonaliseN head lock reduce n cs) ≡ map g cs
     unfolding orthogonaliseN
     kept-N zero cs = refl
     kept-N (suc n) [] = refl
     kept-N (suc n) (c ∷ cs) =
-        let rest : List Row = cond (lock (head c)) (map (pair (head c)) cs) cs in
-        ap (λ t. t ∷ map g (orthogonaliseN head lock pair n rest)) (heads c)
-        ∙ ap (λ t. g c ∷ t) (kept-N n rest ∙ reduced-kept (pair (head c)) (pairs (head c)) (lock (head c)) cs)
+        let rest : List Row = cond (lock (head c)) (map (reduce (head c)) cs) cs in
+        ap (λ t. t ∷ map g (orthogonaliseN head lock reduce n rest)) (heads c)
+        ∙ ap (λ t. g c ∷ t) (kept-N n rest ∙ reduced-kept (reduce (head c)) (reduces (head c)) (lock (head c)) cs)
 
 -- a group keeps its rows' impulses
 pub impulses-finalizeOf : (cs : List JointConstraint) → map (λ r. r .impulse) (finalizeOf cs) ≡ map (λ r. r .impulse) cs
-unfolding finalizeOf headOf pairOf lessOf
+unfolding finalizeOf headOf reduceOf lessOf
 impulses-finalizeOf [] = refl
 impulses-finalizeOf (c ∷ cs) =
-    kept-N (λ r. r .impulse) (headOf (imSumOf c)) isLock (pairOf (imSumOf c)) (λ c. refl) (λ p c. refl) (length (c ∷ cs)) (c ∷ cs)
+    kept-N (λ r. r .impulse) (headOf (imSumOf c)) isLock (reduceOf (imSumOf c)) (λ c. refl) (λ p c. refl) (length (c ∷ cs)) (c ∷ cs)
 
 -- ---- cold rows
 

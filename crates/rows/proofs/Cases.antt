@@ -3,9 +3,9 @@ use mathlib.Core.Path.{refl}
 use Rattle.floats.proofs.AngleCases.{quarter-turn, eighth-turn, half-turn}
 use Rattle.floats.proofs.MicroReportCases.{half-down, half-up, half-negative}
 use Rattle.rows.specs.RowIds.{hasAxis, rowIds}
-use Rattle.rows.specs.Cases.{table, Every, none, _and_}
+use Rattle.rows.specs.Cases.{cases, Every, none, _and_}
 
-pub all : Every table
+pub all : Every cases
 unfolding hasAxis rowIds
 all =
     refl and refl and refl and refl and refl and refl and refl and refl

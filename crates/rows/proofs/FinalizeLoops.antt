@@ -12,25 +12,21 @@ use lib.Ieee.{Float}
 use Rattle.floats.specs.Operators.{_⊗_}
 use Rattle.floats.specs.Utils.{simdInvOf}
 use Rattle.floats.specs.declared.vector.Vector.{Vector}
-use Rattle.rows.specs.Finalize.{orthogonalise, imSumOf, rowDotOf, headOf, isLock, lessOf, pairOf, finalizeOf, finalizeFirst}
+use Rattle.rows.specs.Finalize.{orthogonalise, imSumOf, headOf, isLock, invDotOf, pairOf, reduceOf, finalizeOf, finalizeFirst}
 use Rattle.rows.specs.declared.joint_velocity_constraint.JointConstraint.{JointConstraint}
 use Rattle.rows.proofs.Orthogonalise.{between, rest, lock-turn}
 
--- row c less what it has of row p, with the inverse of p's product with itself at hand: what `pair` computes
-abbrev pub reducedBy : Vector → Float → JointConstraint → JointConstraint → JointConstraint
-reducedBy imsum inverse p c = lessOf c p (rowDotOf imsum c p ⊗ inverse)
-
 -- what is left to do of the group's rows from j to before n
 abbrev pub restOf : Vector → ℕ → ℕ → List JointConstraint → List JointConstraint
-restOf imsum j n cs = rest (headOf imsum) isLock (pairOf imsum) j n cs
+restOf imsum j n cs = rest (headOf imsum) isLock (reduceOf imsum) j n cs
 
 -- a turn at a lock
 pub lock-row : (imsum : Vector) (j n : ℕ) (cs rs : List JointConstraint) (d p : JointConstraint) (inverse : Float)
-    → j < n → n ≤ length cs → p ≡ headOf imsum (getD cs j d) → isLock p ≡ true → inverse ≡ simdInvOf (rowDotOf imsum p p)
-    → rs ≡ between (map (reducedBy imsum inverse p)) (j + 1) n (set cs j p)
+    → j < n → n ≤ length cs → p ≡ headOf imsum (getD cs j d) → isLock p ≡ true → inverse ≡ invDotOf imsum p
+    → rs ≡ between (map (pairOf imsum inverse p)) (j + 1) n (set cs j p)
     → restOf imsum (j + 1) n rs ≡ restOf imsum j n cs
-unfolding pairOf
-lock-row imsum j n cs rs d p inverse h l e t v w = rw (w, v) (lock-turn (headOf imsum) isLock (pairOf imsum) j n cs d p h l e t)
+unfolding reduceOf
+lock-row imsum j n cs rs d p inverse h l e t v w = rw (w, v) (lock-turn (headOf imsum) isLock (reduceOf imsum) j n cs d p h l e t)
 
 -- all of a list
 all-of : (f : List JointConstraint → List JointConstraint) (cs : List JointConstraint) → between f 0 (length cs) cs ≡ f cs
@@ -41,7 +37,7 @@ all-of f cs = rw (take-all (length cs) cs (le-refl (length cs)), drop-of-length-
 pub start : (cs : List JointConstraint) (d : JointConstraint) → 0 < length cs → restOf (imSumOf (getD cs 0 d)) 0 (length cs) cs ≡ finalizeOf cs
 unfolding finalizeOf
 start [] d l = absurd (not-suc-le-zero l)
-start (c ∷ cs) d l = all-of (orthogonalise (headOf (imSumOf c)) isLock (pairOf (imSumOf c))) (c ∷ cs)
+start (c ∷ cs) d l = all-of (orthogonalise (headOf (imSumOf c)) isLock (reduceOf (imSumOf c))) (c ∷ cs)
 
 -- a group of no rows
 pub none : (cs : List JointConstraint) → length cs ≤ 0 → cs ≡ finalizeOf cs

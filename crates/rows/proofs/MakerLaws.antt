@@ -13,7 +13,7 @@ use Rattle.floats.specs.Operators.{bits}
 use Rattle.floats.specs.Constants.{one, maxFloat}
 use Rattle.rows.specs.GenericJoint.{maxImpulseOf, motorParamsOf}
 use Rattle.rows.specs.Helper.{linearAxisOf}
-use Rattle.rows.specs.Makers.{RowTerms, assembleOf, limitBoundsOf, limitBiasOf, limitLinearOf, limitLinearCoupledOf, recenteredAngleOf, limitAngularOf, motorBoundsOf, motorRowOf}
+use Rattle.rows.specs.Makers.{TwoBodies, ErpCfm, RowTerms, assembleOf, limitBoundsOf, limitBiasOf, limitLinearOf, limitLinearCoupledOf, recenteredAngleOf, limitAngularOf, motorBoundsOf, motorRowOf}
 use Rattle.rows.proofs.MakerShapes.{limit-linear-is}
 use Rattle.rows.specs.Finalize.{isLock}
 use Rattle.rows.specs.declared.integration_parameters.IntegrationParameters.{IntegrationParameters}
@@ -24,7 +24,6 @@ use Rattle.rows.specs.declared.joint_constraint_helper.JointConstraintHe
 use Rattle.rows.specs.declared.joint_constraint_helper.RowAxis.{RowAxis}
 use Rattle.rows.specs.declared.joint_constraint_helper.LimitEnds.{LimitEnds}
 use Rattle.rows.specs.declared.joint_constraint_helper.ImpulseBounds.{ImpulseBounds}
-use Rattle.rows.specs.declared.joint_velocity_constraint.JointSolverBody.{JointSolverBody}
 use Rattle.rows.specs.declared.joint_velocity_constraint.JointConstraint.{JointConstraint}
 
 -- ---- comparisons
@@ -85,20 +84,20 @@ module _ (dist low high : Float) where
 abbrev pub boundsOf : JointConstraint → ImpulseBounds
 boundsOf c = record { min = c .«impulse_min»; max = c .«impulse_max» }
 
-assembled-bounds : (body1 body2 : JointSolverBody) (axis : RowAxis) (bounds : ImpulseBounds) (terms : RowTerms) → boundsOf (assembleOf body1 body2 axis bounds terms) ≡ bounds
+assembled-bounds : (bodies : TwoBodies) (axis : RowAxis) (bounds : ImpulseBounds) (terms : RowTerms) → boundsOf (assembleOf bodies axis bounds terms) ≡ bounds
 unfolding assembleOf
-assembled-bounds body1 body2 axis bounds terms = refl
+assembled-bounds bodies axis bounds terms = refl
 
-module _ (h : JointConstraintHelper) (p : IntegrationParameters) (body1 body2 : JointSolverBody) (erpInvDt cfmCoeff : Float) where
+module _ (h : JointConstraintHelper) (p : IntegrationParameters) (bodies : TwoBodies) (soft : ErpCfm) where
   module _ (i : ℕ) (limits : LimitEnds) where
     abbrev dist : Float
     dist = linearAxisOf h i .dist
 
     abbrev linear : JointConstraint
-    linear = limitLinearOf h p body1 body2 i limits erpInvDt cfmCoeff
+    linear = limitLinearOf h p bodies i limits soft
 
     linear-bounds : boundsOf linear ≡ limitBoundsOf dist (limits .min) (limits .max)
-    linear-bounds = rw limit-linear-is (assembled-bounds body1 body2 (linearAxisOf h i) _ _)
+    linear-bounds = rw limit-linear-is (assembled-bounds bodies (linearAxisOf h i) _ _)
 
     pub limit-linear-inside : lt (limits .min) dist ≡ true → lt dist (limits .max) ≡ true → boundsOf linear ≡ record { min = bits 0; max = bits 0 }
     limit-linear-inside l u = linear-bounds ∙ inside _ _ _ l u
@@ -123,7 +122,7 @@ module _ (h : JointConstraintHelper) (p : IntegrationParameters) (body1 body2 : 
     high = limit .«half_range»
 
     abbrev angular : JointConstraint
-    angular = limitAngularOf h p body1 body2 limit erpInvDt cfmCoeff
+    angular = limitAngularOf h p bodies limit soft
 
     angular-bounds : boundsOf angular ≡ limitBoundsOf ang low high
     unfolding limitAngularOf assembleOf
@@ -143,7 +142,7 @@ module _ (h : JointConstraintHelper) (p : IntegrationParameters) (body1 body2 : 
 
   module _ (coupled : ℕ) where
     abbrev row : LimitEnds → JointConstraint
-    row limits = limitLinearCoupledOf h p body1 body2 coupled limits erpInvDt cfmCoeff
+    row limits = limitLinearCoupledOf h p bodies coupled limits soft
 
     pub limit-coupled-bounds : (limits : LimitEnds) → boundsOf (row limits) ≡ record { min = bits 0; max = inf false }
     unfolding limitLinearCoupledOf assembleOf
@@ -160,9 +159,9 @@ pub max-impulse-at-zero : (force : Float) → (maxImpulseOf force (bits 0) ≡ b
 unfolding maxImpulseOf ofBits eq
 max-impulse-at-zero force = (refl, refl)
 
-module _ (body1 body2 : JointSolverBody) (axis : RowAxis) (m : MotorParameters) (rhs : Float) where
+module _ (bodies : TwoBodies) (axis : RowAxis) (m : MotorParameters) (rhs : Float) where
   abbrev motor : JointConstraint
-  motor = motorRowOf body1 body2 axis m rhs
+  motor = motorRowOf bodies axis m rhs
 
   pub motor-bounds : boundsOf motor ≡ record { min = neg (m .«max_impulse»); max = m .«max_impulse» }
   unfolding motorRowOf motorBoundsOf assembleOf
@@ -181,13 +180,13 @@ max-times-one : maxImpulseOf maxFloat one ≡ maxFloat
 unfolding maxImpulseOf ofBits eq mul round
 max-times-one = refl
 
-module _ (body1 body2 : JointSolverBody) (axis : RowAxis) (m : JointMotor) (rhs : Float) (e : m .«max_force» ≡ maxFloat) where
+module _ (bodies : TwoBodies) (axis : RowAxis) (m : JointMotor) (rhs : Float) (e : m .«max_force» ≡ maxFloat) where
   max-impulse : motorParamsOf m one .«max_impulse» ≡ maxFloat
   unfolding motorParamsOf
   max-impulse = rw e max-times-one
 
-  pub max-force-bounds : boundsOf (motorRowOf body1 body2 axis (motorParamsOf m one) rhs) ≡ record { min = neg maxFloat; max = maxFloat }
-  max-force-bounds = motor-bounds body1 body2 axis (motorParamsOf m one) rhs ∙ rw max-impulse
+  pub max-force-bounds : boundsOf (motorRowOf bodies axis (motorParamsOf m one) rhs) ≡ record { min = neg maxFloat; max = maxFloat }
+  max-force-bounds = motor-bounds bodies axis (motorParamsOf m one) rhs ∙ rw max-impulse
 
-  pub max-force-lock : isLock (motorRowOf body1 body2 axis (motorParamsOf m one) rhs) ≡ true
-  max-force-lock = motor-as-lock body1 body2 axis (motorParamsOf m one) rhs max-impulse
+  pub max-force-lock : isLock (motorRowOf bodies axis (motorParamsOf m one) rhs) ≡ true
+  max-force-lock = motor-as-lock bodies axis (motorParamsOf m one) rhs max-impulse

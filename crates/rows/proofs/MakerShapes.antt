@@ -14,28 +14,27 @@ use Rattle.floats.specs.declared.vector.Vector.{Vector}
 use Rattle.rows.specs.RowIds.{hasAxis}
 use Rattle.rows.specs.IntegrationParameters.{invDtOf, maxCorrectiveVelocityOf}
 use Rattle.rows.specs.Helper.{coordOf, linearAxisOf, coupledStepOf, coupledAxisOf}
-use Rattle.rows.specs.Makers.{assembleOf, lockLinearOf, limitBoundsOf, limitBiasOf, limitLinearOf, limitLinearCoupledOf, limitedTargetVelOf, motorRhsOf, motorBoundsOf, motorRowOf, motorLinearOf, motorLinearCoupledOf}
+use Rattle.rows.specs.Makers.{TwoBodies, ErpCfm, assembleOf, lockLinearOf, limitBoundsOf, limitBiasOf, limitLinearOf, limitLinearCoupledOf, limitedTargetVelOf, motorRhsOf, motorBoundsOf, motorRowOf, motorLinearOf, motorLinearCoupledOf}
 use Rattle.rows.specs.declared.integration_parameters.IntegrationParameters.{IntegrationParameters}
 use Rattle.rows.specs.declared.joint_velocity_constraint.MotorParameters.{MotorParameters}
 use Rattle.rows.specs.declared.joint_constraint_helper.JointConstraintHelper.{JointConstraintHelper}
 use Rattle.rows.specs.declared.joint_constraint_helper.RowAxis.{RowAxis}
 use Rattle.rows.specs.declared.joint_constraint_helper.LimitEnds.{LimitEnds}
 use Rattle.rows.specs.declared.joint_constraint_helper.MotorLimits.{MotorLimits}
-use Rattle.rows.specs.declared.joint_velocity_constraint.JointSolverBody.{JointSolverBody}
 use Rattle.rows.specs.declared.joint_velocity_constraint.JointConstraint.{JointConstraint}
 
 -- ---- uncoupled
 
-module _ (h : JointConstraintHelper) (p : IntegrationParameters) (body1 body2 : JointSolverBody) (i : ℕ) where
-  pub limit-linear-is : (limits : LimitEnds) (erpInvDt cfmCoeff : Float)
-      → limitLinearOf h p body1 body2 i limits erpInvDt cfmCoeff
-      ≡ assembleOf body1 body2 (linearAxisOf h i) (limitBoundsOf (linearAxisOf h i .dist) (limits .min) (limits .max))
-      (record { rhs = bits 0 ⊕ limitBiasOf p (linearAxisOf h i .dist) (limits .min) (limits .max) erpInvDt; rhsWoBias = bits 0; cfmCoeff = cfmCoeff; cfmGain = bits 0 })
+module _ (h : JointConstraintHelper) (p : IntegrationParameters) (bodies : TwoBodies) (i : ℕ) where
+  pub limit-linear-is : (limits : LimitEnds) (soft : ErpCfm)
+      → limitLinearOf h p bodies i limits soft
+      ≡ assembleOf bodies (linearAxisOf h i) (limitBoundsOf (linearAxisOf h i .dist) (limits .min) (limits .max))
+      (record { rhs = bits 0 ⊕ limitBiasOf p (linearAxisOf h i .dist) (limits .min) (limits .max) (soft .erpInvDt); rhsWoBias = bits 0; cfmCoeff = soft .cfmCoeff; cfmGain = bits 0 })
   unfolding limitLinearOf lockLinearOf assembleOf linearAxisOf
-  limit-linear-is limits erpInvDt cfmCoeff = refl
+  limit-linear-is limits soft = refl
 
   pub motor-linear-is : (m : MotorParameters) (limits : MotorLimits)
-      → motorLinearOf h p body1 body2 i m limits ≡ motorRowOf body1 body2 (linearAxisOf h i) m (motorRhsOf p m limits (linearAxisOf h i .dist))
+      → motorLinearOf h p bodies i m limits ≡ motorRowOf bodies (linearAxisOf h i) m (motorRhsOf p m limits (linearAxisOf h i .dist))
   unfolding motorLinearOf motorRowOf lockLinearOf assembleOf linearAxisOf
   motor-linear-is m limits = refl
 
@@ -82,16 +81,16 @@ module _ (h : JointConstraintHelper) (coupled : ℕ) where
       go false true e f = rw (e, f)
       go false false e f = rw (e, f)
 
-module _ (h : JointConstraintHelper) (p : IntegrationParameters) (body1 body2 : JointSolverBody) (coupled : ℕ) where
-  pub limit-linear-coupled-is : (limits : LimitEnds) (erpInvDt cfmCoeff : Float)
-      → limitLinearCoupledOf h p body1 body2 coupled limits erpInvDt cfmCoeff
+module _ (h : JointConstraintHelper) (p : IntegrationParameters) (bodies : TwoBodies) (coupled : ℕ) where
+  pub limit-linear-coupled-is : (limits : LimitEnds) (soft : ErpCfm)
+      → limitLinearCoupledOf h p bodies coupled limits soft
       ≡ (
       let linJac = mulOf (linSum h coupled) (simdInvOf (dist h coupled)) in
       let angJac1 = angSum h coupled (h .«cmat1_basis») ⊗ simdInvOf (dist h coupled) in
       let angJac2 = angSum h coupled (h .«cmat2_basis») ⊗ simdInvOf (dist h coupled) in
       let rhsWoBias = minOf (dist h coupled ⊖ limits .max) (bits 0) ⊗ invDtOf p in
       let maxBias = maxCorrectiveVelocityOf p in
-      let rhsBias = clampOf (maxOf (dist h coupled ⊖ limits .max) (bits 0) ⊗ erpInvDt) (neg maxBias) maxBias in
+      let rhsBias = clampOf (maxOf (dist h coupled ⊖ limits .max) (bits 0) ⊗ soft .erpInvDt) (neg maxBias) maxBias in
       record {
         impulse = bits 0;
         «impulse_min» = bits 0;
@@ -99,22 +98,22 @@ module _ (h : JointConstraintHelper) (p : IntegrationParameters) (body1 body2 : 
         «lin_jac» = linJac;
         «ang_jac1» = angJac1;
         «ang_jac2» = angJac2;
-        «ii_ang_jac1» = transformVectorOf (body1 .ii) angJac1;
-        «ii_ang_jac2» = transformVectorOf (body2 .ii) angJac2;
+        «ii_ang_jac1» = transformVectorOf (bodies .body1 .ii) angJac1;
+        «ii_ang_jac2» = transformVectorOf (bodies .body2 .ii) angJac2;
         «inv_lhs» = bits 0;
         rhs = rhsWoBias ⊕ rhsBias;
         «rhs_wo_bias» = rhsWoBias;
         «cfm_gain» = bits 0;
-        «cfm_coeff» = cfmCoeff;
-        im1 = body1 .im;
-        im2 = body2 .im;
+        «cfm_coeff» = soft .cfmCoeff;
+        im1 = bodies .body1 .im;
+        im2 = bodies .body2 .im;
       }
       )
   unfolding limitLinearCoupledOf assembleOf
-  limit-linear-coupled-is limits erpInvDt cfmCoeff = rw (coupled-axis-is h coupled)
+  limit-linear-coupled-is limits soft = rw (coupled-axis-is h coupled)
 
   pub motor-linear-coupled-is : (m : MotorParameters) (limits : MotorLimits)
-      → motorLinearCoupledOf h p body1 body2 coupled m limits
+      → motorLinearCoupledOf h p bodies coupled m limits
       ≡ (
       let linJac = mulOf (linSum h coupled) (simdInvOf (dist h coupled)) in
       let angJac1 = angSum h coupled (h .«cmat1_basis») ⊗ simdInvOf (dist h coupled) in
@@ -128,15 +127,15 @@ module _ (h : JointConstraintHelper) (p : IntegrationParameters) (body1 body2 : 
         «lin_jac» = linJac;
         «ang_jac1» = angJac1;
         «ang_jac2» = angJac2;
-        «ii_ang_jac1» = transformVectorOf (body1 .ii) angJac1;
-        «ii_ang_jac2» = transformVectorOf (body2 .ii) angJac2;
+        «ii_ang_jac1» = transformVectorOf (bodies .body1 .ii) angJac1;
+        «ii_ang_jac2» = transformVectorOf (bodies .body2 .ii) angJac2;
         «inv_lhs» = bits 0;
         rhs = spring ⊕ neg targetVel;
         «rhs_wo_bias» = spring ⊕ neg targetVel;
         «cfm_gain» = m .«cfm_gain»;
         «cfm_coeff» = m .«cfm_coeff»;
-        im1 = body1 .im;
-        im2 = body2 .im;
+        im1 = bodies .body1 .im;
+        im2 = bodies .body2 .im;
       }
       )
   unfolding motorLinearCoupledOf motorRowOf motorRhsOf motorBoundsOf assembleOf

@@ -28,7 +28,7 @@ use Rattle.rows.specs.GenericJoint.{limitsAt, motorAt}
 use Rattle.rows.specs.RowIds.{isLocked, isMotor, isLimit, isCoupled, keep, inOrder, axes, firstCoupled, sharesLinear, groupOne, groupTwo, lockIds, limitIds, rowIds}
 use Rattle.rows.specs.Update.{contextOf, motorLimitsOf, rowOf, updateOf}
 use Rattle.rows.specs.Builder.{jointContextOf, seedOf, builderUpdateOf}
-use Rattle.rows.specs.Named.{Names, SameNamed}
+use Rattle.rows.specs.Named.{GivesRow, SameNamed}
 use Rattle.rows.proofs.BuilderLaws.{warmedAll-seeds}
 
 -- ---- what each row reads
@@ -175,7 +175,7 @@ module _ (nl na : ℕ) (k : Masks) (i : ℕ) where
 
 -- ---- the rows of two joints that agree on what they name
 
-module _ (params : IntegrationParameters) (body1 body2 : SolverPose) (a b : ImpulseJoint) (s : SameNamed (Names (a .«data» .masks)) a b) where
+module _ (params : IntegrationParameters) (body1 body2 : SolverPose) (a b : ImpulseJoint) (s : SameNamed (GivesRow (a .«data» .masks)) a b) where
   x : RowContext
   x = jointContextOf params body1 body2 a
 
@@ -194,16 +194,16 @@ module _ (params : IntegrationParameters) (body1 body2 : SolverPose) (a b : Impu
     masks = s .masks;
   }
 
-  named-row : (id : WritebackId) → Names (a .«data» .masks) id → rowOf x id ≡ rowOf y id
+  named-row : (id : WritebackId) → GivesRow (a .«data» .masks) id → rowOf x id ≡ rowOf y id
   unfolding x y jointContextOf contextOf
   named-row (Dof i) m = lock-reads x y same-shared i
   named-row (Limit i) m = limit-reads x y same-shared i (s .limits i m) (λ e. at-center (Memᴰ·cast (ap Limit (sym e)) m))
     where
-      at-center : Names (a .«data» .masks) (Limit 2) → x .«ang_limit» ≡ y .«ang_limit»
+      at-center : GivesRow (a .«data» .masks) (Limit 2) → x .«ang_limit» ≡ y .«ang_limit»
       at-center n = rw (s .limits 2 n, s .center n)
   named-row (Motor i) m = motor-reads x y same-shared i (s .motor i m) (λ t. s .limits i (limit-beside-motor 2 1 (a .«data» .masks) i m t))
 
-  named-rows : (is : List WritebackId) → ((id : WritebackId) → List·Memᴰ id is → Names (a .«data» .masks) id) → map (rowOf x) is ≡ map (rowOf y) is
+  named-rows : (is : List WritebackId) → ((id : WritebackId) → List·Memᴰ id is → GivesRow (a .«data» .masks) id) → map (rowOf x) is ≡ map (rowOf y) is
   named-rows [] h = refl
   named-rows (i ∷ is) h = rw (named-row i (h i (List·Memᴰ·head refl)), named-rows is (λ j m. h j (List·Memᴰ·tail m)))
 
@@ -216,7 +216,7 @@ module _ (params : IntegrationParameters) (body1 body2 : SolverPose) (a b : Impu
         s .masks,
       )
 
-  named-seed : (id : WritebackId) → Names (a .«data» .masks) id → seedOf a id ≡ seedOf b id
+  named-seed : (id : WritebackId) → GivesRow (a .«data» .masks) id → seedOf a id ≡ seedOf b id
   unfolding seedOf
   named-seed (Dof i) m = s .dof i m
   named-seed (Limit i) m = ap (λ (l : JointLimits). l .impulse) (s .limits i m)

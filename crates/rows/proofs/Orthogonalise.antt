@@ -1,4 +1,4 @@
--- The two loops that orthogonalise a group of rows, for any kind of row with its head step, its lock test and its pair step.
+-- The two loops that orthogonalise a group of rows, for any kind of row with its head step, its lock test and the step that reduces a later row.
 -- A turn of a loop at place i does to a list what makes the work left from place i + 1 on come to the work left from place i on:
 -- `pair-turn` for the inner loop, `lock-turn` and `free-turn` for the outer one. At the end no work is left (`between-end`).
 use mathlib.Core.Path.{_≡_, refl, _∙_, ap}
@@ -46,23 +46,23 @@ module _ {A : Type 0} where
   pair-suc f zero (suc n) (x ∷ xs) d h l = refl
   pair-suc f (suc i) (suc n) (x ∷ xs) d h l = ap (λ (t : List A). x ∷ t) (pair-suc f i n xs d (le-of-suc-le-suc h) (le-of-suc-le-suc l))
 
-  -- a turn of the inner loop: f is the pair step by the lock
+  -- a turn of the inner loop: f reduces a row by the lock
   pub pair-turn : (f : A → A) (i n : ℕ) (xs : List A) (d y : A) → i < n → n ≤ length xs → y ≡ f (getD xs i d)
       → between (map f) (i + 1) n (set xs i y) ≡ between (map f) i n xs
   pair-turn f i n xs d y h l e = rw (add-one, e) (pair-suc f i n xs d h l)
 
-module _ {Row : Type 0} (head : Row → Row) (lock : Row → Bool) (pair : Row → Row → Row) where
+module _ {Row : Type 0} (head : Row → Row) (lock : Row → Bool) (reduce : Row → Row → Row) where
   -- the whole of a part is orthogonalised by itself
   abbrev pub rest : ℕ → ℕ → List Row → List Row
-  rest j n cs = between (orthogonalise head lock pair) j n cs
+  rest j n cs = between (orthogonalise head lock reduce) j n cs
 
   lock-suc : (j n : ℕ) (cs : List Row) (d : Row) → j < n → n ≤ length cs → lock (head (getD cs j d)) ≡ true
-      → rest (suc j) n (between (map (pair (head (getD cs j d)))) (suc j) n (set cs j (head (getD cs j d)))) ≡ rest j n cs
+      → rest (suc j) n (between (map (reduce (head (getD cs j d)))) (suc j) n (set cs j (head (getD cs j d)))) ≡ rest j n cs
   unfolding between orthogonaliseN
   lock-suc j zero cs d h l t = absurd (not-suc-le-zero h)
   lock-suc j (suc n) [] d h l t = absurd (not-suc-le-zero l)
   lock-suc zero (suc n) (c ∷ cs) d h l t =
-      rw (between-between (orthogonalise head lock pair) (map (pair (head c))) (λ xs. length-map xs (pair (head c))) zero n cs (le-of-suc-le-suc l), length-map, t)
+      rw (between-between (orthogonalise head lock reduce) (map (reduce (head c))) (λ xs. length-map xs (reduce (head c))) zero n cs (le-of-suc-le-suc l), length-map, t)
   lock-suc (suc j) (suc n) (c ∷ cs) d h l t = ap (λ (s : List Row). c ∷ s) (lock-suc j n cs d (le-of-suc-le-suc h) (le-of-suc-le-suc l) t)
 
   free-suc : (j n : ℕ) (cs : List Row) (d : Row) → j < n → n ≤ length cs → lock (head (getD cs j d)) ≡ false
@@ -75,7 +75,7 @@ module _ {Row : Type 0} (head : Row → Row) (lock : Row → Bool) (pair : Row �
 
   -- a turn of the outer loop at a lock
   pub lock-turn : (j n : ℕ) (cs : List Row) (d p : Row) → j < n → n ≤ length cs → p ≡ head (getD cs j d) → lock p ≡ true
-      → rest (j + 1) n (between (map (pair p)) (j + 1) n (set cs j p)) ≡ rest j n cs
+      → rest (j + 1) n (between (map (reduce p)) (j + 1) n (set cs j p)) ≡ rest j n cs
   lock-turn j n cs d p h l e t = rw (add-one, e) (lock-suc j n cs d h l (rw e at t))
 
   -- a turn of the outer loop at another row
@@ -86,4 +86,4 @@ module _ {Row : Type 0} (head : Row → Row) (lock : Row → Bool) (pair : Row �
   -- no row is left
   pub rest-end : (j n : ℕ) (cs : List Row) → n ≤ j → rest j n cs ≡ cs
   unfolding orthogonaliseN
-  rest-end j n cs h = between-end (orthogonalise head lock pair) refl j n cs h
+  rest-end j n cs h = between-end (orthogonalise head lock reduce) refl j n cs h

@@ -11,25 +11,25 @@ use Rattle.rows.specs.declared.generic_joint.Masks.{Masks}
 use Rattle.rows.specs.declared.joint_velocity_constraint.WritebackId.{WritebackId}
 use Rattle.rows.specs.declared.joint_velocity_constraint.WritebackId.the-variants.{Dof, Limit, Motor}
 use Rattle.rows.specs.declared.row_ids.RowIds.{RowIds}
-use Rattle.rows.specs.RowIds.{isMotor, isLimit, isCoupled, axes, keep, some, firstCoupled, inOrder, sharesLinear, groupOne, lockIds, limitIds, filled, rowId, held}
+use Rattle.rows.specs.RowIds.{isMotor, isLimit, isCoupled, axes, keep, some, firstCoupled, inOrder, sharesLinear, groupOne, lockIds, limitIds, filled, rowId, idsArray}
 use Rattle.rows.proofs.Filled.{set-filled}
 use Rattle.rows.proofs.RowIdsCount.{bit, some-first, count-first, motors-and-locks, limits-fit}
 
 -- ---- a push
 
-push-held : (n : ℕ) (l : List WritebackId) (id : WritebackId) → length l < 6
-    → _≡_ {A = RowIds} (record { ids = set (held n l .ids) (length l) (rowId id); first = n; len = length l + 1 }) (held n (l ++ (id ∷ [])))
-push-held n l id h =
+push-ids : (n : ℕ) (l : List WritebackId) (id : WritebackId) → length l < 6
+    → _≡_ {A = RowIds} (record { ids = set (idsArray n l .ids) (length l) (rowId id); first = n; len = length l + 1 }) (idsArray n (l ++ (id ∷ [])))
+push-ids n l id h =
     let s : set (filled 6 (rowId (Dof 0)) (map rowId l)) (length l) (rowId id) ≡ filled 6 (rowId (Dof 0)) (map rowId (l ++ (id ∷ []))) =
     rw (map-append, ← length-map l rowId) (set-filled (rowId (Dof 0)) 6 (map rowId l) (rowId id) (rw (length-map l rowId) h)) in
     rw (s, length-append)
 
-pub pushed : (ids : RowIds) (n : ℕ) (l : List WritebackId) (id : WritebackId) (named : Bool) → named ≡ true → ids ≡ held n l → ids .len < 6
-    → _≡_ {A = RowIds} (record { ids = set (ids .ids) (ids .len) (rowId id); first = ids .first; len = ids .len + 1 }) (held n (l ++ cond named (id ∷ []) []))
-pushed ids n l id named t e h = rw (t, e) (push-held n l id (rw e at h))
+pub pushed : (ids : RowIds) (n : ℕ) (l : List WritebackId) (id : WritebackId) (named : Bool) → named ≡ true → ids ≡ idsArray n l → ids .len < 6
+    → _≡_ {A = RowIds} (record { ids = set (ids .ids) (ids .len) (rowId id); first = ids .first; len = ids .len + 1 }) (idsArray n (l ++ cond named (id ∷ []) []))
+pushed ids n l id named t e h = rw (t, e) (push-ids n l id (rw e at h))
 
-pub unpushed : (ids : RowIds) (n : ℕ) (l : List WritebackId) (id : WritebackId) (named : Bool) → named ≡ false → ids ≡ held n l
-    → ids ≡ held n (l ++ cond named (id ∷ []) [])
+pub unpushed : (ids : RowIds) (n : ℕ) (l : List WritebackId) (id : WritebackId) (named : Bool) → named ≡ false → ids ≡ idsArray n l
+    → ids ≡ idsArray n (l ++ cond named (id ∷ []) [])
 unpushed ids n l id named t e = rw (t, append-nil) e
 
 -- ---- three pushes, in the order of the axes
@@ -51,15 +51,15 @@ three l f p {a} {b} {d} ea eb ed = simp append-assoc (rw (ea, eb, ed) (ap (λ t.
 
 -- what `push_if` ensures
 abbrev pub Push : RowIds → Bool → WritebackId → RowIds → Type 0
-Push ids named id r = (n : ℕ) (l : List WritebackId) → ids ≡ held n l → r ≡ held n (l ++ cond named (id ∷ []) [])
+Push ids named id r = (n : ℕ) (l : List WritebackId) → ids ≡ idsArray n l → r ≡ idsArray n (l ++ cond named (id ∷ []) [])
 
-pub pushes : (n : ℕ) (l : List WritebackId) (f : ℕ → WritebackId) (p : ℕ → Bool) {a b d : Bool} {r₀ r₁ r₂ r₃ : RowIds} → r₀ ≡ held n l
+pub pushes : (n : ℕ) (l : List WritebackId) (f : ℕ → WritebackId) (p : ℕ → Bool) {a b d : Bool} {r₀ r₁ r₂ r₃ : RowIds} → r₀ ≡ idsArray n l
     → a ≡ p 2 → Push r₀ a (f 2) r₁ → b ≡ p 0 → Push r₁ b (f 0) r₂ → d ≡ p 1 → Push r₂ d (f 1) r₃
-    → r₃ ≡ held n (l ++ map f (keep p (inOrder 2 1)))
+    → r₃ ≡ idsArray n (l ++ map f (keep p (inOrder 2 1)))
 pushes n l f p {a} {b} {d} e ea x eb y ed z =
     let la : List WritebackId = l ++ cond a (f 2 ∷ []) [] in
     let lb : List WritebackId = la ++ cond b (f 0 ∷ []) [] in
-    z n lb (y n la (x n l e)) ∙ ap (λ t. held n t) (three l f p ea eb ed)
+    z n lb (y n la (x n l e)) ∙ ap (λ t. idsArray n t) (three l f p ea eb ed)
 
 -- ---- F
 
@@ -114,14 +114,14 @@ module _ (k : Masks) where
       ∙ ap (λ t. l ++ (map Limit (keep limitOutside (inOrder 2 1)) ++ t)) (ap (λ s. cond s (Limit f ∷ []) []) es ∙ coupled-limit k f ef)
 
   -- at most three ids stand before the locks, and before the limits
-  pub room : {ids : RowIds} {n : ℕ} → ids ≡ held n (groupOne 2 1 k) → ids .len ≤ 3
+  pub room : {ids : RowIds} {n : ℕ} → ids ≡ idsArray n (groupOne 2 1 k) → ids .len ≤ 3
   room e = omega (arith, ap (λ r. r .len) e, motors-and-locks 2 1 k, length-append (groupOne 2 1 k) (lockIds 2 1 k))
 
-  pub room-locks : {ids : RowIds} {n : ℕ} → ids ≡ held n (groupOne 2 1 k ++ lockIds 2 1 k) → ids .len ≤ 3
+  pub room-locks : {ids : RowIds} {n : ℕ} → ids ≡ idsArray n (groupOne 2 1 k ++ lockIds 2 1 k) → ids .len ≤ 3
   room-locks e = omega (arith, ap (λ r. r .len) e, motors-and-locks 2 1 k)
 
   -- where Limit(F) is named, one of the limits outside C is missing
-  pub room-last : {ids : RowIds} {n : ℕ} (l : List WritebackId) {s : Bool} → ids ≡ held n (l ++ map Limit (keep limitOutside (inOrder 2 1)))
+  pub room-last : {ids : RowIds} {n : ℕ} (l : List WritebackId) {s : Bool} → ids ≡ idsArray n (l ++ map Limit (keep limitOutside (inOrder 2 1)))
       → length l ≤ 3 → s ≡ some (isLimit k) (firstCoupled 2 k) → s ≡ true → ids .len < 6
   room-last l e h es t =
       let named : bit (some (isLimit k) (firstCoupled 2 k)) ≡ 1 = ap bit (sym es ∙ t) in

@@ -16,7 +16,7 @@ use Rattle.rows.specs.declared.joint_constraint_builder.Warmstart.the-va
 use Rattle.rows.specs.declared.joint_velocity_constraint.JointConstraint.{JointConstraint}
 use Rattle.rows.specs.declared.joint_velocity_constraint.WritebackId.{WritebackId}
 use Rattle.rows.specs.Row.{withImpulse}
-use Rattle.rows.specs.Finalize.{orthogonaliseN, imSumOf, rowDotOf, headOf, isLock, lessOf, pairOf, finalizeOf}
+use Rattle.rows.specs.Finalize.{orthogonaliseN, imSumOf, rowDotOf, headOf, isLock, lessOf, reduceOf, finalizeOf}
 use Rattle.rows.specs.Builder.{seedOf, warmedOf, warmedAll}
 
 -- ---- one row
@@ -30,12 +30,12 @@ module _ (im : Vector) (x : Float) (c : JointConstraint) where
   unfolding isLock withImpulse
   lock-impulse = refl
 
-  by-impulse : pairOf im (withImpulse c x) ≡ pairOf im c
-  unfolding pairOf lessOf rowDotOf withImpulse
+  by-impulse : reduceOf im (withImpulse c x) ≡ reduceOf im c
+  unfolding reduceOf lessOf rowDotOf withImpulse
   by-impulse = refl
 
-  pair-impulse : (d : JointConstraint) → pairOf im d (withImpulse c x) ≡ withImpulse (pairOf im d c) x
-  unfolding pairOf lessOf rowDotOf withImpulse
+  pair-impulse : (d : JointConstraint) → reduceOf im d (withImpulse c x) ≡ withImpulse (reduceOf im d c) x
+  unfolding reduceOf lessOf rowDotOf withImpulse
   pair-impulse d = refl
 
   sum-impulse : imSumOf (withImpulse c x) ≡ imSumOf c
@@ -54,13 +54,13 @@ lock-warmed im Cold s x p c = refl
 lock-warmed im (Warm k) zero x p c = lock-impulse im _ c
 lock-warmed im (Warm k) (suc s) x p c = lock-impulse im _ c
 
-by-warmed : (im : Vector) (w : Warmstart) (s : ℕ) (x p : Float) (c : JointConstraint) → pairOf im (warmedOf w s x p c) ≡ pairOf im c
+by-warmed : (im : Vector) (w : Warmstart) (s : ℕ) (x p : Float) (c : JointConstraint) → reduceOf im (warmedOf w s x p c) ≡ reduceOf im c
 unfolding warmedOf
 by-warmed im Cold s x p c = refl
 by-warmed im (Warm k) zero x p c = by-impulse im _ c
 by-warmed im (Warm k) (suc s) x p c = by-impulse im _ c
 
-pair-warmed : (im : Vector) (w : Warmstart) (s : ℕ) (x p : Float) (c : JointConstraint) (d : JointConstraint) → pairOf im d (warmedOf w s x p c) ≡ warmedOf w s x p (pairOf im d c)
+pair-warmed : (im : Vector) (w : Warmstart) (s : ℕ) (x p : Float) (c : JointConstraint) (d : JointConstraint) → reduceOf im d (warmedOf w s x p c) ≡ warmedOf w s x p (reduceOf im d c)
 unfolding warmedOf
 pair-warmed im Cold s x p c d = refl
 pair-warmed im (Warm k) zero x p c d = pair-impulse im _ c d
@@ -79,7 +79,7 @@ module _ (warm : Warmstart) (substep : ℕ) (joint : ImpulseJoint) where
   all = warmedAll warm substep joint
 
   map-warmed : (im : Vector) (d : JointConstraint) (is : List WritebackId) (ps : List Float) (cs : List JointConstraint)
-      → map (pairOf im d) (all is ps cs) ≡ all is ps (map (pairOf im d) cs)
+      → map (reduceOf im d) (all is ps cs) ≡ all is ps (map (reduceOf im d) cs)
   unfolding warmedAll
   map-warmed im d [] ps cs = refl
   map-warmed im d (i ∷ is) ps [] = refl
@@ -87,12 +87,12 @@ module _ (warm : Warmstart) (substep : ℕ) (joint : ImpulseJoint) where
 
   -- the rows after a row, reduced by it or not
   rest-warmed : (im : Vector) (t : Bool) (d : JointConstraint) (is : List WritebackId) (ps : List Float) (cs : List JointConstraint)
-      → cond t (map (pairOf im d) (all is ps cs)) (all is ps cs) ≡ all is ps (cond t (map (pairOf im d) cs) cs)
+      → cond t (map (reduceOf im d) (all is ps cs)) (all is ps cs) ≡ all is ps (cond t (map (reduceOf im d) cs) cs)
   rest-warmed im true d is ps cs = map-warmed im d is ps cs
   rest-warmed im false d is ps cs = refl
 
   orthogonalise-warmed : (im : Vector) (n : ℕ) (is : List WritebackId) (ps : List Float) (cs : List JointConstraint)
-      → orthogonaliseN (headOf im) isLock (pairOf im) n (all is ps cs) ≡ all is ps (orthogonaliseN (headOf im) isLock (pairOf im) n cs)
+      → orthogonaliseN (headOf im) isLock (reduceOf im) n (all is ps cs) ≡ all is ps (orthogonaliseN (headOf im) isLock (reduceOf im) n cs)
   unfolding warmedAll orthogonaliseN
   orthogonalise-warmed im zero is ps cs = refl
   orthogonalise-warmed im (suc n) [] ps [] = refl
@@ -107,7 +107,7 @@ module _ (warm : Warmstart) (substep : ℕ) (joint : ImpulseJoint) where
         lock-warmed im warm substep seed p d,
         by-warmed im warm substep seed p d,
         rest-warmed im (isLock d) d is (drop 1 ps) cs,
-        orthogonalise-warmed im n is (drop 1 ps) (cond (isLock d) (map (pairOf im d) cs) cs),
+        orthogonalise-warmed im n is (drop 1 ps) (cond (isLock d) (map (reduceOf im d) cs) cs),
       )
 
   length-all : (is : List WritebackId) (ps : List Float) (cs : List JointConstraint) → length cs ≡ length is → length is ≤ length ps → length (all is ps cs) ≡ length cs
@@ -129,8 +129,8 @@ module _ (warm : Warmstart) (substep : ℕ) (joint : ImpulseJoint) where
       let im : Vector = imSumOf c in
       let same : imSumOf (warmedOf warm substep (seedOf joint i) p c) ≡ im = sum-warmed im warm substep (seedOf joint i) p c in
       let count : length (all is ps cs) ≡ length cs = length-all is ps cs (omega (arith, e)) (le-of-suc-le-suc h) in
-      ap (λ (v : Vector). orthogonaliseN (headOf v) isLock (pairOf v) (length (all (i ∷ is) (p ∷ ps) (c ∷ cs))) (all (i ∷ is) (p ∷ ps) (c ∷ cs))) same
-      ∙ ap (λ (n : ℕ). orthogonaliseN (headOf im) isLock (pairOf im) (suc n) (all (i ∷ is) (p ∷ ps) (c ∷ cs))) count
+      ap (λ (v : Vector). orthogonaliseN (headOf v) isLock (reduceOf v) (length (all (i ∷ is) (p ∷ ps) (c ∷ cs))) (all (i ∷ is) (p ∷ ps) (c ∷ cs))) same
+      ∙ ap (λ (n : ℕ). orthogonaliseN (headOf im) isLock (reduceOf im) (suc n) (all (i ∷ is) (p ∷ ps) (c ∷ cs))) count
       ∙ orthogonalise-warmed im (suc (length cs)) (i ∷ is) (p ∷ ps) (c ∷ cs)
 
   -- two groups' rows, one after the other

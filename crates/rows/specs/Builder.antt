@@ -1,6 +1,6 @@
 -- The Rust's joint_constraint_builder.rs: `update`, after `update_warmstart_seeds`.
 use Prim.Native.Nat.{ℕ, zero, suc}
-use mathlib.Core.List.{List, [], _∷_, _++_}
+use mathlib.Core.List.{List, [], _∷_}
 use lib.ListN.{getD, drop}
 use lib.Ieee.{Float, nan}
 use Rattle.floats.specs.Operators.{bits, _⊗_}
@@ -8,10 +8,10 @@ use Rattle.floats.specs.Pose.{poseProductOf}
 use Rattle.rows.specs.GenericJoint.{limitsAt, motorAt}
 use Rattle.rows.specs.RowIds.{rowIds}
 use Rattle.rows.specs.Helper.{angularLimitParamsOf}
+use Rattle.rows.specs.Makers.{twoBodies}
 use Rattle.rows.specs.Update.{contextOf, updateOf}
 use Rattle.rows.specs.Row.{withImpulse}
 use Rattle.rows.specs.declared.integration_parameters.IntegrationParameters.{IntegrationParameters}
-use Rattle.rows.specs.declared.generic_joint.GenericJoint.{GenericJoint}
 use Rattle.rows.specs.declared.joint_constraint_builder.SolverPose.{SolverPose}
 use Rattle.rows.specs.declared.joint_constraint_builder.ImpulseJoint.{ImpulseJoint}
 use Rattle.rows.specs.declared.joint_constraint_builder.Warmstart.{Warmstart}
@@ -30,8 +30,10 @@ solverBodyOf b = record { im = b .im; ii = b .ii; «world_com» = b .pose .trans
 unfoldable pub jointContextOf : IntegrationParameters → SolverPose → SolverPose → ImpulseJoint → RowContext
 jointContextOf params body1 body2 joint =
     let «data» = joint .«data» in
-    contextOf params (solverBodyOf body1) (solverBodyOf body2) (poseProductOf (body1 .pose) («data» .«local_frame1»)) (poseProductOf (body2 .pose) («data» .«local_frame2»))
-    «data» (angularLimitParamsOf (limitsAt «data» 2 .min) (limitsAt «data» 2 .max) (joint .center))
+    let frame1 = poseProductOf (body1 .pose) («data» .«local_frame1») in
+    let frame2 = poseProductOf (body2 .pose) («data» .«local_frame2») in
+    let angLimit = angularLimitParamsOf (limitsAt «data» 2 .min) (limitsAt «data» 2 .max) (joint .center) in
+    contextOf params (twoBodies (solverBodyOf body1) (solverBodyOf body2)) frame1 frame2 «data» angLimit
 
 -- an id's stored impulse: its seed
 unfoldable pub seedOf : ImpulseJoint → WritebackId → Float

@@ -27,8 +27,8 @@ Holds (angle re im r) = angleOf (bits re) (bits im) ≡ bits r
 Holds (report x r) = microReportOf (bits x) ≡ r
 
 -- document 01's table; the reports are request R-3's
-abbrev pub table : List Case
-table =
+abbrev pub cases : List Case
+cases =
     masks 3 4 4 0 (Motor 2 ∷ Dof 0 ∷ Dof 1 ∷ Limit 2 ∷ [])
     ∷ masks 0 7 7 0 (Motor 2 ∷ Motor 0 ∷ Motor 1 ∷ Limit 2 ∷ Limit 0 ∷ Limit 1 ∷ [])
     ∷ masks 0 1 0 3 (Limit 0 ∷ [])

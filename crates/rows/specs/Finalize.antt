@@ -12,15 +12,15 @@ use Rattle.floats.specs.declared.vector.Vector.{Vector}
 use Rattle.rows.specs.Row.{withInvLhs, withCfmGain}
 use Rattle.rows.specs.declared.joint_velocity_constraint.JointConstraint.{JointConstraint}
 
--- The modified Gram-Schmidt process. Each of n rows in turn is finished by its head step; if it is a lock, each later row is reduced by it in a pair step.
+-- The modified Gram-Schmidt process. Each of n rows in turn is finished by its head step; if it is a lock, each later row is reduced by it.
 unfoldable pub orthogonaliseN : {Row : Type 0} → (Row → Row) → (Row → Bool) → (Row → Row → Row) → ℕ → List Row → List Row
-orthogonaliseN head lock pair zero cs = cs
-orthogonaliseN head lock pair (suc n) [] = []
-orthogonaliseN head lock pair (suc n) (c ∷ cs) =
-    head c ∷ orthogonaliseN head lock pair n (cond (lock (head c)) (map (pair (head c)) cs) cs)
+orthogonaliseN head lock reduce zero cs = cs
+orthogonaliseN head lock reduce (suc n) [] = []
+orthogonaliseN head lock reduce (suc n) (c ∷ cs) =
+    head c ∷ orthogonaliseN head lock reduce n (cond (lock (head c)) (map (reduce (head c)) cs) cs)
 
 abbrev pub orthogonalise : {Row : Type 0} → (Row → Row) → (Row → Bool) → (Row → Row → Row) → List Row → List Row
-orthogonalise head lock pair cs = orthogonaliseN head lock pair (length cs) cs
+orthogonalise head lock reduce cs = orthogonaliseN head lock reduce (length cs) cs
 
 -- ---- the rows of a joint
 
@@ -64,14 +64,22 @@ lessOf ci cj coeff = record {
   im2 = ci .im2;
 }
 
--- the pair step: row c_i made orthogonal to the lock c_j, so that J_i M⁻¹ J_jᵀ is 0 but for rounding
-unfoldable pub pairOf : Vector → JointConstraint → JointConstraint → JointConstraint
-pairOf imsum cj ci = lessOf ci cj (rowDotOf imsum ci cj ⊗ simdInvOf (rowDotOf imsum cj cj))
+-- the Rust's inv_dot_jj: the effective mass of row c_j, without softness
+abbrev pub invDotOf : Vector → JointConstraint → Float
+invDotOf imsum cj = simdInvOf (rowDotOf imsum cj cj)
+
+-- the step of a pair of rows: row c_i less its part along row c_j, with inv_dot_jj at hand
+abbrev pub pairOf : Vector → Float → JointConstraint → JointConstraint → JointConstraint
+pairOf imsum invDotJj cj ci = lessOf ci cj (rowDotOf imsum ci cj ⊗ invDotJj)
+
+-- row c_i made orthogonal to the lock c_j, so that J_i M⁻¹ J_jᵀ is 0 but for rounding
+unfoldable pub reduceOf : Vector → JointConstraint → JointConstraint → JointConstraint
+reduceOf imsum cj ci = pairOf imsum (invDotOf imsum cj) cj ci
 
 -- `finalize_constraints`
 unfoldable pub finalizeOf : List JointConstraint → List JointConstraint
 finalizeOf [] = []
-finalizeOf (c ∷ cs) = orthogonalise (headOf (imSumOf c)) isLock (pairOf (imSumOf c)) (c ∷ cs)
+finalizeOf (c ∷ cs) = orthogonalise (headOf (imSumOf c)) isLock (reduceOf (imSumOf c)) (c ∷ cs)
 
 -- the first n of a list of rows orthogonalised as one group; the rows after them stay
 unfoldable pub finalizeFirst : ℕ → List JointConstraint → List JointConstraint

@@ -88,6 +88,7 @@ coupledStepOf h c coupled i =
     })
     c
 
+-- the sums before any axis
 abbrev pub noAxis : RowAxis
 noAxis = record { dist = bits 0; «lin_jac» = record { x = bits 0; y = bits 0 }; «ang_jac1» = bits 0; «ang_jac2» = bits 0 }
 

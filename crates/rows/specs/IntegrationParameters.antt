@@ -1,6 +1,6 @@
 -- The Rust's integration_parameters.rs: softness, and what a row reads of the settings.
 -- A joint's softness is a spring and a damper, by natural frequency (1/s) and damping ratio. For a timestep dt they are the row's erp, the "error reduction
--- parameter", the part of a position's error that one step corrects, and its cfm, "constraint force mixing", the part by which J M⁻¹ Jᵀ is softened.
+-- parameter", the part of a position's error that one step corrects, and its cfm, "constraint force mixing", the part by which J M⁻¹ Jᵀ is softened. dt is in seconds.
 use mathlib.Core.Bool.{cond}
 use lib.Ieee.{Float, eq, ne}
 use Rattle.floats.specs.Operators.{bits, _⊕_, _⊖_, _⊗_, _⊘_}
@@ -8,7 +8,7 @@ use Rattle.floats.specs.Constants.{one, two, four, twoPi, maxFloat}
 use Rattle.rows.specs.declared.integration_parameters.SpringCoefficients.{SpringCoefficients}
 use Rattle.rows.specs.declared.integration_parameters.IntegrationParameters.{IntegrationParameters}
 
--- `angular_frequency`
+-- `angular_frequency`, in rad/s
 unfoldable pub angularFrequencyOf : SpringCoefficients → Float
 angularFrequencyOf s = s .«natural_frequency» ⊗ twoPi
 
@@ -41,7 +41,7 @@ cfmCoeffOf s dt =
 unfoldable pub invDtOf : IntegrationParameters → Float
 invDtOf p = cond (eq (p .dt) (bits 0)) (bits 0) (one ⊘ p .dt)
 
--- `max_corrective_velocity`
+-- `max_corrective_velocity`: the most that a limit's bias asks for, in m/s and, of an angular limit, in rad/s
 unfoldable pub maxCorrectiveVelocityOf : IntegrationParameters → Float
 maxCorrectiveVelocityOf p =
     cond (ne (p .«normalized_max_corrective_velocity») maxFloat) (p .«normalized_max_corrective_velocity» ⊗ p .«length_unit») maxFloat

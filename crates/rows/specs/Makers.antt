@@ -24,6 +24,22 @@ use Rattle.rows.specs.declared.joint_constraint_helper.MotorLimits.the-v
 use Rattle.rows.specs.declared.joint_velocity_constraint.JointSolverBody.{JointSolverBody}
 use Rattle.rows.specs.declared.joint_velocity_constraint.JointConstraint.{JointConstraint}
 
+-- a row's two bodies
+pub record TwoBodies : Type 0 where
+  pub body1 : JointSolverBody
+  pub body2 : JointSolverBody
+
+abbrev pub twoBodies : JointSolverBody → JointSolverBody → TwoBodies
+twoBodies body1 body2 = record { body1 = body1; body2 = body2 }
+
+-- the softness of a joint's locks and limits at a timestep: erp / dt, and cfm as a part of J M⁻¹ Jᵀ
+pub record ErpCfm : Type 0 where
+  pub erpInvDt : Float
+  pub cfmCoeff : Float
+
+abbrev pub erpCfm : Float → Float → ErpCfm
+erpCfm erpInvDt cfmCoeff = record { erpInvDt = erpInvDt; cfmCoeff = cfmCoeff }
+
 -- a row's right-hand side, with and without its bias, and its softness
 pub record RowTerms : Type 0 where
   pub rhs : Float
@@ -32,23 +48,23 @@ pub record RowTerms : Type 0 where
   pub cfmGain : Float
 
 -- The literal that ends the Rust's makers: impulse 0, and an inverse left-hand side that comes with its group.
-unfoldable pub assembleOf : JointSolverBody → JointSolverBody → RowAxis → ImpulseBounds → RowTerms → JointConstraint
-assembleOf body1 body2 axis bounds terms = record {
+unfoldable pub assembleOf : TwoBodies → RowAxis → ImpulseBounds → RowTerms → JointConstraint
+assembleOf bodies axis bounds terms = record {
   impulse = bits 0;
   «impulse_min» = bounds .min;
   «impulse_max» = bounds .max;
   «lin_jac» = axis .«lin_jac»;
   «ang_jac1» = axis .«ang_jac1»;
   «ang_jac2» = axis .«ang_jac2»;
-  «ii_ang_jac1» = transformVectorOf (body1 .ii) (axis .«ang_jac1»);
-  «ii_ang_jac2» = transformVectorOf (body2 .ii) (axis .«ang_jac2»);
+  «ii_ang_jac1» = transformVectorOf (bodies .body1 .ii) (axis .«ang_jac1»);
+  «ii_ang_jac2» = transformVectorOf (bodies .body2 .ii) (axis .«ang_jac2»);
   «inv_lhs» = bits 0;
   rhs = terms .rhs;
   «rhs_wo_bias» = terms .rhsWoBias;
   «cfm_gain» = terms .cfmGain;
   «cfm_coeff» = terms .cfmCoeff;
-  im1 = body1 .im;
-  im2 = body2 .im;
+  im1 = bodies .body1 .im;
+  im2 = bodies .body2 .im;
 }
 
 -- ---- locks
@@ -58,17 +74,17 @@ unfoldable pub lockBounds : ImpulseBounds
 lockBounds = record { min = neg maxFloat; max = maxFloat }
 
 -- `lock_linear`: its bias takes the error along the axis back, at erp / dt
-unfoldable pub lockLinearOf : JointConstraintHelper → JointSolverBody → JointSolverBody → ℕ → Float → Float → JointConstraint
-lockLinearOf h body1 body2 i erpInvDt cfmCoeff =
+unfoldable pub lockLinearOf : JointConstraintHelper → TwoBodies → ℕ → ErpCfm → JointConstraint
+lockLinearOf h bodies i soft =
     let axis = linearAxisOf h i in
-    let bias = gdotOf (axis .«lin_jac») (h .«lin_err») ⊗ erpInvDt in
-    assembleOf body1 body2 axis lockBounds (record { rhs = bits 0 ⊕ bias; rhsWoBias = bits 0; cfmCoeff = cfmCoeff; cfmGain = bits 0 })
+    let bias = gdotOf (axis .«lin_jac») (h .«lin_err») ⊗ soft .erpInvDt in
+    assembleOf bodies axis lockBounds (record { rhs = bits 0 ⊕ bias; rhsWoBias = bits 0; cfmCoeff = soft .cfmCoeff; cfmGain = bits 0 })
 
 -- `lock_angular`
-unfoldable pub lockAngularOf : JointConstraintHelper → JointSolverBody → JointSolverBody → Float → Float → JointConstraint
-lockAngularOf h body1 body2 erpInvDt cfmCoeff =
-    let bias = h .«ang_err» .im ⊗ erpInvDt in
-    assembleOf body1 body2 angularAxis lockBounds (record { rhs = bits 0 ⊕ bias; rhsWoBias = bits 0; cfmCoeff = cfmCoeff; cfmGain = bits 0 })
+unfoldable pub lockAngularOf : JointConstraintHelper → TwoBodies → ErpCfm → JointConstraint
+lockAngularOf h bodies soft =
+    let bias = h .«ang_err» .im ⊗ soft .erpInvDt in
+    assembleOf bodies angularAxis lockBounds (record { rhs = bits 0 ⊕ bias; rhsWoBias = bits 0; cfmCoeff = soft .cfmCoeff; cfmGain = bits 0 })
 
 -- ---- limits
 
@@ -85,24 +101,24 @@ unfoldable pub limitBiasOf : IntegrationParameters → Float → Float → Float
 limitBiasOf p dist low high erpInvDt = cappedOf p ((maxOf (dist ⊖ high) (bits 0) ⊖ maxOf (low ⊖ dist) (bits 0)) ⊗ erpInvDt)
 
 -- `limit_linear`: the lock's row, with three fields overwritten
-unfoldable pub limitLinearOf : JointConstraintHelper → IntegrationParameters → JointSolverBody → JointSolverBody → ℕ → LimitEnds → Float → Float → JointConstraint
-limitLinearOf h p body1 body2 i limits erpInvDt cfmCoeff =
-    let lock = lockLinearOf h body1 body2 i erpInvDt cfmCoeff in
+unfoldable pub limitLinearOf : JointConstraintHelper → IntegrationParameters → TwoBodies → ℕ → LimitEnds → ErpCfm → JointConstraint
+limitLinearOf h p bodies i limits soft =
+    let lock = lockLinearOf h bodies i soft in
     let dist = gdotOf (h .«lin_err») (lock .«lin_jac») in
-    let bias = limitBiasOf p dist (limits .min) (limits .max) erpInvDt in
+    let bias = limitBiasOf p dist (limits .min) (limits .max) (soft .erpInvDt) in
     let moved = withRhs lock (lock .«rhs_wo_bias» ⊕ bias) in
-    let soft = withCfmCoeff moved cfmCoeff in
-    withBounds soft (limitBoundsOf dist (limits .min) (limits .max))
+    let softened = withCfmCoeff moved (soft .cfmCoeff) in
+    withBounds softened (limitBoundsOf dist (limits .min) (limits .max))
 
 -- `limit_linear_coupled`: always [0, infinity], and only the upper end is read
-unfoldable pub limitLinearCoupledOf : JointConstraintHelper → IntegrationParameters → JointSolverBody → JointSolverBody → ℕ → LimitEnds → Float → Float → JointConstraint
-limitLinearCoupledOf h p body1 body2 coupled limits erpInvDt cfmCoeff =
+unfoldable pub limitLinearCoupledOf : JointConstraintHelper → IntegrationParameters → TwoBodies → ℕ → LimitEnds → ErpCfm → JointConstraint
+limitLinearCoupledOf h p bodies coupled limits soft =
     let axis = coupledAxisOf h coupled in
     let passed = axis .dist ⊖ limits .max in
     let rhsWoBias = minOf passed (bits 0) ⊗ invDtOf p in
-    let bias = cappedOf p (maxOf passed (bits 0) ⊗ erpInvDt) in
+    let bias = cappedOf p (maxOf passed (bits 0) ⊗ soft .erpInvDt) in
     let bounds : ImpulseBounds = record { min = bits 0; max = inf false } in
-    assembleOf body1 body2 axis bounds (record { rhs = rhsWoBias ⊕ bias; rhsWoBias = rhsWoBias; cfmCoeff = cfmCoeff; cfmGain = bits 0 })
+    assembleOf bodies axis bounds (record { rhs = rhsWoBias ⊕ bias; rhsWoBias = rhsWoBias; cfmCoeff = soft .cfmCoeff; cfmGain = bits 0 })
 
 -- `recentered_angle`: the joint's angle from its limit's centre
 unfoldable pub recenteredAngleOf : JointConstraintHelper → AngularLimitParams → Float
@@ -112,12 +128,12 @@ recenteredAngleOf h limit =
     angleOf (c .re ⊗ e .re ⊕ c .im ⊗ e .im) (c .re ⊗ e .im ⊖ c .im ⊗ e .re)
 
 -- `limit_angular`
-unfoldable pub limitAngularOf : JointConstraintHelper → IntegrationParameters → JointSolverBody → JointSolverBody → AngularLimitParams → Float → Float → JointConstraint
-limitAngularOf h p body1 body2 limit erpInvDt cfmCoeff =
+unfoldable pub limitAngularOf : JointConstraintHelper → IntegrationParameters → TwoBodies → AngularLimitParams → ErpCfm → JointConstraint
+limitAngularOf h p bodies limit soft =
     let ang = recenteredAngleOf h limit in
     let high = limit .«half_range» in
-    let bias = limitBiasOf p ang (neg high) high erpInvDt in
-    assembleOf body1 body2 angularAxis (limitBoundsOf ang (neg high) high) (record { rhs = bits 0 ⊕ bias; rhsWoBias = bits 0; cfmCoeff = cfmCoeff; cfmGain = bits 0 })
+    let bias = limitBiasOf p ang (neg high) high (soft .erpInvDt) in
+    assembleOf bodies angularAxis (limitBoundsOf ang (neg high) high) (record { rhs = bits 0 ⊕ bias; rhsWoBias = bits 0; cfmCoeff = soft .cfmCoeff; cfmGain = bits 0 })
 
 -- ---- motors
 
@@ -136,24 +152,24 @@ unfoldable pub motorBoundsOf : MotorParameters → ImpulseBounds
 motorBoundsOf m = record { min = neg (m .«max_impulse»); max = m .«max_impulse» }
 
 -- a motor's row: its right-hand side has no bias
-unfoldable pub motorRowOf : JointSolverBody → JointSolverBody → RowAxis → MotorParameters → Float → JointConstraint
-motorRowOf body1 body2 axis m rhs =
-    assembleOf body1 body2 axis (motorBoundsOf m) (record { rhs = rhs; rhsWoBias = rhs; cfmCoeff = m .«cfm_coeff»; cfmGain = m .«cfm_gain» })
+unfoldable pub motorRowOf : TwoBodies → RowAxis → MotorParameters → Float → JointConstraint
+motorRowOf bodies axis m rhs =
+    assembleOf bodies axis (motorBoundsOf m) (record { rhs = rhs; rhsWoBias = rhs; cfmCoeff = m .«cfm_coeff»; cfmGain = m .«cfm_gain» })
 
 -- `motor_linear`: the lock's row with no softness, with five fields overwritten
-unfoldable pub motorLinearOf : JointConstraintHelper → IntegrationParameters → JointSolverBody → JointSolverBody → ℕ → MotorParameters → MotorLimits → JointConstraint
-motorLinearOf h p body1 body2 i m limits =
-    let lock = lockLinearOf h body1 body2 i (bits 0) (bits 0) in
+unfoldable pub motorLinearOf : JointConstraintHelper → IntegrationParameters → TwoBodies → ℕ → MotorParameters → MotorLimits → JointConstraint
+motorLinearOf h p bodies i m limits =
+    let lock = lockLinearOf h bodies i (erpCfm (bits 0) (bits 0)) in
     let rhs = motorRhsOf p m limits (gdotOf (h .«lin_err») (lock .«lin_jac»)) in
-    let soft = withCfmGain (withCfmCoeff lock (m .«cfm_coeff»)) (m .«cfm_gain») in
-    let bounded = withBounds soft (motorBoundsOf m) in
+    let softened = withCfmGain (withCfmCoeff lock (m .«cfm_coeff»)) (m .«cfm_gain») in
+    let bounded = withBounds softened (motorBoundsOf m) in
     withRhsWoBias (withRhs bounded rhs) rhs
 
 -- `motor_linear_coupled`
-unfoldable pub motorLinearCoupledOf : JointConstraintHelper → IntegrationParameters → JointSolverBody → JointSolverBody → ℕ → MotorParameters → MotorLimits → JointConstraint
-motorLinearCoupledOf h p body1 body2 coupled m limits =
+unfoldable pub motorLinearCoupledOf : JointConstraintHelper → IntegrationParameters → TwoBodies → ℕ → MotorParameters → MotorLimits → JointConstraint
+motorLinearCoupledOf h p bodies coupled m limits =
     let axis = coupledAxisOf h coupled in
-    motorRowOf body1 body2 axis m (motorRhsOf p m limits (axis .dist))
+    motorRowOf bodies axis m (motorRhsOf p m limits (axis .dist))
 
 -- an angular motor's right-hand side: `ang_err.angle()` is document 01's angle
 unfoldable pub motorAngularRhsOf : JointConstraintHelper → MotorParameters → Float
@@ -164,5 +180,5 @@ motorAngularRhsOf h m =
     spring ⊕ neg (m .«target_vel»)
 
 -- `motor_angular`
-unfoldable pub motorAngularOf : JointConstraintHelper → JointSolverBody → JointSolverBody → MotorParameters → JointConstraint
-motorAngularOf h body1 body2 m = motorRowOf body1 body2 angularAxis m (motorAngularRhsOf h m)
+unfoldable pub motorAngularOf : JointConstraintHelper → TwoBodies → MotorParameters → JointConstraint
+motorAngularOf h bodies m = motorRowOf bodies angularAxis m (motorAngularRhsOf h m)

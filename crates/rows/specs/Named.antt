@@ -11,9 +11,9 @@ use Rattle.rows.specs.declared.joint_constraint_builder.ImpulseJoint.{Im
 use Rattle.rows.specs.declared.joint_velocity_constraint.WritebackId.{WritebackId}
 use Rattle.rows.specs.declared.joint_velocity_constraint.WritebackId.the-variants.{Dof, Limit, Motor}
 
--- a joint with these masks has a row with this id
-abbrev pub Names : Masks → WritebackId → Type 0
-Names masks id = List·Memᴰ id (rowIds 2 1 masks)
+-- these masks give a joint a row with this id
+abbrev pub GivesRow : Masks → WritebackId → Type 0
+GivesRow masks id = List·Memᴰ id (rowIds 2 1 masks)
 
 -- Equal contents, unnamed numbers aside. Where Motor(i) isn't named, axis i's motor may differ, its stored impulse included; without Limit(i), its limit ends and
 -- their stored impulse, and for i = 2 the centre; without Dof(i), that Dof impulse.

@@ -100,10 +100,10 @@ filled (suc n) x (a ∷ l) = a ∷ filled n x l
 abbrev pub rowId : WritebackId → RowId
 rowId i = record { id = i }
 
--- a list of ids as the code holds it, of which the first n are group one
-abbrev pub held : ℕ → List WritebackId → RowIds
-held n l = record { ids = filled 6 (rowId (Dof 0)) (map rowId l); first = n; len = length l }
+-- a list of ids as an array, of which the first n are group one
+abbrev pub idsArray : ℕ → List WritebackId → RowIds
+idsArray n l = record { ids = filled 6 (rowId (Dof 0)) (map rowId l); first = n; len = length l }
 
--- the planar joint's ids as the code holds them
+-- the planar joint's ids as an array
 unfoldable pub rowIdsArray : Masks → RowIds
-rowIdsArray k = held (length (groupOne 2 1 k)) (rowIds 2 1 k)
+rowIdsArray k = idsArray (length (groupOne 2 1 k)) (rowIds 2 1 k)

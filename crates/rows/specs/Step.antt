@@ -1,7 +1,5 @@
 -- The Rust's joint_velocity_constraint.rs: what a row does to the velocities of its two bodies.
-use Prim.Native.Nat.{ℕ}
 use lib.Ieee.{Float}
-use lib.ListN.{getD, set}
 use Rattle.floats.specs.Operators.{_⊕_, _⊖_, _⊗_}
 use Rattle.floats.specs.Scalar.{clampOf, sideOf}
 use Rattle.floats.specs.Vector.{addOf, subOf, mulOf, gdotOf, componentMulOf}

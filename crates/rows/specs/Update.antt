@@ -1,18 +1,16 @@
 -- The Rust's joint_velocity_constraint.rs, `update`: a joint's rows, each group orthogonalised by itself.
 use Prim.Native.Nat.{ℕ}
 use mathlib.Core.Bool.{cond}
-use mathlib.Core.List.{List, [], _∷_, _++_, map}
+use mathlib.Core.List.{List, _++_, map}
 use lib.Dec.{eqb}
-use lib.ListN.{length, getD, take, drop}
-use lib.Ieee.{Float}
+use lib.ListN.{length, take}
 use Rattle.floats.specs.Operators.{bits}
-use Rattle.floats.specs.declared.vector.Vector.{Vector}
 use Rattle.floats.specs.declared.pose.Pose.{Pose}
 use Rattle.rows.specs.IntegrationParameters.{erpInvDtOf, cfmCoeffOf}
 use Rattle.rows.specs.GenericJoint.{limitsAt, motorAt, motorParamsOf}
 use Rattle.rows.specs.RowIds.{isLimit, isCoupled, groupOne, groupTwo, filled}
 use Rattle.rows.specs.Helper.{newOf}
-use Rattle.rows.specs.Makers.{lockLinearOf, lockAngularOf, limitLinearOf, limitLinearCoupledOf, limitAngularOf, motorLinearOf, motorLinearCoupledOf, motorAngularOf}
+use Rattle.rows.specs.Makers.{TwoBodies, twoBodies, ErpCfm, erpCfm, lockLinearOf, lockAngularOf, limitLinearOf, limitLinearCoupledOf, limitAngularOf, motorLinearOf, motorLinearCoupledOf, motorAngularOf}
 use Rattle.rows.specs.Finalize.{finalizeOf}
 use Rattle.rows.specs.declared.integration_parameters.IntegrationParameters.{IntegrationParameters}
 use Rattle.rows.specs.declared.generic_joint.GenericJoint.{GenericJoint}
@@ -20,7 +18,7 @@ use Rattle.rows.specs.declared.joint_constraint_helper.AngularLimitParam
 use Rattle.rows.specs.declared.joint_constraint_helper.LimitEnds.{LimitEnds}
 use Rattle.rows.specs.declared.joint_constraint_helper.MotorLimits.{MotorLimits}
 use Rattle.rows.specs.declared.joint_constraint_helper.MotorLimits.the-variants.{Span, None}
-use Rattle.rows.specs.declared.joint_velocity_constraint.JointSolverBody.{JointSolverBody}
+use Rattle.rows.specs.declared.joint_velocity_constraint.MotorParameters.{MotorParameters}
 use Rattle.rows.specs.declared.joint_velocity_constraint.JointConstraint.{JointConstraint}
 use Rattle.rows.specs.declared.joint_velocity_constraint.RowContext.{RowContext}
 use Rattle.rows.specs.declared.joint_velocity_constraint.Rows.{Rows}
@@ -29,17 +27,25 @@ use Rattle.rows.specs.declared.joint_velocity_constraint.WritebackId.{Wr
 use Rattle.rows.specs.declared.joint_velocity_constraint.WritebackId.the-variants.{Dof, Limit, Motor}
 
 -- what a joint's rows are made from
-unfoldable pub contextOf : IntegrationParameters → JointSolverBody → JointSolverBody → Pose → Pose → GenericJoint → AngularLimitParams → RowContext
-contextOf params body1 body2 frame1 frame2 joint angLimit = record {
+unfoldable pub contextOf : IntegrationParameters → TwoBodies → Pose → Pose → GenericJoint → AngularLimitParams → RowContext
+contextOf params bodies frame1 frame2 joint angLimit = record {
   params = params;
-  body1 = body1;
-  body2 = body2;
-  helper = newOf frame1 frame2 (body1 .«world_com») (body2 .«world_com») (joint .masks .«locked_axes»);
+  body1 = bodies .body1;
+  body2 = bodies .body2;
+  helper = newOf frame1 frame2 (bodies .body1 .«world_com») (bodies .body2 .«world_com») (joint .masks .«locked_axes»);
   joint = joint;
   «ang_limit» = angLimit;
   «erp_inv_dt» = erpInvDtOf (joint .softness) (params .dt);
   «cfm_coeff» = cfmCoeffOf (joint .softness) (params .dt);
 }
+
+-- ---- what the makers take of it
+
+abbrev pub bodiesOf : RowContext → TwoBodies
+bodiesOf cx = twoBodies (cx .body1) (cx .body2)
+
+abbrev pub erpCfmOf : RowContext → ErpCfm
+erpCfmOf cx = erpCfm (cx .«erp_inv_dt») (cx .«cfm_coeff»)
 
 -- axis i's two ends
 abbrev pub endsAt : GenericJoint → ℕ → LimitEnds
@@ -49,24 +55,28 @@ endsAt joint i = record { min = limitsAt joint i .min; max = limitsAt joint i .m
 unfoldable pub motorLimitsOf : GenericJoint → ℕ → MotorLimits
 motorLimitsOf joint i = cond (isLimit (joint .masks) i) (Span (limitsAt joint i .min) (limitsAt joint i .max)) None
 
+-- axis i's motor at the timestep
+abbrev pub motorParamsAt : RowContext → ℕ → MotorParameters
+motorParamsAt cx i = motorParamsOf (motorAt (cx .joint) i) (cx .params .dt)
+
 -- the row of an id. Axis 2 is the angular one; a coupled linear axis stands for all coupled ones.
 unfoldable pub rowOf : RowContext → WritebackId → JointConstraint
 rowOf cx (Dof i) =
     cond (eqb i 2)
-    (lockAngularOf (cx .helper) (cx .body1) (cx .body2) (cx .«erp_inv_dt») (cx .«cfm_coeff»))
-    (lockLinearOf (cx .helper) (cx .body1) (cx .body2) i (cx .«erp_inv_dt») (cx .«cfm_coeff»))
+    (lockAngularOf (cx .helper) (bodiesOf cx) (erpCfmOf cx))
+    (lockLinearOf (cx .helper) (bodiesOf cx) i (erpCfmOf cx))
 rowOf cx (Limit i) =
     cond (eqb i 2)
-    (limitAngularOf (cx .helper) (cx .params) (cx .body1) (cx .body2) (cx .«ang_limit») (cx .«erp_inv_dt») (cx .«cfm_coeff»))
+    (limitAngularOf (cx .helper) (cx .params) (bodiesOf cx) (cx .«ang_limit») (erpCfmOf cx))
     (cond (isCoupled (cx .joint .masks) i)
-    (limitLinearCoupledOf (cx .helper) (cx .params) (cx .body1) (cx .body2) (cx .joint .masks .«coupled_axes») (endsAt (cx .joint) i) (cx .«erp_inv_dt») (cx .«cfm_coeff»))
-    (limitLinearOf (cx .helper) (cx .params) (cx .body1) (cx .body2) i (endsAt (cx .joint) i) (cx .«erp_inv_dt») (cx .«cfm_coeff»)))
+    (limitLinearCoupledOf (cx .helper) (cx .params) (bodiesOf cx) (cx .joint .masks .«coupled_axes») (endsAt (cx .joint) i) (erpCfmOf cx))
+    (limitLinearOf (cx .helper) (cx .params) (bodiesOf cx) i (endsAt (cx .joint) i) (erpCfmOf cx)))
 rowOf cx (Motor i) =
     cond (eqb i 2)
-    (motorAngularOf (cx .helper) (cx .body1) (cx .body2) (motorParamsOf (motorAt (cx .joint) i) (cx .params .dt)))
+    (motorAngularOf (cx .helper) (bodiesOf cx) (motorParamsAt cx i))
     (cond (isCoupled (cx .joint .masks) i)
-    (motorLinearCoupledOf (cx .helper) (cx .params) (cx .body1) (cx .body2) (cx .joint .masks .«coupled_axes») (motorParamsOf (motorAt (cx .joint) i) (cx .params .dt)) (motorLimitsOf (cx .joint) i))
-    (motorLinearOf (cx .helper) (cx .params) (cx .body1) (cx .body2) i (motorParamsOf (motorAt (cx .joint) i) (cx .params .dt)) (motorLimitsOf (cx .joint) i)))
+    (motorLinearCoupledOf (cx .helper) (cx .params) (bodiesOf cx) (cx .joint .masks .«coupled_axes») (motorParamsAt cx i) (motorLimitsOf (cx .joint) i))
+    (motorLinearOf (cx .helper) (cx .params) (bodiesOf cx) i (motorParamsAt cx i) (motorLimitsOf (cx .joint) i)))
 
 -- `update`: the rows of group one, then those of group two
 unfoldable pub updateOf : RowContext → List JointConstraint

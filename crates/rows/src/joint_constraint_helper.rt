@@ -1,11 +1,9 @@
 // The Rust's dynamics/solver/joint_constraint/joint_constraint_helper.rs: one function a row kind.
 ghost use mathlib.Core.Path.{_≡_};
 ghost use Prim.Native.Nat.{_≤_};
-ghost use Rattle.floats.specs.Operators.{_⊗_};
-ghost use Rattle.floats.specs.Utils.{simdInvOf};
-ghost use Rattle.rows.specs.Finalize.{imSumOf, rowDotOf, headOf, isLock, lessOf, finalizeOf, finalizeFirst, finalizeGroups};
+ghost use Rattle.rows.specs.Finalize.{imSumOf, rowDotOf, headOf, isLock, lessOf, invDotOf, pairOf, finalizeOf, finalizeFirst, finalizeGroups};
 ghost use Rattle.rows.specs.Helper.{angularLimitParamsOf, snappedOf, newOf, coordOf, linearAxisOf, angularAxis, coupledStepOf, coupledAxisOf};
-ghost use Rattle.rows.specs.Makers.{assembleOf, lockBounds, limitBoundsOf, limitBiasOf, limitedTargetVelOf, motorRhsOf, motorBoundsOf, motorRowOf, limitLinearOf, limitLinearCoupledOf, motorLinearOf, motorLinearCoupledOf, lockLinearOf, recenteredAngleOf, limitAngularOf, motorAngularRhsOf, motorAngularOf, lockAngularOf};
+ghost use Rattle.rows.specs.Makers.{twoBodies, erpCfm, assembleOf, lockBounds, limitBoundsOf, limitBiasOf, limitedTargetVelOf, motorRhsOf, motorBoundsOf, motorRowOf, limitLinearOf, limitLinearCoupledOf, motorLinearOf, motorLinearCoupledOf, lockLinearOf, recenteredAngleOf, limitAngularOf, motorAngularRhsOf, motorAngularOf, lockAngularOf};
 use crate::generic_joint::has_axis;
 use crate::integration_parameters::IntegrationParameters;
 use crate::integration_parameters::MAX;
@@ -200,7 +198,7 @@ pub fn assemble(
     cfm_coeff: f32,
     cfm_gain: f32,
 ) -> JointConstraint
-    ensures { λ r. ⌜ r ≡ assembleOf body1 body2 axis bounds
+    ensures { λ r. ⌜ r ≡ assembleOf (twoBodies body1 body2) axis bounds
         (record { rhs = rhs; rhsWoBias = «rhs_wo_bias»; cfmCoeff = «cfm_coeff»; cfmGain = «cfm_gain» }) ⌝ }
 {
     let lin_jac = axis.lin_jac;
@@ -319,7 +317,7 @@ pub fn motor_row(
     motor_params: MotorParameters,
     rhs: f32,
 ) -> JointConstraint
-    ensures { λ r. ⌜ r ≡ motorRowOf body1 body2 axis «motor_params» rhs ⌝ }
+    ensures { λ r. ⌜ r ≡ motorRowOf (twoBodies body1 body2) axis «motor_params» rhs ⌝ }
 {
     assemble(
         body1,
@@ -371,7 +369,7 @@ impl JointConstraintHelper {
         erp_inv_dt: f32,
         cfm_coeff: f32,
     ) -> JointConstraint
-        ensures { λ r. ⌜ r ≡ limitLinearOf self params body1 body2 «limited_axis» limits «erp_inv_dt» «cfm_coeff» ⌝ }
+        ensures { λ r. ⌜ r ≡ limitLinearOf self params (twoBodies body1 body2) «limited_axis» limits (erpCfm «erp_inv_dt» «cfm_coeff») ⌝ }
     {
         let axis = self.linear_axis(limited_axis);
         let dist = axis.dist;
@@ -399,7 +397,7 @@ impl JointConstraintHelper {
         erp_inv_dt: f32,
         cfm_coeff: f32,
     ) -> JointConstraint
-        ensures { λ r. ⌜ r ≡ limitLinearCoupledOf self params body1 body2 «coupled_axes» limits «erp_inv_dt» «cfm_coeff» ⌝ }
+        ensures { λ r. ⌜ r ≡ limitLinearCoupledOf self params (twoBodies body1 body2) «coupled_axes» limits (erpCfm «erp_inv_dt» «cfm_coeff») ⌝ }
     {
         let axis = self.coupled_axis(coupled_axes);
         let passed = axis.dist - limits.max;
@@ -431,7 +429,7 @@ impl JointConstraintHelper {
         motor_params: MotorParameters,
         limits: MotorLimits,
     ) -> JointConstraint
-        ensures { λ r. ⌜ r ≡ motorLinearOf self params body1 body2 «motor_axis» «motor_params» limits ⌝ }
+        ensures { λ r. ⌜ r ≡ motorLinearOf self params (twoBodies body1 body2) «motor_axis» «motor_params» limits ⌝ }
     {
         let axis = self.linear_axis(motor_axis);
         let rhs = motor_rhs(params, motor_params, limits, axis.dist);
@@ -447,7 +445,7 @@ impl JointConstraintHelper {
         motor_params: MotorParameters,
         limits: MotorLimits,
     ) -> JointConstraint
-        ensures { λ r. ⌜ r ≡ motorLinearCoupledOf self params body1 body2 «coupled_axes» «motor_params» limits ⌝ }
+        ensures { λ r. ⌜ r ≡ motorLinearCoupledOf self params (twoBodies body1 body2) «coupled_axes» «motor_params» limits ⌝ }
     {
         let axis = self.coupled_axis(coupled_axes);
         let rhs = motor_rhs(params, motor_params, limits, axis.dist);
@@ -462,7 +460,7 @@ impl JointConstraintHelper {
         erp_inv_dt: f32,
         cfm_coeff: f32,
     ) -> JointConstraint
-        ensures { λ r. ⌜ r ≡ lockLinearOf self body1 body2 «locked_axis» «erp_inv_dt» «cfm_coeff» ⌝ }
+        ensures { λ r. ⌜ r ≡ lockLinearOf self (twoBodies body1 body2) «locked_axis» (erpCfm «erp_inv_dt» «cfm_coeff») ⌝ }
     {
         let axis = self.linear_axis(locked_axis);
         let lin_jac = axis.lin_jac;
@@ -499,7 +497,7 @@ impl JointConstraintHelper {
         erp_inv_dt: f32,
         cfm_coeff: f32,
     ) -> JointConstraint
-        ensures { λ r. ⌜ r ≡ limitAngularOf self params body1 body2 limit «erp_inv_dt» «cfm_coeff» ⌝ }
+        ensures { λ r. ⌜ r ≡ limitAngularOf self params (twoBodies body1 body2) limit (erpCfm «erp_inv_dt» «cfm_coeff») ⌝ }
     {
         let ang = self.recentered_angle(limit);
         let high = limit.half_range;
@@ -538,7 +536,7 @@ impl JointConstraintHelper {
         body2: JointSolverBody,
         motor_params: MotorParameters,
     ) -> JointConstraint
-        ensures { λ r. ⌜ r ≡ motorAngularOf self body1 body2 «motor_params» ⌝ }
+        ensures { λ r. ⌜ r ≡ motorAngularOf self (twoBodies body1 body2) «motor_params» ⌝ }
     {
         let rhs = self.motor_angular_rhs(motor_params);
         motor_row(body1, body2, angular_axis(), motor_params, rhs)
@@ -551,7 +549,7 @@ impl JointConstraintHelper {
         erp_inv_dt: f32,
         cfm_coeff: f32,
     ) -> JointConstraint
-        ensures { λ r. ⌜ r ≡ lockAngularOf self body1 body2 «erp_inv_dt» «cfm_coeff» ⌝ }
+        ensures { λ r. ⌜ r ≡ lockAngularOf self (twoBodies body1 body2) (erpCfm «erp_inv_dt» «cfm_coeff») ⌝ }
     {
         let ang_err = self.ang_err;
         let rhs_bias = ang_err.im * erp_inv_dt;
@@ -628,7 +626,7 @@ pub fn pair(
     c_j: JointConstraint,
     c_i: JointConstraint,
 ) -> JointConstraint
-    ensures { λ r. ⌜ r ≡ lessOf «c_i» «c_j» (rowDotOf imsum «c_i» «c_j» ⊗ «inv_dot_jj») ⌝ }
+    ensures { λ r. ⌜ r ≡ pairOf imsum «inv_dot_jj» «c_j» «c_i» ⌝ }
 {
     let coeff = row_dot(imsum, c_i, c_j) * inv_dot_jj;
     less(c_i, c_j, coeff)
@@ -636,7 +634,7 @@ pub fn pair(
 
 // The inverse of row j's product with itself.
 pub fn inv_dot(imsum: Vector, c_j: JointConstraint) -> f32
-    ensures { λ r. ⌜ r ≡ simdInvOf (rowDotOf imsum «c_j» «c_j») ⌝ }
+    ensures { λ r. ⌜ r ≡ invDotOf imsum «c_j» ⌝ }
 {
     simd_inv(row_dot(imsum, c_j, c_j))
 }

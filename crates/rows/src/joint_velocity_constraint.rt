@@ -2,6 +2,7 @@
 // to the velocities of its two bodies.
 ghost use mathlib.Core.Path.{_≡_};
 ghost use Prim.Native.Nat.{_≤_};
+ghost use Rattle.rows.specs.Makers.{twoBodies};
 ghost use Rattle.rows.specs.Update.{contextOf, motorLimitsOf, rowOf, updateOf, blankRow, rowsArray, madeRows};
 ghost use Rattle.rows.specs.Step.{wantedImpulseOf, appliedOf, stepOf, warmstartOf, removeBiasOf};
 ghost use Rattle.rows.specs.Row.{withImpulse};
@@ -206,6 +207,7 @@ pub fn solve_row(row: JointConstraint, vel1: SolverVel, vel2: SolverVel) -> Solv
     }
 }
 
+// A row of zeros.
 pub fn blank_row() -> JointConstraint
     ensures { λ r. ⌜ r ≡ blankRow ⌝ }
 {
@@ -251,7 +253,7 @@ impl RowContext {
         joint: GenericJoint,
         ang_limit: AngularLimitParams,
     ) -> RowContext
-        ensures { λ r. ⌜ r ≡ contextOf params body1 body2 frame1 frame2 joint «ang_limit» ⌝ }
+        ensures { λ r. ⌜ r ≡ contextOf params (twoBodies body1 body2) frame1 frame2 joint «ang_limit» ⌝ }
     {
         let masks = joint.masks;
         let softness = joint.softness;

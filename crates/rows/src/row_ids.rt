@@ -5,7 +5,7 @@ ghost use mathlib.Core.List.{List, [], _∷_, _++_};
 ghost use Prim.Native.Nat.{ℕ, _+_, _≤_, _<_};
 ghost use lib.Dec.{ltb};
 ghost use lib.ListN.{length};
-ghost use Rattle.rows.specs.RowIds.{hasAxis, isLocked, isMotor, isLimit, isCoupled, some, keep, inOrder, firstCoupled, sharesLinear, groupOne, lockIds, held, rowIds, rowIdsArray};
+ghost use Rattle.rows.specs.RowIds.{hasAxis, isLocked, isMotor, isLimit, isCoupled, some, keep, inOrder, firstCoupled, sharesLinear, groupOne, lockIds, idsArray, rowIds, rowIdsArray};
 ghost use Rattle.rows.specs.declared.joint_velocity_constraint.WritebackId.{WritebackId};
 use crate::generic_joint::Masks;
 use crate::generic_joint::has_axis;
@@ -94,7 +94,7 @@ impl Masks {
 // The ids with one more at their end, if it is named.
 fn push_if(ids: RowIds, named: bool, id: WritebackId) -> RowIds
     requires { ⌜ (named ≡ true → ids .len < 6) ⌝ }
-    ensures { λ r. ⌜ ((n : ℕ) (l : List WritebackId) → ids ≡ held n l → r ≡ held n (l ++ cond named (id ∷ []) [])) ⌝ }
+    ensures { λ r. ⌜ ((n : ℕ) (l : List WritebackId) → ids ≡ idsArray n l → r ≡ idsArray n (l ++ cond named (id ∷ []) [])) ⌝ }
     ensures { λ r. ⌜ r .len ≤ ids .len + 1 ⌝ }
 {
     if !named {
@@ -112,7 +112,7 @@ fn push_if(ids: RowIds, named: bool, id: WritebackId) -> RowIds
 
 // Group one.
 fn motor_ids(masks: Masks) -> RowIds
-    ensures { λ r. ⌜ r ≡ held 0 (groupOne 2 1 masks) ⌝ }
+    ensures { λ r. ⌜ r ≡ idsArray 0 (groupOne 2 1 masks) ⌝ }
 {
     let none = RowIds {
         ids: [RowId {
@@ -130,8 +130,8 @@ fn motor_ids(masks: Masks) -> RowIds
 
 // Group two's locks, after group one.
 fn lock_ids(ids: RowIds, masks: Masks) -> RowIds
-    requires { ⌜ ids ≡ held (length (groupOne 2 1 masks)) (groupOne 2 1 masks) ⌝ }
-    ensures { λ r. ⌜ r ≡ held (length (groupOne 2 1 masks)) (groupOne 2 1 masks ++ lockIds 2 1 masks) ⌝ }
+    requires { ⌜ ids ≡ idsArray (length (groupOne 2 1 masks)) (groupOne 2 1 masks) ⌝ }
+    ensures { λ r. ⌜ r ≡ idsArray (length (groupOne 2 1 masks)) (groupOne 2 1 masks ++ lockIds 2 1 masks) ⌝ }
 {
     let angular = push_if(ids, masks.is_locked(2), WritebackId::Dof(2));
     let linear0 = push_if(angular, masks.is_locked(0), WritebackId::Dof(0));
@@ -140,7 +140,7 @@ fn lock_ids(ids: RowIds, masks: Masks) -> RowIds
 
 // Group two's limits, after group one and the locks.
 fn limit_ids(ids: RowIds, masks: Masks) -> RowIds
-    requires { ⌜ ids ≡ held (length (groupOne 2 1 masks)) (groupOne 2 1 masks ++ lockIds 2 1 masks) ⌝ }
+    requires { ⌜ ids ≡ idsArray (length (groupOne 2 1 masks)) (groupOne 2 1 masks ++ lockIds 2 1 masks) ⌝ }
     ensures { λ r. ⌜ r ≡ rowIdsArray masks ⌝ }
 {
     let angular = push_if(ids, masks.is_limit_outside(2), WritebackId::Limit(2));

@@ -1,9 +1,8 @@
 -- The rule that a line cites is the one that its row was made by.
 use Prim.Native.Nat.{ℕ}
 use mathlib.Core.Path.{_≡_}
-use Rattle.rows.specs.GenericJoint.{motorAt, motorParamsOf}
 use Rattle.rows.specs.Makers.{lockLinearOf, lockAngularOf, limitLinearOf, limitLinearCoupledOf, limitAngularOf, motorLinearOf, motorLinearCoupledOf, motorAngularOf}
-use Rattle.rows.specs.Update.{endsAt, motorLimitsOf, rowOf}
+use Rattle.rows.specs.Update.{bodiesOf, erpCfmOf, endsAt, motorLimitsOf, motorParamsAt, rowOf}
 use Rattle.rows.specs.declared.joint_velocity_constraint.JointConstraint.{JointConstraint}
 use Rattle.rows.specs.declared.joint_velocity_constraint.RowContext.{RowContext}
 use Rattle.rows.specs.declared.joint_velocity_constraint.WritebackId.{WritebackId}
@@ -14,17 +13,17 @@ use Rattle.study_text.specs.declared.rules.Rule.the-variants.{Motor2, Mo
 
 -- a row of axis i by the definition that `definitionText` names for the rule
 unfoldable pub madeBy : RowContext → ℕ → Rule → JointConstraint
-madeBy cx i Motor2 = motorAngularOf (cx .helper) (cx .body1) (cx .body2) (motorParamsOf (motorAt (cx .joint) i) (cx .params .dt))
-madeBy cx i Motor0 = motorLinearOf (cx .helper) (cx .params) (cx .body1) (cx .body2) i (motorParamsOf (motorAt (cx .joint) i) (cx .params .dt)) (motorLimitsOf (cx .joint) i)
-madeBy cx i Motor1 = motorLinearOf (cx .helper) (cx .params) (cx .body1) (cx .body2) i (motorParamsOf (motorAt (cx .joint) i) (cx .params .dt)) (motorLimitsOf (cx .joint) i)
-madeBy cx i MotorF = motorLinearCoupledOf (cx .helper) (cx .params) (cx .body1) (cx .body2) (cx .joint .masks .«coupled_axes») (motorParamsOf (motorAt (cx .joint) i) (cx .params .dt)) (motorLimitsOf (cx .joint) i)
-madeBy cx i Dof2 = lockAngularOf (cx .helper) (cx .body1) (cx .body2) (cx .«erp_inv_dt») (cx .«cfm_coeff»)
-madeBy cx i Dof0 = lockLinearOf (cx .helper) (cx .body1) (cx .body2) i (cx .«erp_inv_dt») (cx .«cfm_coeff»)
-madeBy cx i Dof1 = lockLinearOf (cx .helper) (cx .body1) (cx .body2) i (cx .«erp_inv_dt») (cx .«cfm_coeff»)
-madeBy cx i Limit2 = limitAngularOf (cx .helper) (cx .params) (cx .body1) (cx .body2) (cx .«ang_limit») (cx .«erp_inv_dt») (cx .«cfm_coeff»)
-madeBy cx i Limit0 = limitLinearOf (cx .helper) (cx .params) (cx .body1) (cx .body2) i (endsAt (cx .joint) i) (cx .«erp_inv_dt») (cx .«cfm_coeff»)
-madeBy cx i Limit1 = limitLinearOf (cx .helper) (cx .params) (cx .body1) (cx .body2) i (endsAt (cx .joint) i) (cx .«erp_inv_dt») (cx .«cfm_coeff»)
-madeBy cx i LimitF = limitLinearCoupledOf (cx .helper) (cx .params) (cx .body1) (cx .body2) (cx .joint .masks .«coupled_axes») (endsAt (cx .joint) i) (cx .«erp_inv_dt») (cx .«cfm_coeff»)
+madeBy cx i Motor2 = motorAngularOf (cx .helper) (bodiesOf cx) (motorParamsAt cx i)
+madeBy cx i Motor0 = motorLinearOf (cx .helper) (cx .params) (bodiesOf cx) i (motorParamsAt cx i) (motorLimitsOf (cx .joint) i)
+madeBy cx i Motor1 = motorLinearOf (cx .helper) (cx .params) (bodiesOf cx) i (motorParamsAt cx i) (motorLimitsOf (cx .joint) i)
+madeBy cx i MotorF = motorLinearCoupledOf (cx .helper) (cx .params) (bodiesOf cx) (cx .joint .masks .«coupled_axes») (motorParamsAt cx i) (motorLimitsOf (cx .joint) i)
+madeBy cx i Dof2 = lockAngularOf (cx .helper) (bodiesOf cx) (erpCfmOf cx)
+madeBy cx i Dof0 = lockLinearOf (cx .helper) (bodiesOf cx) i (erpCfmOf cx)
+madeBy cx i Dof1 = lockLinearOf (cx .helper) (bodiesOf cx) i (erpCfmOf cx)
+madeBy cx i Limit2 = limitAngularOf (cx .helper) (cx .params) (bodiesOf cx) (cx .«ang_limit») (erpCfmOf cx)
+madeBy cx i Limit0 = limitLinearOf (cx .helper) (cx .params) (bodiesOf cx) i (endsAt (cx .joint) i) (erpCfmOf cx)
+madeBy cx i Limit1 = limitLinearOf (cx .helper) (cx .params) (bodiesOf cx) i (endsAt (cx .joint) i) (erpCfmOf cx)
+madeBy cx i LimitF = limitLinearCoupledOf (cx .helper) (cx .params) (bodiesOf cx) (cx .joint .masks .«coupled_axes») (endsAt (cx .joint) i) (erpCfmOf cx)
 
 -- Whatever a row is made from and whatever its id: `update` makes it by its rule's definition.
 abbrev pub Cited : Type 0

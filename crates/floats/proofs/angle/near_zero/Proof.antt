@@ -3,7 +3,7 @@ use mathlib.Core.Path.{_≡_, sym, ap, _∙_}
 use mathlib.Core.Bool.{true, false}
 use borrow.Author.Needs.{needs}
 use lib.Ieee.{Float, lt}
-use Rattle.floats.specs.Operators.{bits}
+use Rattle.floats.specs.Constants.{smallTangent}
 use Rattle.floats.specs.Sign.{signBit, absOf}
 use Rattle.floats.specs.Angle.{nearZero}
 use Rattle.floats.proofs.angle.near_zero.Statement.{statement}
@@ -33,7 +33,7 @@ returns-2 : tie.Need-returns-2
 unfolding nearZero
 returns-2 c =
     simp (right (c .before), sym (flat (c .before)) ∙ c .if2 .taken)
-    (ap (λ (x : Float). lt x (bits 0x3980_0000)) (c .before .before .before .before .before .pre))
+    (ap (λ (x : Float). lt x smallTangent) (c .before .before .before .before .before .pre))
 
 returns-3 : tie.Need-returns-3
 unfolding nearZero

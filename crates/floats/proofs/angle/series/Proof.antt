@@ -7,17 +7,17 @@ use native.Mathlib.Omega.{arith}
 use borrow.Author.Needs.{needs}
 use borrow.Author.Tests.{eqb-true, eqb-false, not-true, not-false}
 use lib.Dec.{eqb}
-use Rattle.floats.specs.Angle.{seriesFrom, terms, withTerm, power, nonzeroPowers}
+use Rattle.floats.specs.Angle.{seriesFrom, termCount, withTerm, power, nonzeroPowers}
 use Rattle.floats.proofs.Series.{Safe, room-even, room-odd, with-even, with-odd, safe-first, safe-next, next-le, square-le, turn, power-next, count-next, stopped, finished}
 use Rattle.floats.proofs.angle.series.Statement.{statement}
 use Rattle.floats.proofs.angle.series.Tie as tie
 
 abbrev Inv-loop : tie.InvT-loop
 Inv-loop w u p₀ sum₀ k₀ p sum k =
-    (k ≤ terms) × (p ≤ w) × Safe w k p sum × (seriesFrom (terms - k) k u p sum ≡ seriesFrom terms 0 u w 0) × (p ≡ power w k) × (nonzeroPowers w k ≡ k)
+    (k ≤ termCount) × (p ≤ w) × Safe w k p sum × (seriesFrom (termCount - k) k u p sum ≡ seriesFrom termCount 0 u w 0) × (p ≡ power w k) × (nonzeroPowers w k ≡ k)
 
 abbrev μ-loop : tie.MeasureT-loop
-μ-loop w u p₀ sum₀ k₀ p sum k = terms - k
+μ-loop w u p₀ sum₀ k₀ p sum k = termCount - k
 
 mul-u : tie.Need-mul-u Inv-loop μ-loop
 mul-u c = omega (arith, mul-le-mul (c .pre) (c .pre))
@@ -70,7 +70,7 @@ loop-again c =
       omega arith,
       le-trans (next-le (l .p) u (square-le w (s .pre))) (l .inv .1),
       subst (λ (x : ℕ). Safe w (l .k + 1) (l .p * u / 2 ^ 30) x) (sym e) (safe-next w (l .k) u (l .p) (l .sum) (square-le w (s .pre)) (l .inv .2)),
-      ap (λ (x : ℕ). seriesFrom (terms - (l .k + 1)) (l .k + 1) u (l .p * u / 2 ^ 30) x) e ∙ sym (turn (l .k) u (l .p) (l .sum) (omega arith)) ∙ l .inv .3,
+      ap (λ (x : ℕ). seriesFrom (termCount - (l .k + 1)) (l .k + 1) u (l .p * u / 2 ^ 30) x) e ∙ sym (turn (l .k) u (l .p) (l .sum) (omega arith)) ∙ l .inv .3,
       ap (λ (x : ℕ). x * u / 2 ^ 30) (l .inv .4) ∙ sym (power-next w (l .k)),
       count-next w (l .k) n (l .inv .5),
     )

@@ -9,7 +9,7 @@ use lib.Dec.{lit<}
 use lib.ListN.{getD}
 use borrow.Author.Tests.{eq-eqb, ne-eqb}
 use Rattle.floats.specs.Angle.{quarterTurn}
-use Rattle.floats.specs.Sines.{parts, sineEntry, sines}
+use Rattle.floats.specs.Sines.{quarterParts, sineEntry, sines}
 use Rattle.floats.specs.SinCos.{lineOf, sineAt}
 use Rattle.floats.proofs.SinesLaws.{rises, entry-is}
 use borrow.Author.Needs.{needs}
@@ -18,10 +18,10 @@ use Rattle.floats.proofs.sin_cos.sine_at.Tie as tie
 
 -- the number of the entry before p
 abbrev entry : ℕ → ℕ
-entry p = parts * p / quarterTurn
+entry p = quarterParts * p / quarterTurn
 
 -- an entry of the table as it was lent
-lent : (c : tie.Start) (k : ℕ) → k ≤ parts → getD (c .args .table .now) k 0 ≡ sineEntry k
+lent : (c : tie.Start) (k : ℕ) → k ≤ quarterParts → getD (c .args .table .now) k 0 ≡ sineEntry k
 lent c k h = ap (λ (t : List ℕ). getD t k 0) (c .pre .0) ∙ entry-is k h
 
 mul-k : tie.Need-mul-k
@@ -38,7 +38,7 @@ unfolding sineAt
 returns c =
     let s = c .before .before in
     let k = entry (s .args .p) in
-    lent s k (omega arith) ∙ sym (ap (λ (b : Bool). cond b (sineEntry k) (lineOf (sineEntry k) (sineEntry (k + 1)) (parts * s .args .p % quarterTurn))) (eq-eqb k parts (c .before .if1 .taken)))
+    lent s k (omega arith) ∙ sym (ap (λ (b : Bool). cond b (sineEntry k) (lineOf (sineEntry k) (sineEntry (k + 1)) (quarterParts * s .args .p % quarterTurn))) (eq-eqb k quarterParts (c .before .if1 .taken)))
 
 mul-line : tie.Need-mul-line
 mul-line c = search needs
@@ -62,8 +62,8 @@ line-requires : tie.Need-line-requires
 line-requires c κs =
     let s = c .before .before .before in
     let k = entry (s .args .p) in
-    let h : k < parts = omega arith in
-    (omega (arith, lent s k (omega arith), lent s (k + 1) (omega arith), rises k h), mod-lt (parts * s .args .p) (lit< tt))
+    let h : k < quarterParts = omega arith in
+    (omega (arith, lent s k (omega arith), lent s (k + 1) (omega arith), rises k h), mod-lt (quarterParts * s .args .p) (lit< tt))
 
 returns-2 : tie.Need-returns-2
 unfolding sineAt
@@ -71,9 +71,9 @@ returns-2 c =
     let s = c .before .before .before .before in
     let k = entry (s .args .p) in
     c .line .ensures
-    ∙ ap (λ (x : ℕ). lineOf x (getD (s .args .table .now) (k + 1) 0) (parts * s .args .p % quarterTurn)) (lent s k (omega arith))
-    ∙ ap (λ (x : ℕ). lineOf (sineEntry k) x (parts * s .args .p % quarterTurn)) (lent s (k + 1) (omega arith))
-    ∙ sym (ap (λ (b : Bool). cond b (sineEntry k) (lineOf (sineEntry k) (sineEntry (k + 1)) (parts * s .args .p % quarterTurn))) (ne-eqb k parts (c .before .before .before .if1 .left)))
+    ∙ ap (λ (x : ℕ). lineOf x (getD (s .args .table .now) (k + 1) 0) (quarterParts * s .args .p % quarterTurn)) (lent s k (omega arith))
+    ∙ ap (λ (x : ℕ). lineOf (sineEntry k) x (quarterParts * s .args .p % quarterTurn)) (lent s (k + 1) (omega arith))
+    ∙ sym (ap (λ (b : Bool). cond b (sineEntry k) (lineOf (sineEntry k) (sineEntry (k + 1)) (quarterParts * s .args .p % quarterTurn))) (ne-eqb k quarterParts (c .before .before .before .if1 .left)))
 
 pub sine-at-spec : {M : Type 1} → statement M
 sine-at-spec =

@@ -50,14 +50,13 @@ use denote.Triple.Call.{calls-at}
 use denote.Triple.Clauses.{ensured, lasts}
 use denote.Triple.Table.{entered, cited}
 use denote.Triple.Walked.{says, Stays, stay-slice, walkOf, goes-slice, Walks, ends-at, walked, walk-meets}
-use Rattle.floats.specs.Utils.{simdInvOf}
 use Rattle.floats.specs.declared.vector.Vector.{Vector}
 use Rattle.floats.proofs.vector.Vector as U
 use Rattle.floats.proofs.vector.Vector.Laws as U′
-use Rattle.rows.specs.Finalize.{imSumOf, rowDotOf, headOf, isLock, pairOf, finalizeOf}
+use Rattle.rows.specs.Finalize.{imSumOf, headOf, isLock, invDotOf, pairOf, reduceOf, finalizeOf}
 use Rattle.rows.specs.declared.joint_velocity_constraint.JointConstraint.{JointConstraint}
 use Rattle.rows.proofs.Orthogonalise.{between, between-end, pair-turn, free-turn, rest-end}
-use Rattle.rows.proofs.FinalizeLoops.{reducedBy, restOf, lock-row, start, none}
+use Rattle.rows.proofs.FinalizeLoops.{restOf, lock-row, start, none}
 use Rattle.rows.proofs.joint_velocity_constraint.JointConstraint as R
 use Rattle.rows.proofs.joint_velocity_constraint.JointConstraint.Laws as R′
 use Rattle.rows.proofs.joint_constraint_helper.im_sum as im-sum
@@ -158,7 +157,7 @@ record Inner (n : ℕ) (im : Vector) (v : Float) (p : JointConstraint) (goal : L
   i : ℕ
   ws : List JointConstraint
   len : length ws ≡ n
-  same : between (map (reducedBy im v p)) i n ws ≡ goal
+  same : between (map (pairOf im v p)) i n ws ≡ goal
 
 record Outer (n : ℕ) (im : Vector) (goal : List JointConstraint) : Type 0 where
   j : ℕ
@@ -197,14 +196,14 @@ module _ {M : Type 1} (𝓤 : URA M) (H : Heap 𝓤) (A : Atoms 𝓤) (at-mem : 
   head-says : (a : Vector) (b : JointConstraint) (r : JointConstraint) → ent 𝓤 (ensured 𝓤 H A head.ended (head.clauses 𝓤 H A at-mem run) tt (a, (b, tt)) tt r) (fact 𝓤 (r ≡ headOf a b))
   head-says a b r = exE 𝓤 _ (λ us. snd∗ 𝓤 (sem 𝓤 H A (lasts head.ended tt (a, (b, tt)) us)) (fact 𝓤 (r ≡ headOf a b)))
 
-  inv-dot-says : (a : Vector) (b : JointConstraint) (r : Float) → ent 𝓤 (ensured 𝓤 H A inv-dot.ended (inv-dot.clauses 𝓤 H A at-mem run) tt (a, (b, tt)) tt r) (fact 𝓤 (r ≡ simdInvOf (rowDotOf a b b)))
-  inv-dot-says a b r = exE 𝓤 _ (λ us. snd∗ 𝓤 (sem 𝓤 H A (lasts inv-dot.ended tt (a, (b, tt)) us)) (fact 𝓤 (r ≡ simdInvOf (rowDotOf a b b))))
+  inv-dot-says : (a : Vector) (b : JointConstraint) (r : Float) → ent 𝓤 (ensured 𝓤 H A inv-dot.ended (inv-dot.clauses 𝓤 H A at-mem run) tt (a, (b, tt)) tt r) (fact 𝓤 (r ≡ invDotOf a b))
+  inv-dot-says a b r = exE 𝓤 _ (λ us. snd∗ 𝓤 (sem 𝓤 H A (lasts inv-dot.ended tt (a, (b, tt)) us)) (fact 𝓤 (r ≡ invDotOf a b)))
 
   is-lock-says : (a : JointConstraint) (r : Bool) → ent 𝓤 (ensured 𝓤 H A is-lock.ended (is-lock.clauses 𝓤 H A at-mem run) tt (a, tt) tt r) (fact 𝓤 (r ≡ isLock a))
   is-lock-says a r = exE 𝓤 _ (λ us. snd∗ 𝓤 (sem 𝓤 H A (lasts is-lock.ended tt (a, tt) us)) (fact 𝓤 (r ≡ isLock a)))
 
-  pair-says : (a : Vector) (b : Float) (c : JointConstraint) (d : JointConstraint) (r : JointConstraint) → ent 𝓤 (ensured 𝓤 H A pair.ended (pair.clauses 𝓤 H A at-mem run) tt (a, (b, (c, (d, tt)))) tt r) (fact 𝓤 (r ≡ reducedBy a b c d))
-  pair-says a b c d r = exE 𝓤 _ (λ us. snd∗ 𝓤 (sem 𝓤 H A (lasts pair.ended tt (a, (b, (c, (d, tt)))) us)) (fact 𝓤 (r ≡ reducedBy a b c d)))
+  pair-says : (a : Vector) (b : Float) (c : JointConstraint) (d : JointConstraint) (r : JointConstraint) → ent 𝓤 (ensured 𝓤 H A pair.ended (pair.clauses 𝓤 H A at-mem run) tt (a, (b, (c, (d, tt)))) tt r) (fact 𝓤 (r ≡ pairOf a b c d))
+  pair-says a b c d r = exE 𝓤 _ (λ us. snd∗ 𝓤 (sem 𝓤 H A (lasts pair.ended tt (a, (b, (c, (d, tt)))) us)) (fact 𝓤 (r ≡ pairOf a b c d)))
 
 module _ {M : Type 1} (𝓤 : URA M) (H : Heap 𝓤) (A : Atoms 𝓤) (W : Given 𝓤 H A) (at-mem : Memory → SProp 𝓤) (run : Routine → Fun 𝓤) where
   -- what each callee's triple binds outside, and its `pre`
@@ -311,7 +310,7 @@ module _ {M : Type 1} (𝓤 : URA M) (H : Heap 𝓤) (A : Atoms 𝓤) (W : Given
 
           -- a turn that reduces the row i
           moreI : (i : ℕ) (ws : List JointConstraint) → ltb i n ≡ true → i < n → i < length ws → (X : SProp 𝓤) (Q : Out → SProp 𝓤)
-              → ((r : JointConstraint) → r ≡ reducedBy im v p (getD ws i p) → Sq W (AtIn (i + 1) (set ws i r)) (prop X)) → Sq W (AtIn i ws) (runs C Λ En body.turn-1 (anyQ (afterTurn 𝓤 H X Q)))
+              → ((r : JointConstraint) → r ≡ pairOf im v p (getD ws i p) → Sq W (AtIn (i + 1) (set ws i r)) (prop X)) → Sq W (AtIn i ws) (runs C Λ En body.turn-1 (anyQ (afterTurn 𝓤 H X Q)))
           unfolding afterTurn
           moreI i ws e small at-i X Q k =
               assigns ! (bin ! (load ! (from ! (stop !)) (look ! 33 refl)) (load ! (from ! (stop !)) (look ! 43 refl)) tt) (from ! (stop !)) (init ! 13 refl (tt, tt)) $ rewrite ! 13 (λ (t : Bool). ‵ (fat fullShare tyBool l₁₇ 0 (vbool t))) e refl $ stays ! (load ! (from ! (stop !)) (look ! 13 refl)) $
@@ -323,7 +322,7 @@ module _ {M : Type 1} (𝓤 : URA M) (H : Heap 𝓤) (A : Atoms 𝓤) (W : Given
               use0 W (raw (Pair 𝓤 H A at-mem run .pre (to-pair 𝓤 H A W at-mem run im v p (getD ws i p)))) (goes-pair 𝓤 H A W at-mem run im v p (getD ws i p) im-is v-is p-is is) $
               calls-at ! fm (Pair 𝓤 H A at-mem run) (known .known-pair) (to-pair 𝓤 H A W at-mem run im v p (getD ws i p)) (and-then ! (load ! (from ! (stop !)) (look ! 43 refl)) (and-then ! (load ! (from ! (stop !)) (look ! 37 refl)) (and-then ! (load ! (from ! (stop !)) (look ! 39 refl)) (and-then ! (load ! (from ! (stop !)) (look ! 7 refl)) (no-more !))))) (λ u.
               use1 W (later (some (λ (r : JointConstraint). (‵ ftrue ⊛ ‵ (R.the-row .own r (u ∷ []))) ⊛ raw (ensured 𝓤 H A pair.ended (pair.clauses 𝓤 H A at-mem run) tt (im, (v, (p, ((getD ws i p), tt)))) tt r)))) (id⊢ 𝓤 _) $ await ! tt $ pick ! (λ r.
-              split ! $ move ! (1 ∷ []) $ use1 W (raw (fact 𝓤 (r ≡ reducedBy im v p (getD ws i p)))) (pair-says 𝓤 H A at-mem run im v p (getD ws i p) r) $ heard ! (r ≡ reducedBy im v p (getD ws i p)) (λ er. split ! $ drop ! $
+              split ! $ move ! (1 ∷ []) $ use1 W (raw (fact 𝓤 (r ≡ pairOf im v p (getD ws i p)))) (pair-says 𝓤 H A at-mem run im v p (getD ws i p) r) $ heard ! (r ≡ pairOf im v p (getD ws i p)) (λ er. split ! $ drop ! $
               peeks ! R.the-row (Is R.the-row) (shows 𝓤 H A R.the-row) r (u ∷ []) (λ ir.
               land ! (from ! (stop !)) (init ! 13 refl (LL.lawful R.the-type R′.the-laws 𝓤 H A W .typed r _ ir .0)) $ rewrite ! 13 (λ (y : Val). ‵ (fat fullShare R′.mir l₁₈ 0 y)) (ap only (LL.tells R.the-type R′.the-laws r _ ir)) refl $ drop ! $
               assigns ! (bin ! (load ! (from ! (stop !)) (look ! 34 refl)) (lit ! tt) (record { fits = place-fits i small })) (from ! (stop !)) (init ! 4 refl (tt, record { fits = place-fits i small })) $
@@ -357,14 +356,14 @@ module _ {M : Type 1} (𝓤 : URA M) (H : Heap 𝓤) (A : Atoms 𝓤) (W : Given
             at-i : (s : State) → ltb (s .i) n ≡ true → s .i < length (s .ws)
             at-i s e = subst (λ (m : ℕ). s .i < m) (sym (s .len)) (below (s .i) n e)
 
-            abbrev nextI : (s : State) → ltb (s .i) n ≡ true → (r : JointConstraint) → r ≡ reducedBy im v p (getD (s .ws) (s .i) p) → State
-            nextI s e r er = record { i = s .i + 1; ws = set (s .ws) (s .i) r; len = length-set (s .ws) (s .i) r ∙ s .len; same = pair-turn (reducedBy im v p) (s .i) n (s .ws) p r (below (s .i) n e) (fills (s .ws) (s .len)) er ∙ s .same }
+            abbrev nextI : (s : State) → ltb (s .i) n ≡ true → (r : JointConstraint) → r ≡ pairOf im v p (getD (s .ws) (s .i) p) → State
+            nextI s e r er = record { i = s .i + 1; ws = set (s .ws) (s .i) r; len = length-set (s .ws) (s .i) r ∙ s .len; same = pair-turn (pairOf im v p) (s .i) n (s .ws) p r (below (s .i) n e) (fills (s .ws) (s .len)) er ∙ s .same }
 
             inner : (Q : Out → SProp 𝓤) → ((ws : List JointConstraint) → length ws ≡ n → ws ≡ goal → Sq W (Mid ws) (runs C Λ En tail (anyQ Q)))
                 → (s : State) → Sq W (AtI s) (runs C Λ En (loop body.turn-1) (anyQ (afterBlock 𝓤 H (afterSeq 𝓤 H (Wp 𝓤 H C Λ En tail Q) Q))))
             inner Q k = loops ! 𝓣 NearerI NearerI-wf AtI (λ s. by-bool (ltb (s .i) n)
                 (λ e. moreI (s .i) (s .ws) e (below (s .i) n e) (at-i s e) _ _ (λ r er. again ! NearerI AtI s (nextI s e r er) (add-one-dec n (s .i) (below (s .i) n e))))
-                (λ e. endsI (s .i) (s .ws) e _ Q (k (s .ws) (s .len) (sym (between-end (map (reducedBy im v p)) refl (s .i) n (s .ws) (over (s .i) n e)) ∙ s .same))))
+                (λ e. endsI (s .i) (s .ws) e _ Q (k (s .ws) (s .len) (sym (between-end (map (pairOf im v p)) refl (s .i) n (s .ws) (over (s .i) n e)) ∙ s .same))))
 
         -- ---- the outer loop
         abbrev AtOut : ℕ → List JointConstraint → List (Item 𝓤)
@@ -393,7 +392,7 @@ module _ {M : Type 1} (𝓤 : URA M) (H : Heap 𝓤) (A : Atoms 𝓤) (W : Given
             use0 W (raw (InvDot 𝓤 H A at-mem run .pre (to-inv-dot 𝓤 H A W at-mem run im p))) (goes-inv-dot 𝓤 H A W at-mem run im p im-is (own-vals p _ ip)) $
             calls-at ! fm (InvDot 𝓤 H A at-mem run) (known .known-inv-dot) (to-inv-dot 𝓤 H A W at-mem run im p) (and-then ! (load ! (from ! (stop !)) (look ! 43 refl)) (and-then ! (load ! (from ! (stop !)) (look ! 39 refl)) (no-more !))) (λ w.
             use1 W (later (some (λ (v : Float). (‵ ftrue ⊛ ‵ (f32 .own v (w ∷ []))) ⊛ raw (ensured 𝓤 H A inv-dot.ended (inv-dot.clauses 𝓤 H A at-mem run) tt (im, (p, tt)) tt v)))) (id⊢ 𝓤 _) $ await ! tt $ pick ! (λ v.
-            split ! $ move ! (1 ∷ []) $ use1 W (raw (fact 𝓤 (v ≡ simdInvOf (rowDotOf im p p)))) (inv-dot-says 𝓤 H A at-mem run im p v) $ heard ! (v ≡ simdInvOf (rowDotOf im p p)) (λ ev. split ! $ drop ! $
+            split ! $ move ! (1 ∷ []) $ use1 W (raw (fact 𝓤 (v ≡ invDotOf im p))) (inv-dot-says 𝓤 H A at-mem run im p v) $ heard ! (v ≡ invDotOf im p) (λ ev. split ! $ drop ! $
             peeks ! f32 (Is f32) (shows 𝓤 H A f32) v (w ∷ []) (λ iv.
             land ! (from ! (stop !)) (init ! 37 refl (float-lawful 𝓤 H A W binary32 .typed v _ iv .0)) $ rewrite ! 37 (λ (y : Val). ‵ (fat fullShare real l₆ 0 y)) (ap only (float-tells binary32 v _ iv)) refl $ drop ! $
             assigns ! (bin ! (load ! (from ! (stop !)) (look ! 40 refl)) (lit ! tt) (record { fits = place-fits j small })) (from ! (stop !)) (store ! 24 refl (tt, record { fits = place-fits j small })) $
@@ -410,10 +409,10 @@ module _ {M : Type 1} (𝓤 : URA M) (H : Heap 𝓤) (A : Atoms 𝓤) (W : Given
             forget ! 17 refl $ forget ! 19 refl $ forget ! 21 refl $ forget ! 23 refl $ forget ! 25 refl $
             first ! $ branches ! (load ! (from ! (stop !)) (look ! 15 refl))
             (λ held. forget ! 15 refl $ assigns ! (bin ! (load ! (from ! (stop !)) (look ! 39 refl)) (lit ! tt) (record { fits = next-fits j small })) (from ! (stop !)) (init ! 33 refl (tt, record { fits = next-fits j small })) $ blocks ! $
-            inner j p (own-vals p _ ip) v (real-vals v _ iv) (between (map (reducedBy im v p)) (j + 1) n (set zs j p)) (afterTurn 𝓤 H X Q)
+            inner j p (own-vals p _ ip) v (real-vals v _ iv) (between (map (pairOf im v p)) (j + 1) n (set zs j p)) (afterTurn 𝓤 H X Q)
             (λ ws lw same. tails j p (own-vals p _ ip) v (real-vals v _ iv) ws small X Q (k ws lw (lock-row im j n zs ws d p v small (fills zs len) ep (sym et ∙ yes-T t held) ev same)))
             (record { i = j + 1; ws = set zs j p; len = length-set zs j p ∙ len; same = refl }))
-            (λ failed. forget ! 15 refl $ skips ! $ exec ! C Λ En tail (anyQ (afterTurn 𝓤 H X Q)) $ tails j p (own-vals p _ ip) v (real-vals v _ iv) (set zs j p) small X Q (k (set zs j p) (length-set zs j p ∙ len) (free-turn (headOf im) isLock (pairOf im) j n zs d p small (fills zs len) ep (sym et ∙ no-T t failed)))))))))))))))))
+            (λ failed. forget ! 15 refl $ skips ! $ exec ! C Λ En tail (anyQ (afterTurn 𝓤 H X Q)) $ tails j p (own-vals p _ ip) v (real-vals v _ iv) (set zs j p) small X Q (k (set zs j p) (length-set zs j p ∙ len) (free-turn (headOf im) isLock (reduceOf im) j n zs d p small (fills zs len) ep (sym et ∙ no-T t failed)))))))))))))))))
 
         -- the turn that leaves the loop
         endsO : (j : ℕ) (zs : List JointConstraint) → ltb j n ≡ false → length zs ≡ n → zs ≡ finalizeOf xs → (X : SProp 𝓤)
@@ -442,7 +441,7 @@ module _ {M : Type 1} (𝓤 : URA M) (H : Heap 𝓤) (A : Atoms 𝓤) (W : Given
         outer = loops ! 𝓣 NearerO NearerO-wf AtO (λ s. by-bool (ltb (s .j) n)
             (λ e. moreO (s .j) (s .zs) (stand-in (s .zs) (s .j) (at-j s e)) e (below (s .j) n e) (s .len) (at-j s e) _ _
             (λ ws len same. again ! NearerO AtO s (record { j = s .j + 1; zs = ws; len = len; same = same ∙ s .same }) (add-one-dec n (s .j) (below (s .j) n e))))
-            (λ e. endsO (s .j) (s .zs) e (s .len) (sym (rest-end (headOf im) isLock (pairOf im) (s .j) n (s .zs) (over (s .j) n e)) ∙ s .same) _))
+            (λ e. endsO (s .j) (s .zs) e (s .len) (sym (rest-end (headOf im) isLock (reduceOf im) (s .j) n (s .zs) (over (s .j) n e)) ∙ s .same) _))
 
       -- where there is a row: the sum of the first one's inverse masses, and the loops
       some-rows : (d : JointConstraint) → 0 < n → Sq W (Ctx xs (‵ (froom U′.mir l₃ 0)) (‵ (froom word l₄ 0)) (‵ (froom R′.mir l₅ 0)) (‵ (froom real l₆ 0)) (‵ (froom word l₇ 0))) (runs C Λ En arm (anyQ (afterSeq 𝓤 H (Wp 𝓤 H C Λ En body.t-4 (atReturn 𝓤 H En Post)) (atReturn 𝓤 H En Post))))

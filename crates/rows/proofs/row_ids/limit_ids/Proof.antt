@@ -6,7 +6,7 @@ use lib.ListN.{length}
 use native.Mathlib.Omega.{arith}
 use borrow.Author.Needs.{needs}
 use Rattle.rows.specs.declared.joint_velocity_constraint.WritebackId.the-variants.{Limit}
-use Rattle.rows.specs.RowIds.{keep, inOrder, groupOne, lockIds, limitIds, held, rowIds, rowIdsArray}
+use Rattle.rows.specs.RowIds.{keep, inOrder, groupOne, lockIds, limitIds, idsArray, rowIds, rowIdsArray}
 use Rattle.rows.proofs.RowIdsCount.{motors-and-locks}
 use Rattle.rows.proofs.RowIdsPush.{pushes, limitOutside, limits, room-locks, room-last}
 use Rattle.rows.proofs.row_ids.limit_ids.Statement.{statement}
@@ -61,7 +61,7 @@ returns c =
     (c .before .before .before .before .is-limit-outside3 .ensures) (c .before .before .before .push-if3 .ensures .0) in
     let f = c .before .before .first-coupled-lin-axis-id .result in
     c .push-if4 .ensures .0 n (l ++ map Limit (keep p (inOrder 2 1))) e
-    ∙ ap (λ l. held n l)
+    ∙ ap (λ l. idsArray n l)
     (limits masks l f (c .before .has-coupled-limit .ensures) (c .before .before .first-coupled-lin-axis-id .ensures)
     ∙ append-assoc (groupOne 2 1 masks) (lockIds 2 1 masks) (limitIds 2 1 masks))
 

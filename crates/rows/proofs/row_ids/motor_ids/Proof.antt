@@ -2,7 +2,7 @@
 use mathlib.Core.Path.{refl, ap, _∙_}
 use mathlib.Core.List.{[], map}
 use borrow.Author.Needs.{needs}
-use Rattle.rows.specs.RowIds.{keep, inOrder, held}
+use Rattle.rows.specs.RowIds.{keep, inOrder, idsArray}
 use Rattle.rows.specs.declared.joint_velocity_constraint.WritebackId.the-variants.{Motor}
 use Rattle.rows.proofs.RowIdsPush.{motorOutside, pushes, motors}
 use Rattle.rows.proofs.row_ids.motor_ids.Statement.{statement}
@@ -45,7 +45,7 @@ returns c =
     (c .before .before .before .before .before .before .before .before .is-motor-outside .ensures) (c .before .before .before .before .before .before .before .push-if .ensures .0)
     (c .before .before .before .before .before .before .is-motor-outside2 .ensures) (c .before .before .before .before .before .push-if2 .ensures .0)
     (c .before .before .before .before .is-motor-outside3 .ensures) (c .before .before .before .push-if3 .ensures .0))
-    ∙ ap (λ l. held 0 l) (motors masks f (c .before .shares-linear .ensures) (c .before .before .first-coupled-lin-axis-id .ensures))
+    ∙ ap (λ l. idsArray 0 l) (motors masks f (c .before .shares-linear .ensures) (c .before .before .first-coupled-lin-axis-id .ensures))
 
 pub motor-ids-spec : {M : Type 1} → statement M
 motor-ids-spec =
