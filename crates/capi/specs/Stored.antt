@@ -12,7 +12,7 @@ use Rattle.rows.specs.declared.row_ids.RowIds.{RowIds}
 use Rattle.rows.specs.declared.joint_velocity_constraint.JointConstraint.{JointConstraint}
 use Rattle.rows.specs.declared.joint_velocity_constraint.WritebackId.{WritebackId}
 use Rattle.rows.specs.declared.joint_velocity_constraint.WritebackId.the-variants.{Dof, Limit, Motor}
-use Rattle.model.specs.Store.{rowOf, putRow}
+use Rattle.model.specs.Store.{rowOfNumbers, putRow}
 
 -- three numbers stored from i on
 abbrev pub putThree : List Float → ℕ → Float → Float → Float → List Float
@@ -20,7 +20,7 @@ putThree out i a b c = set (set (set out i a) (i + 1) b) (i + 2) c
 
 -- row i of six
 abbrev pub ofSix : List JointConstraint → ℕ → JointConstraint
-ofSix cs i = getD cs i (rowOf (λ _. nan))
+ofSix cs i = getD cs i (rowOfNumbers (λ _. nan))
 
 -- row k stored if it is one of the first n
 unfoldable pub putIf : List Float → ℕ → ℕ → JointConstraint → List Float

@@ -34,7 +34,7 @@ use Rattle.rows.specs.declared.joint_velocity_constraint.Solved.{Solved}
 use Rattle.capi.specs.Stored.{putThree, ofSix, putFirst, putIds}
 use Rattle.capi.specs.CallExports.{shortSlice, paramsOf}
 use Rattle.model.specs.Layout.{rowWidth, numbersWidth}
-use Rattle.model.specs.Store.{rowOf, rowAt, putRow, putSeed, modelOf, jointAt}
+use Rattle.model.specs.Store.{rowOfNumbers, rowAt, putRow, putSeed, motorModelOf, jointAt}
 use Rattle.comparison.specs.Exports.{sideNumber}
 
 -- ---- one row between two velocities
@@ -100,7 +100,7 @@ finalize n rows = cond (leb 108 (length rows)) (putSix rows (finalizeFirst n (ro
 -- `combine_coefficients`: erp_inv_dt, cfm_coeff and cfm_gain of a motor model, which is a number
 unfoldable pub combineCoefficients : ℕ → Float → Float → Float → List Float → List Float
 combineCoefficients model dt stiffness damping out =
-    let c = combineCoefficientsOf (modelOf model) dt stiffness damping in
+    let c = combineCoefficientsOf (motorModelOf model) dt stiffness damping in
     cond (leb 3 (length out)) (putThree out 0 (c .«erp_inv_dt») (c .«cfm_coeff») (c .«cfm_gain»)) out
 
 -- softness: erp_inv_dt and cfm_coeff

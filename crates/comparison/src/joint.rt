@@ -8,7 +8,7 @@ ghost use lib.ListN.{length};
 ghost use Rattle.comparison.specs.JointExports.{velAt, putVels, stepRow, stepVels, stepSide, warmstart, removeBias, idOf, writeback, rowsAt, putSix, finalize, combineCoefficients, spring, angularLimit, bodyAt, jointFrom, warmFrom, impulsesFrom, madeFrom, masksFrom, buildRows, buildIds, buildCount, roomyRows, roomyIds, roomyCount};
 ghost use Rattle.capi.specs.CallExports.{paramsOf};
 ghost use Rattle.model.specs.Layout.{rowWidth};
-ghost use Rattle.model.specs.Store.{rowAt, modelOf};
+ghost use Rattle.model.specs.Store.{rowAt, motorModelOf};
 ghost use Rattle.floats.specs.Operators.{bits};
 ghost use Rattle.rows.specs.IntegrationParameters.{invDtOf, maxCorrectiveVelocityOf};
 ghost use Rattle.rows.specs.GenericJoint.{maxImpulseOf};
@@ -198,8 +198,8 @@ pub extern "C" fn katydidzinc_rows_finalize(n: usize, rows: &mut [f32])
 }
 
 // 0 is acceleration based, and every other number force based.
-fn model_of(m: u32) -> MotorModel
-    ensures { λ r. ⌜ r ≡ modelOf m ⌝ }
+fn motor_model_of(m: u32) -> MotorModel
+    ensures { λ r. ⌜ r ≡ motorModelOf m ⌝ }
 {
     if m == 0 {
         return MotorModel::AccelerationBased;
@@ -220,7 +220,7 @@ pub extern "C" fn katydidzinc_combine_coefficients(
     if out.len() < 3 {
         return;
     }
-    let motor_model = model_of(model);
+    let motor_model = motor_model_of(model);
     let c = motor_model.combine_coefficients(dt, stiffness, damping);
     put_three(out, 0, c.erp_inv_dt, c.cfm_coeff, c.cfm_gain);
 }

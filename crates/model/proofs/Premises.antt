@@ -17,10 +17,10 @@ use Rattle.rows.specs.declared.joint_constraint_builder.ImpulseJoint.{ImpulseJo
 use Rattle.rows.specs.declared.joint_velocity_constraint.WritebackId.{WritebackId}
 use Rattle.model.specs.Store.{world, Present, body1At, body2At, enabledAt}
 use Rattle.model.specs.Model.{Model, bodyCount, Sound, Room}
-use Rattle.model.specs.Calls.{Call, Answer, Outcome, outcome, table, grantedOf, run, refusalOf}
+use Rattle.model.specs.Calls.{Call, Answer, Outcome, outcome, callTable, grantedOf, run, refusalOf}
 use Rattle.model.specs.Calls.Call.{load}
 use Rattle.model.specs.Calls.Answer.{granted, total, rowsRead, velocityRead, swept, refused}
-use Rattle.model.specs.Traces.{Study, Position, left, handed, AtEach, Returned}
+use Rattle.model.specs.Traces.{Study, Position, leftBy, handed, AtEach, Returned}
 use Rattle.model.specs.Studies.{planar, Loaded, Enough, Ties, Agree, MakesRows, NamesAt, Names, withoutTotal, Compared, HasRow}
 use Rattle.model.proofs.JointRowsLaws.{ids-disabled}
 use Rattle.model.proofs.CountLaws.{there-body}
@@ -36,7 +36,7 @@ pub loaded-of : (m : Model) (rows : List Float) → refusalOf (run load m rows .
 unfolding grantedOf
 loaded-of m rows e =
     let g = run-granted load m rows (sym (told load m rows) ∙ e) in
-    record { handedOver = m; left = sym g ∙ ap (λ (o : Outcome). outcome granted (o .after) rows) g }
+    record { handedOver = m; byLoad = sym g ∙ ap (λ (o : Outcome). outcome granted (o .after) rows) g }
 
 -- ---- what the calls return
 
@@ -58,7 +58,7 @@ atTurn t s s′ = record {
 
 unfoldable pub recorded : List Turn → Study planar → Study planar → List (Position planar)
 recorded [] s s′ = []
-recorded (t ∷ ts) s s′ = let p = atTurn t s s′ in p ∷ recorded ts (left (p .outcome)) (left (p .outcome′))
+recorded (t ∷ ts) s s′ = let p = atTurn t s s′ in p ∷ recorded ts (leftBy (p .outcome)) (leftBy (p .outcome′))
 
 pub recorded-returns : (ts : List Turn) (s s′ : Study planar) → AtEach Returned (recorded ts s s′) s s′
 unfolding AtEach recorded
@@ -71,12 +71,12 @@ recorded-returns (t ∷ ts) s s′ = (record { one = refl; other = refl }, recor
 abbrev pub HoldsBoth : Study planar → Study planar → List Float → Type 0
 HoldsBoth s s′ rows = Room (s .model) rows × Room (s′ .model) rows
 
-pub no-storage-enough : (p : Position planar) (s s′ : Study planar) → table (p .call) .rowStorage ≡ false → Enough p s s′
+pub no-storage-enough : (p : Position planar) (s s′ : Study planar) → callTable (p .call) .rowStorage ≡ false → Enough p s s′
 no-storage-enough p s s′ e t = absurd (false≢true (sym e ∙ t))
 
 -- the larger of the two totals, which document 01 asks of both storages, is enough
 pub larger-enough : (p : Position planar) (s s′ : Study planar)
-    → (table (p .call) .rowStorage ≡ true → HoldsBoth s s′ (handed s (p .lent)) × HoldsBoth s s′ (handed s′ (p .lent′))) → Enough p s s′
+    → (callTable (p .call) .rowStorage ≡ true → HoldsBoth s s′ (handed s (p .lent)) × HoldsBoth s s′ (handed s′ (p .lent′))) → Enough p s s′
 larger-enough p s s′ h e = (h e .0 .0, h e .1 .1)
 
 -- no call of the list makes rows, in either study
@@ -152,7 +152,7 @@ module _ (m : Model) (sound : Sound m) where
 
 -- the row storage that one study is handed has room for its total
 abbrev pub Roomy : Position planar → Study planar → Study planar → Type 0
-Roomy p s s′ = table (p .call) .rowStorage ≡ true → Room (s .model) (handed s (p .lent))
+Roomy p s s′ = callTable (p .call) .rowStorage ≡ true → Room (s .model) (handed s (p .lent))
 
 -- the same call, and the same row storage lent twice
 abbrev pub twice : Call → List Float → Turn

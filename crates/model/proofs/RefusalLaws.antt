@@ -6,7 +6,7 @@ use mathlib.Core.Path.{_≡_, refl, sym, ap, _∙_}
 use mathlib.Core.Bool.{Bool, true, false, not, cond, _&&_, false≢true}
 use mathlib.Core.List.{List, [], _∷_, _++_, map}
 use mathlib.Core.Logic.{_≢_, ⊎-elim}
-use native.Mathlib.Nat.{add-assoc, eq-or-lt-of-le}
+use native.Mathlib.Nat.{add-assoc, sub-zero, eq-or-lt-of-le}
 use native.Mathlib.Omega.{arith}
 use borrow.Author.Tests.{ltb-true, ltb-false, eqb-true, eqb-false, ne-eqb, not-true, not-false}
 use lib.Dec.{eqb, ltb}
@@ -15,7 +15,7 @@ use Rattle.floats.specs.Operators.{bits}
 use Rattle.model.specs.Store.{world, Present, body1At, body2At}
 use Rattle.model.specs.Model.{mostBodies, mostJoints, Model, bodyCount, jointCount, rowCapacity, totalRows, Sound, Room}
 use Rattle.model.specs.Refusals.{Rule, rule, refusal, all, atMost, masksFit, presentOrWorld, bodiesPresent, bodiesApart, finiteParams, finiteBody, finiteJoint, centerFits, modelRules, storageRule, sweepRule, builtRule, seedsRule, bodyRule, jointRule, tableRules}
-use Rattle.model.specs.Calls.{Call, Asked, Own, ownRule, table, handedRules, askedRules, firstRules, ownRules, rulesOf}
+use Rattle.model.specs.Calls.{Call, Asked, Own, ownRule, callTable, handedRules, askedRules, firstRules, ownRules, rulesOf}
 use Rattle.model.specs.Calls.Own.{fewRounds, afterBuild, rowsToRead}
 use Rattle.model.specs.Calls.Asked.{nothing, body, joint, records}
 use Rattle.model.proofs.Tests.{by-cases}
@@ -160,6 +160,22 @@ module _ (p : ℕ → Bool) where
       let none : n - i ≡ 0 = omega arith in
       rw none (all-none k)
 
+  -- A loop that tries the numbers from 0 to before n in turn, up to the first that fails: before turn i, those from i on decide. Its start, its turn, and its two ends.
+  abbrev pub Undecided : ℕ → ℕ → Type 0
+  Undecided n i = (i ≤ n) × (all i (n - i) p ≡ all 0 n p)
+
+  pub undecided : (n : ℕ) → Undecided n 0
+  undecided n = (omega arith, rw sub-zero)
+
+  pub still-undecided : (n i : ℕ) → Undecided n i → i < n → p i ≡ true → Undecided n (i + 1)
+  still-undecided n i u h e = (omega arith, all-turn i n i h e ∙ u .1)
+
+  pub one-fails : (n i : ℕ) → Undecided n i → i < n → p i ≡ false → false ≡ all 0 n p
+  one-fails n i u h e = sym (all-stop i n i h e) ∙ u .1
+
+  pub all-pass : (n i : ℕ) → Undecided n i → n ≤ i → true ≡ all 0 n p
+  all-pass n i u h = sym (all-done i n i h) ∙ u .1
+
   -- the turn of a loop that tries the numbers from o on
   pub all-turn-from : (o n i : ℕ) → i < n → p (o + i) ≡ true → all (o + (i + 1)) (n - (i + 1)) p ≡ all (o + i) (n - i) p
   all-turn-from o n i h e = rw (← add-assoc o i 1) (all-turn (o + i) n i h e)
@@ -241,13 +257,13 @@ module _ (m : Model) where
 
   -- a call's rules 1 to 8, and all that it tries
   pub first-numbered : (c : Call) (rows : List Float) → Numbered (firstRules c m rows)
-  first-numbered c rows = handed-numbered (table c .rowStorage) (table c .finite) rows
+  first-numbered c rows = handed-numbered (callTable c .rowStorage) (callTable c .finite) rows
 
   pub call-numbered : (c : Call) (rows : List Float) → Numbered (rulesOf c m rows)
   unfolding rulesOf
   call-numbered c rows =
       numbered-append (firstRules c m rows) (ownRules c m) (first-numbered c rows)
-      (numbered-append (map (ownRule m) (table c .own)) (askedRules m (table c .asked)) (all-numbered (table c .own)) (asked-numbered (table c .asked)))
+      (numbered-append (map (ownRule m) (callTable c .own)) (askedRules m (callTable c .asked)) (all-numbered (callTable c .own)) (asked-numbered (callTable c .asked)))
 
 -- ---- rules 1 to 7 and 12
 

@@ -10,7 +10,7 @@ use lib.Ieee.{Float}
 use Rattle.rows.specs.declared.joint_velocity_constraint.WritebackId.{WritebackId}
 use Rattle.model.specs.Model.{Model, bodyCount, jointCount, rowCapacity, totalRows, Room}
 use Rattle.model.specs.Refusals.{Rule, refusal, modelRules, storageRule, builtRule, seedsRule, bodyRule, jointRule, faultRule, tableRules}
-use Rattle.model.specs.Calls.{Call, Asked, Own, ownRule, table, handedRules, askedRules, ownRules, rulesOf}
+use Rattle.model.specs.Calls.{Call, Asked, Own, ownRule, callTable, handedRules, askedRules, ownRules, rulesOf}
 use Rattle.model.specs.Calls.Own.{fewRounds, afterBuild, rowsToRead}
 use Rattle.model.specs.Calls.Asked.{nothing, body, joint, records}
 use Rattle.model.specs.Studies.{Agree, AboutSet, SameAsked, SameTable}
@@ -63,12 +63,12 @@ module _ (m m′ : Model) (held : RulesHold m) (held′ : RulesHold m′) where
     same-owns [] = refl
     same-owns (o ∷ os) = rw (same-own o, same-owns os)
 
-    pub same-refusal : (rows rows′ : List Float) (c : Call) → SameAsked m m′ (table c .asked) → (table c .rowStorage ≡ true → Room m rows × Room m′ rows′)
+    pub same-refusal : (rows rows′ : List Float) (c : Call) → SameAsked m m′ (callTable c .asked) → (callTable c .rowStorage ≡ true → Room m rows × Room m′ rows′)
         → refusal (rulesOf c m rows) ≡ refusal (rulesOf c m′ rows′)
     unfolding rulesOf
     same-refusal rows rows′ c a r =
-        same-handed rows rows′ (table c .rowStorage) (table c .finite) (ownRules c m) (ownRules c m′) r
-        (ap (λ rs. refusal (rs ++ askedRules m (table c .asked))) (same-owns (table c .own)) ∙ ap (λ rs. refusal (map (ownRule m′) (table c .own) ++ rs)) (same-asked (table c .asked) a))
+        same-handed rows rows′ (callTable c .rowStorage) (callTable c .finite) (ownRules c m) (ownRules c m′) r
+        (ap (λ rs. refusal (rs ++ askedRules m (callTable c .asked))) (same-owns (callTable c .own)) ∙ ap (λ rs. refusal (map (ownRule m′) (callTable c .own) ++ rs)) (same-asked (callTable c .asked) a))
 
 -- ---- of the set
 

@@ -19,7 +19,7 @@ use Rattle.rows.specs.declared.joint_velocity_constraint.WritebackId.{Writeback
 use Rattle.rows.specs.declared.joint_velocity_constraint.WritebackId.the-variants.{Dof, Limit, Motor}
 use Rattle.model.specs.Layout.{rowWidth, bodyWidth, posePlace, inertiaPlace, massPlace, velocityPlace, wordsWidth, numbersWidth, targetPlace}
 use Rattle.model.specs.Records.{num, word, puts}
-use Rattle.model.specs.Store.{rowOf, rowAt, rowNumbers, putRow, world, Present, poseOf, worldPose, solverPoseAt, rest, velAt, putVel, putPose, seedIndex, axisOf, putSeed, putTarget, jointAt, jointOf}
+use Rattle.model.specs.Store.{rowOfNumbers, rowAt, rowNumbers, putRow, world, Present, poseOf, worldPose, solverPoseAt, rest, velAt, putVel, putPose, seedIndex, axisOf, putSeed, putTarget, jointAt, jointOf}
 use Rattle.model.proofs.Strided.{length-puts, num-stored, num-kept, num-other, num-beside}
 
 -- an id of one of the three axes has its stored impulse among the joint's numbers
@@ -30,8 +30,8 @@ seed-index-below (Motor i) h = omega arith
 
 -- ---- rows
 
-rowOf-cong : (f g : ℕ → Float) → ((c : ℕ) → c < rowWidth → f c ≡ g c) → rowOf f ≡ rowOf g
-rowOf-cong f g h =
+rowOfNumbers-cong : (f g : ℕ → Float) → ((c : ℕ) → c < rowWidth → f c ≡ g c) → rowOfNumbers f ≡ rowOfNumbers g
+rowOfNumbers-cong f g h =
     cc (
       h 0 (lit< tt),
       h 1 (lit< tt),
@@ -60,13 +60,13 @@ length-putRow s k r = length-puts (rowNumbers r) s (k * rowWidth) 0
 pub rowAt-putRow : (s : List Float) (k : ℕ) (r : JointConstraint) → k * rowWidth + rowWidth ≤ length s → rowAt (putRow s k r) k ≡ r
 unfolding rowAt putRow
 rowAt-putRow s k r room =
-    rowOf-cong (num rowWidth (puts s (k * rowWidth) 0 (rowNumbers r)) k) (λ c. getD (rowNumbers r) c nan)
+    rowOfNumbers-cong (num rowWidth (puts s (k * rowWidth) 0 (rowNumbers r)) k) (λ c. getD (rowNumbers r) c nan)
     (λ c h. rw (zero-add c) at (num-stored rowWidth s (rowNumbers r) k 0 c h (omega arith)))
 
 pub rowAt-putRow-other : (s : List Float) (k k′ : ℕ) (r : JointConstraint) → k′ ≢ k → rowAt (putRow s k r) k′ ≡ rowAt s k′
 unfolding rowAt putRow
 rowAt-putRow-other s k k′ r ne =
-    rowOf-cong (num rowWidth (puts s (k * rowWidth) 0 (rowNumbers r)) k′) (num rowWidth s k′) (λ c h. num-other rowWidth s (rowNumbers r) k k′ 0 c ne (omega arith) h)
+    rowOfNumbers-cong (num rowWidth (puts s (k * rowWidth) 0 (rowNumbers r)) k′) (num rowWidth s k′) (λ c h. num-other rowWidth s (rowNumbers r) k k′ 0 c ne (omega arith) h)
 
 -- ---- bodies
 

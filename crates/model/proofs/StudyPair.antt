@@ -109,11 +109,11 @@ granted′ = both-granted .1
 
 loaded : Loaded s
 unfolding grantedOf
-loaded = record { handedOver = m; left = sym (run-granted load m storage (granted .0)) }
+loaded = record { handedOver = m; byLoad = sym (run-granted load m storage (granted .0)) }
 
 loaded′ : Loaded s′
 unfolding grantedOf
-loaded′ = record { handedOver = m′; left = sym (run-granted load m′ storage (granted′ .0)) }
+loaded′ = record { handedOver = m′; byLoad = sym (run-granted load m′ storage (granted′ .0)) }
 
 enough : AtEach Enough (recorded ts s s′) s s′
 unfolding AtEach recorded jointCount rowCapacity rowsBefore rowCount jointIds rowMasksAt enabledAt masksAt hasAxis rowIds

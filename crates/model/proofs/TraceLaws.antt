@@ -5,7 +5,7 @@ use mathlib.Core.Path.{_≡_, sym, _∙_}
 use mathlib.Core.Logic.{inl, inr}
 use mathlib.Core.Bool.{true, false}
 use mathlib.Core.List.{List, [], _∷_}
-use Rattle.model.specs.Traces.{Machine, Study, Position, left, handed, AtEach, AtSome, after, after′, Returned}
+use Rattle.model.specs.Traces.{Machine, Study, Position, leftBy, handed, AtEach, AtSome, after, after′, Returned}
 use Rattle.model.proofs.Tests.{by-cases}
 
 -- what may hold at a position
@@ -17,24 +17,24 @@ module _ {machine : Machine} where
       → AtEach P ps s s′ → AtEach Q ps s s′
   unfolding AtEach
   each-map P Q f [] s s′ h = tt
-  each-map P Q f (p ∷ ps) s s′ h = (f p s s′ (h .0), each-map P Q f ps (left (p .outcome)) (left (p .outcome′)) (h .1))
+  each-map P Q f (p ∷ ps) s s′ h = (f p s s′ (h .0), each-map P Q f ps (leftBy (p .outcome)) (leftBy (p .outcome′)) (h .1))
 
   pub each-both : (P Q : Claim machine) (ps : List (Position machine)) (s s′ : Study machine) → AtEach P ps s s′ → AtEach Q ps s s′ → AtEach (λ p s s′. P p s s′ × Q p s s′) ps s s′
   unfolding AtEach
   each-both P Q [] s s′ h k = tt
-  each-both P Q (p ∷ ps) s s′ h k = ((h .0, k .0), each-both P Q ps (left (p .outcome)) (left (p .outcome′)) (h .1) (k .1))
+  each-both P Q (p ∷ ps) s s′ h k = ((h .0, k .0), each-both P Q ps (leftBy (p .outcome)) (leftBy (p .outcome′)) (h .1) (k .1))
 
   pub each-of-some : {X : Type 0} (P : X → Claim machine) (Q : X → Type 0) (ps : List (Position machine)) (s s′ : Study machine) → ((x : X) → AtSome (P x) ps s s′ → Q x)
       → AtEach (λ p s s′. (x : X) → P x p s s′ → Q x) ps s s′
   unfolding AtEach AtSome
   each-of-some P Q [] s s′ f = tt
-  each-of-some P Q (p ∷ ps) s s′ f = (λ x h. f x (inl h), each-of-some P Q ps (left (p .outcome)) (left (p .outcome′)) (λ x h. f x (inr h)))
+  each-of-some P Q (p ∷ ps) s s′ f = (λ x h. f x (inl h), each-of-some P Q ps (leftBy (p .outcome)) (leftBy (p .outcome′)) (λ x h. f x (inr h)))
 
   pub some-none : (P : Claim machine) (ps : List (Position machine)) (s s′ : Study machine) → AtEach (λ p s s′. P p s s′ → ⊥) ps s s′ → AtSome P ps s s′ → ⊥
   unfolding AtEach AtSome
   some-none P [] s s′ n h = h
   some-none P (p ∷ ps) s s′ n (inl h) = n .0 h
-  some-none P (p ∷ ps) s s′ n (inr h) = some-none P ps (left (p .outcome)) (left (p .outcome′)) (n .1) h
+  some-none P (p ∷ ps) s s′ n (inr h) = some-none P ps (leftBy (p .outcome)) (leftBy (p .outcome′)) (n .1) h
 
   -- a study that is built is handed its own row storage, and one that is not what is lent
   pub handed-built : (s : Study machine) (lent : machine .Storage) → machine .built (s .model) ≡ true → handed s lent ≡ s .rows
@@ -70,5 +70,5 @@ module _ {machine : Machine} where
       kept-through [] s s′ r t a = (tt, r)
       kept-through (p ∷ ps) s s′ r t a =
           let x = k .step p s s′ (t .0) (handed-kept s s′ (p .lent) (p .lent′) r) (a .0) in
-          let rest = kept-through ps (left (p .outcome)) (left (p .outcome′)) (x .1) (t .1) (a .1) in
+          let rest = kept-through ps (leftBy (p .outcome)) (leftBy (p .outcome′)) (x .1) (t .1) (a .1) in
           ((x .0, rest .0), rest .1)

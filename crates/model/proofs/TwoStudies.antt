@@ -27,11 +27,11 @@ use Rattle.model.specs.Store.{world, solverPoseAt, velAt, putPose}
 use Rattle.model.specs.JointRows.{jointIds}
 use Rattle.model.specs.Model.{Model, model, withBodies, jointCount, Sound, Room}
 use Rattle.model.specs.Refusals.{refusal, modelRules, storageRule, sweepRule, builtRule, seedsRule, jointRule, readsRows}
-use Rattle.model.specs.Calls.{Call, Outcome, Asked, table, rulesOf, grantedOf, run, refusalOf}
+use Rattle.model.specs.Calls.{Call, Outcome, Asked, callTable, rulesOf, grantedOf, run, refusalOf}
 use Rattle.model.specs.Calls.Call.{load, place, build, warmStart, sweep, removeBias, writeBack, readRows, readVelocity, setTargets}
 use Rattle.model.specs.Calls.Answer.{granted, velocityRead, refused}
 use Rattle.model.specs.Calls.Asked.{nothing, body, joint, records}
-use Rattle.model.specs.Traces.{Study, Position, left, handed, AtEach, after, after′, Returned}
+use Rattle.model.specs.Traces.{Study, Position, leftBy, handed, AtEach, after, after′, Returned}
 use Rattle.model.specs.Studies.{planar, Loaded, Enough, OfSet, Agree, MakesRows, NamesAt, Names, RefusedAlike, withoutTotal, countOf, AboutSet, SameAnswer, Shared, Compared, SameNumbers, TwoStudies, SameAsked, RefusedWhereAsked, SameTable, TablesAlike}
 use Rattle.model.proofs.StoreLaws.{withPose, solverPoseAt-cong, solverPoseAt-putPose, solverPoseAt-putPose-other, velAt-putPose, length-putPose}
 use Rattle.model.proofs.CountLaws.{body-there, joint-numbers}
@@ -90,7 +90,7 @@ record Next (set : ℕ → Bool) (named : ℕ → WritebackId → Type 0) (m : M
   agree : Agree set named (o .after) (o′ .after)
   mark : o .after .built ≡ o′ .after .built
   same-rows : o .after .built ≡ true → RowsSame set (o .after) (o′ .after) (o .rows) (o′ .rows)
-  answer : AboutSet set m (table c .asked) → withoutTotal (o .answer) ≡ withoutTotal (o′ .answer)
+  answer : AboutSet set m (callTable c .asked) → withoutTotal (o .answer) ≡ withoutTotal (o′ .answer)
 
 -- a call that changes nothing where it is granted
 left-alone : (c : Call) (m : Model) (rows : List Float) → grantedOf c m rows .after ≡ m → grantedOf c m rows .rows ≡ rows → (run c m rows .after ≡ m) × (run c m rows .rows ≡ rows)
@@ -121,7 +121,7 @@ place-elsewhere set m rows i pose f =
 
 module _ (set : ℕ → Bool) {named : ℕ → WritebackId → Type 0} (m m′ : Model) (rows rows′ : List Float) (b : Related set named m m′ rows rows′) where
   -- a call that is refused alike: both are refused, or both are granted
-  alike : (c : Call) → SameAsked m m′ (table c .asked) → (table c .rowStorage ≡ true → Room m rows × Room m′ rows′)
+  alike : (c : Call) → SameAsked m m′ (callTable c .asked) → (callTable c .rowStorage ≡ true → Room m rows × Room m′ rows′)
       → (refusal (rulesOf c m rows) ≡ 0 → refusal (rulesOf c m′ rows′) ≡ 0 → Next set named m c (grantedOf c m rows) (grantedOf c m′ rows′))
       → Next set named m c (run c m rows) (run c m′ rows′)
   alike c a room g =
@@ -257,7 +257,7 @@ module _ (set : ℕ → Bool) {named : ℕ → WritebackId → Type 0} (m m′ :
 
   -- a row read, and a velocity read: nothing changes
   unchanged : (c : Call) → (run c m rows .after ≡ m) × (run c m rows .rows ≡ rows) → (run c m′ rows′ .after ≡ m′) × (run c m′ rows′ .rows ≡ rows′)
-      → (AboutSet set m (table c .asked) → withoutTotal (run c m rows .answer) ≡ withoutTotal (run c m′ rows′ .answer)) → Next set named m c (run c m rows) (run c m′ rows′)
+      → (AboutSet set m (callTable c .asked) → withoutTotal (run c m rows .answer) ≡ withoutTotal (run c m′ rows′ .answer)) → Next set named m c (run c m rows) (run c m′ rows′)
   unchanged c l l′ a = record {
     agree = rw (l .0, l′ .0) (b .agree);
     mark = rw (l .0, l′ .0) (b .mark);
@@ -322,7 +322,7 @@ module _ (set : ℕ → Bool) {named : ℕ → WritebackId → Type 0} (m m′ :
       }
 
   -- a call keeps what two studies share, and its answers about the set are the same
-  turn : (c : Call) → SameTable m m′ (table c .asked) → (table c .rowStorage ≡ true → Room m rows × Room m′ rows′)
+  turn : (c : Call) → SameTable m m′ (callTable c .asked) → (callTable c .rowStorage ≡ true → Room m rows × Room m′ rows′)
       → (MakesRows c (run c m rows) → (j : ℕ) (id : WritebackId) → List·Memᴰ id (jointIds (m .words) j) → named j id)
       → Next set named m c (run c m rows) (run c m′ rows′)
   turn load t r d = alike load tt r (λ z _. load-next)
@@ -349,7 +349,7 @@ module _ (set : ℕ → Bool) {named : ℕ → WritebackId → Type 0} (m m′ :
     both-none c e e′ = counts-none c m rows e ∙ sym (counts-none c m′ rows′ e′)
 
     -- what a call counts for a joint of the set's is the same
-    counts-alike : (c : Call) → (table c .rowStorage ≡ true → Room m rows × Room m′ rows′) → OfSet set m j → countOf j (run c m rows .answer) ≡ countOf j (run c m′ rows′ .answer)
+    counts-alike : (c : Call) → (callTable c .rowStorage ≡ true → Room m rows × Room m′ rows′) → OfSet set m j → countOf j (run c m rows .answer) ≡ countOf j (run c m′ rows′ .answer)
     unfolding grantedOf
     counts-alike (sweep n) r t =
         let e = same-refusal m m′ (b .held) (b .held′) (b .mark) rows rows′ (sweep n) tt r in
@@ -372,7 +372,7 @@ module _ (set : ℕ → Bool) {named : ℕ → WritebackId → Type 0} (m m′ :
     counts-alike (setTargets bytes) r t = both-none (setTargets bytes) refl refl
 
   -- it is refused alike where both models have what it asks for, or neither has it
-  refused-alike : (c : Call) → (table c .rowStorage ≡ true → Room m rows × Room m′ rows′) → SameAsked m m′ (table c .asked)
+  refused-alike : (c : Call) → (callTable c .rowStorage ≡ true → Room m rows × Room m′ rows′) → SameAsked m m′ (callTable c .asked)
       → refusalOf (run c m rows .answer) ≡ refusalOf (run c m′ rows′ .answer)
   refused-alike c r a =
       told c m rows ∙ same-refusal m m′ (b .held) (b .held′) (b .mark) rows rows′ c a r ∙ sym (told c m′ rows′)
@@ -429,9 +429,9 @@ loaded-start s l =
     (λ t.
     let z = eqb-true k 0 t in
     let h = rules-hold m true (granted-front (modelRules m true) (storageRule m (s .rows) ∷ []) (granted-front (modelRules m true ++ (storageRule m (s .rows) ∷ [])) [] z)) in
-    (rw (l .left) at (run-holds load m (s .rows) h), ap (λ (o : Outcome). o .after .built) (sym (l .left) ∙ sym (run-granted load m (s .rows) z))))
+    (rw (l .byLoad) at (run-holds load m (s .rows) h), ap (λ (o : Outcome). o .after .built) (sym (l .byLoad) ∙ sym (run-granted load m (s .rows) z))))
     (λ t.
-    let e : refused k ≡ granted = ap (λ (o : Outcome). o .answer) (run-refused load m (s .rows) refl (eqb-false k 0 t) ∙ l .left) in
+    let e : refused k ≡ granted = ap (λ (o : Outcome). o .answer) (run-refused load m (s .rows) refl (eqb-false k 0 t) ∙ l .byLoad) in
     let z : _≡_ {A = ℕ} 0 1 = cc in
     absurd (omega arith))
 
@@ -505,7 +505,7 @@ tables-alike : (ps : List (Position planar)) (s s′ : Study planar) → SameNum
 unfolding AtEach
 tables-alike [] s s′ n t = tt
 tables-alike (p ∷ ps) s s′ n t =
-    (numbers-table (s .model) (s′ .model) n (table (p .call) .asked), tables-alike ps (left (p .outcome)) (left (p .outcome′)) (numbers-step p s s′ (t .0) n) (t .1))
+    (numbers-table (s .model) (s′ .model) n (callTable (p .call) .asked), tables-alike ps (leftBy (p .outcome)) (leftBy (p .outcome′)) (numbers-step p s s′ (t .0) n) (t .1))
 
 -- so the studies stay related with equal numbers, and every call is refused alike
 numbers-kept : (set : ℕ → Bool) (named : ℕ → WritebackId → Type 0) → Kept (λ m m′ r r′. Related set named m m′ r r′ × SameNumbers m m′) (Asks set named) RefusedAlike
@@ -514,7 +514,7 @@ numbers-kept set named = record {
   any = λ m m′ r r′ q q′ b e. (any-rows set named m m′ r r′ q q′ (b .0) e, b .1);
   step = λ p s s′ ret b a.
       let x = one-step set named p s s′ ret (b .0) a in
-      (x .0 .0 (numbers-asked (s .model) (s′ .model) (b .1) (table (p .call) .asked)), (x .1, numbers-step p s s′ ret (b .1)));
+      (x .0 .0 (numbers-asked (s .model) (s′ .model) (b .1) (callTable (p .call) .asked)), (x .1, numbers-step p s s′ ret (b .1)));
 }
 
 pub two-studies : TwoStudies

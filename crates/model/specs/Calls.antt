@@ -158,7 +158,7 @@ ownRule m afterBuild = builtRule m
 ownRule m (rowsToRead warm substep) = seedsRule m warm substep
 
 -- What there is to know of a call beside what it does.
-pub record Entry : Type 0 where
+pub record CallEntry : Type 0 where
   -- its own numbers, a new pose or a warm coefficient, are finite (rule 6)
   pub finite : Bool
   -- it is handed row storage (rule 8)
@@ -170,21 +170,21 @@ pub record Entry : Type 0 where
   -- where it is granted, it makes rows
   pub makesRows : Bool
 
-abbrev entry : Bool → Bool → List Own → Asked → Bool → Entry
+abbrev entry : Bool → Bool → List Own → Asked → Bool → CallEntry
 entry f s o a r = record { finite = f; rowStorage = s; own = o; asked = a; makesRows = r }
 
 -- The table of the calls, by column: finite, rowStorage, own, asked, makesRows. Place, a velocity read and a table are handed no row storage.
-abbrev pub table : Call → Entry
-table load = entry true true [] nothing false
-table (place i pose) = entry (finitePose pose) false [] (body i) false
-table (build warm substep) = entry (finiteWarm warm) true (rowsToRead warm substep ∷ []) nothing true
-table warmStart = entry true true (afterBuild ∷ []) nothing false
-table (sweep n) = entry true true (fewRounds n ∷ afterBuild ∷ []) nothing false
-table removeBias = entry true true (afterBuild ∷ []) nothing false
-table writeBack = entry true true (afterBuild ∷ []) nothing false
-table (readRows j) = entry true true (afterBuild ∷ []) (joint j) false
-table (readVelocity i) = entry true false [] (body i) false
-table (setTargets bytes) = entry true false [] (records bytes) false
+abbrev pub callTable : Call → CallEntry
+callTable load = entry true true [] nothing false
+callTable (place i pose) = entry (finitePose pose) false [] (body i) false
+callTable (build warm substep) = entry (finiteWarm warm) true (rowsToRead warm substep ∷ []) nothing true
+callTable warmStart = entry true true (afterBuild ∷ []) nothing false
+callTable (sweep n) = entry true true (fewRounds n ∷ afterBuild ∷ []) nothing false
+callTable removeBias = entry true true (afterBuild ∷ []) nothing false
+callTable writeBack = entry true true (afterBuild ∷ []) nothing false
+callTable (readRows j) = entry true true (afterBuild ∷ []) (joint j) false
+callTable (readVelocity i) = entry true false [] (body i) false
+callTable (setTargets bytes) = entry true false [] (records bytes) false
 
 -- rules 1 to 8, over what a call is handed; a call handed no row storage passes over 8
 abbrev pub handedRules : Bool → Model → Bool → List Float → List Rule
@@ -200,10 +200,10 @@ askedRules m (records bytes) = tableRules m bytes
 
 -- the rules that a call tries, in order: 1 to 8, and then 9 to 11 or 13 to 15
 abbrev pub firstRules : Call → Model → List Float → List Rule
-firstRules c m rows = handedRules (table c .rowStorage) m (table c .finite) rows
+firstRules c m rows = handedRules (callTable c .rowStorage) m (callTable c .finite) rows
 
 abbrev pub ownRules : Call → Model → List Rule
-ownRules c m = map (ownRule m) (table c .own) ++ askedRules m (table c .asked)
+ownRules c m = map (ownRule m) (callTable c .own) ++ askedRules m (callTable c .asked)
 
 unfoldable pub rulesOf : Call → Model → List Float → List Rule
 rulesOf c m rows = firstRules c m rows ++ ownRules c m

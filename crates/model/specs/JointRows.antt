@@ -1,4 +1,4 @@
--- One joint's rows in storage: made, stepped, warm started, freed of their bias, written back. A joint's rows stand one after the other, from row `first` on.
+-- One joint's rows in storage: made, stepped, warm started, freed of their bias, written back. A joint's rows stand one after the other; row k is the first of those that are spoken of.
 use Prim.Native.Nat.{ℕ, zero, suc, _+_, _-_}
 use mathlib.Core.Bool.{cond}
 use lib.Dec.{ltb}
@@ -63,10 +63,10 @@ builtRows params bodies words numbers j warm substep prevs =
     cond (isEnabled (enabledAt words j))
     (builderUpdateOf params substep warm (solverPoseAt bodies (body1At words j)) (solverPoseAt bodies (body2At words j)) (jointAt words numbers j) prevs) []
 
--- joint j's rows made anew, from their last impulses, and stored
+-- joint j's rows made anew, from their last impulses, and stored from row k on
 unfoldable pub buildJoint : IntegrationParameters → List Float → List ℕ → List Float → ℕ → ℕ → Warmstart → ℕ → List Float → List Float
-buildJoint params bodies words numbers j first warm substep rows =
-    putRows rows first (builtRows params bodies words numbers j warm substep (filled 6 (bits 0) (impulsesAt rows first (rowCount words j))))
+buildJoint params bodies words numbers j k warm substep rows =
+    putRows rows k (builtRows params bodies words numbers j warm substep (filled 6 (bits 0) (impulsesAt rows k (rowCount words j))))
 
 -- ---- rows at work
 

@@ -38,7 +38,7 @@ unfoldable pub all : ℕ → ℕ → (ℕ → Bool) → Bool
 all i zero p = true
 all i (suc n) p = p i && all (i + 1) n p
 
--- the largest number of rounds, the mask of all three axes, and the number of masks
+-- the largest number of rounds (document 02, R-1), the mask of all three axes, and the number of masks
 abbrev pub mostRounds : ℕ
 mostRounds = 64
 

@@ -7,13 +7,12 @@ use lib.Dec.{eqb, ltb}
 use lib.ListN.{length, set}
 use lib.Ieee.{Float}
 use Rattle.floats.specs.Operators.{bits}
+use Rattle.floats.specs.Constants.{one}
 use Rattle.floats.specs.SinCos.{rotationFromAngleOf}
-use Rattle.floats.specs.declared.vector.Vector.{Vector}
 use Rattle.floats.specs.declared.rotation_ops.Rotation.{Rotation}
 use Rattle.floats.specs.declared.pose.Pose.{Pose}
 use Rattle.rows.specs.declared.motor_model.MotorModel.{MotorModel}
 use Rattle.rows.specs.declared.motor_model.MotorModel.the-variants.{AccelerationBased, ForceBased}
-use Rattle.rows.specs.declared.integration_parameters.SpringCoefficients.{SpringCoefficients}
 use Rattle.rows.specs.declared.generic_joint.JointLimits.{JointLimits}
 use Rattle.rows.specs.declared.generic_joint.JointMotor.{JointMotor}
 use Rattle.rows.specs.declared.generic_joint.Masks.{Masks}
@@ -34,8 +33,8 @@ use Rattle.model.specs.declared.store.LimitCenter.the-variants.{CosineSi
 -- ---- rows
 
 -- the row whose number c is f c
-abbrev pub rowOf : (ℕ → Float) → JointConstraint
-rowOf f = record {
+abbrev pub rowOfNumbers : (ℕ → Float) → JointConstraint
+rowOfNumbers f = record {
   impulse = f 0;
   «impulse_min» = f 1;
   «impulse_max» = f 2;
@@ -55,7 +54,7 @@ rowOf f = record {
 
 -- row k of the storage
 unfoldable pub rowAt : List Float → ℕ → JointConstraint
-rowAt s k = rowOf (num rowWidth s k)
+rowAt s k = rowOfNumbers (num rowWidth s k)
 
 -- a row's numbers
 abbrev pub rowNumbers : JointConstraint → List Float
@@ -84,7 +83,7 @@ poseOf f o = record { rotation = record { re = f o; im = f (o + 1) }; translatio
 -- The world has the identity pose, and its inverse masses and inertia are zero.
 abbrev pub worldPose : SolverPose
 worldPose = record {
-  pose = record { rotation = record { re = bits 0x3F80_0000; im = bits 0 }; translation = record { x = bits 0; y = bits 0 } };
+  pose = record { rotation = record { re = one; im = bits 0 }; translation = record { x = bits 0; y = bits 0 } };
   ii = bits 0;
   im = record { x = bits 0; y = bits 0 };
 }
@@ -99,6 +98,7 @@ solverPoseAt b i =
       im = record { x = num bodyWidth b i massPlace; y = num bodyWidth b i (massPlace + 1) };
     })
 
+-- no velocity
 abbrev pub rest : SolverVel
 rest = record { linear = record { x = bits 0; y = bits 0 }; angular = bits 0 }
 
@@ -121,17 +121,19 @@ putPose b i p = puts b (i * bodyWidth) posePlace (p .rotation .re ∷ p .rotatio
 
 -- ---- joints
 
+-- the limits in the three numbers from number o on
 abbrev pub limitsOf : (ℕ → Float) → ℕ → JointLimits
 limitsOf f o = record { min = f o; max = f (o + 1); impulse = f (o + 2) }
 
 -- 0 is acceleration based, and every other number force based
-abbrev pub modelOf : ℕ → MotorModel
-modelOf m = cond (eqb m 0) AccelerationBased ForceBased
+abbrev pub motorModelOf : ℕ → MotorModel
+motorModelOf m = cond (eqb m 0) AccelerationBased ForceBased
 
 -- the Rust's kinds in the order of its declaration; every other number is `Disabled`
 abbrev pub enabledOf : ℕ → JointEnabled
 enabledOf e = cond (eqb e 0) Enabled (cond (eqb e 1) DisabledByAttachedBody Disabled)
 
+-- the motor in the six numbers from number o on, with the model that word m says
 abbrev pub motorOf : (ℕ → Float) → ℕ → ℕ → JointMotor
 motorOf f o m = record {
   «target_vel» = f o;
@@ -140,7 +142,7 @@ motorOf f o m = record {
   damping = f (o + 3);
   «max_force» = f (o + 4);
   impulse = f (o + 5);
-  model = modelOf m;
+  model = motorModelOf m;
 }
 
 -- the masks of a joint whose word c is g c

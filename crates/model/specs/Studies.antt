@@ -15,7 +15,7 @@ use Rattle.model.specs.Store.{world, solverPoseAt, velAt, jointAt, enabl
 use Rattle.model.specs.JointRows.{jointIds}
 use Rattle.model.specs.Model.{Model, bodyCount, jointCount, Room}
 use Rattle.model.specs.Refusals.{firstFault}
-use Rattle.model.specs.Calls.{Call, Answer, Outcome, Asked, outcome, table, run, refusalOf, rowsOf}
+use Rattle.model.specs.Calls.{Call, Answer, Outcome, Asked, outcome, callTable, run, refusalOf, rowsOf}
 use Rattle.model.specs.Calls.Call.{load}
 use Rattle.model.specs.Calls.Answer.{granted, total, rowsRead, velocityRead, swept, refused}
 use Rattle.model.specs.Calls.Asked.{nothing, body, joint, records}
@@ -39,11 +39,11 @@ planar = record {
 -- a study starts as its granted load left it, with whatever its row storage holds
 pub record Loaded (s : Study planar) : Type 0 where
   pub handedOver : Model
-  pub left : run load handedOver (s .rows) ≡ outcome granted (s .model) (s .rows)
+  pub byLoad : run load handedOver (s .rows) ≡ outcome granted (s .model) (s .rows)
 
 -- Row storage, where it is handed over, holds the study's total at that moment. (Document 01 asks the larger of the two totals of both storages, which is more.)
 abbrev pub Enough : Position planar → Study planar → Study planar → Type 0
-Enough p s s′ = table (p .call) .rowStorage ≡ true → Room (s .model) (handed s (p .lent)) × Room (s′ .model) (handed s′ (p .lent′))
+Enough p s s′ = callTable (p .call) .rowStorage ≡ true → Room (s .model) (handed s (p .lent)) × Room (s′ .model) (handed s′ (p .lent′))
 
 -- ---- a closed set of bodies
 
@@ -88,7 +88,7 @@ pub record Agree (set : ℕ → Bool) (named : ℕ → WritebackId → Type 0) (
 
 -- a call makes rows: it is of a kind that makes them, and it is granted
 abbrev pub MakesRows : Call → Outcome → Type 0
-MakesRows c o = (table c .makesRows ≡ true) × (refusalOf (o .answer) ≡ 0)
+MakesRows c o = (callTable c .makesRows ≡ true) × (refusalOf (o .answer) ≡ 0)
 
 -- the rules give joint j a row with this id, by its masks as they are
 abbrev pub HasRow : Model → ℕ → WritebackId → Type 0
@@ -135,7 +135,7 @@ AboutSet set m (records bytes) = Unit
 
 -- what a call answers about the set's joints and bodies
 abbrev pub SameAnswer : (ℕ → Bool) → Position planar → Study planar → Study planar → Type 0
-SameAnswer set p s s′ = (AboutSet set (s .model) (table (p .call) .asked) → withoutTotal (p .outcome .answer) ≡ withoutTotal (p .outcome′ .answer))
+SameAnswer set p s s′ = (AboutSet set (s .model) (callTable (p .call) .asked) → withoutTotal (p .outcome .answer) ≡ withoutTotal (p .outcome′ .answer))
     × ((j : ℕ) → OfSet set (s .model) j → countOf j (p .outcome .answer) ≡ countOf j (p .outcome′ .answer))
 
 -- Shared after the list: the mark; while it says built, the rows of the set's joints, each whole and in order; the set's velocities; the stored impulses of its
@@ -182,7 +182,7 @@ SameAsked m m′ (joint j) = ltb j (jointCount (m .words) (m .numbers)) ≡ ltb 
 SameAsked m m′ (records bytes) = firstFault m bytes ≡ firstFault m′ bytes
 
 abbrev pub RefusedWhereAsked : Position planar → Study planar → Study planar → Type 0
-RefusedWhereAsked p s s′ = SameAsked (s .model) (s′ .model) (table (p .call) .asked) → RefusedAlike p s s′
+RefusedWhereAsked p s s′ = SameAsked (s .model) (s′ .model) (callTable (p .call) .asked) → RefusedAlike p s s′
 
 -- A table sets targets of the set's joints too, so that one granted in one study and refused in the other would tell them apart: where the numbers of joints may
 -- differ, tables are asked to be refused with the same number in both, or granted in both.
@@ -193,4 +193,4 @@ SameTable m m′ (joint j) = Unit
 SameTable m m′ (records bytes) = SameAsked m m′ (records bytes)
 
 abbrev pub TablesAlike : Position planar → Study planar → Study planar → Type 0
-TablesAlike p s s′ = SameTable (s .model) (s′ .model) (table (p .call) .asked)
+TablesAlike p s s′ = SameTable (s .model) (s′ .model) (callTable (p .call) .asked)

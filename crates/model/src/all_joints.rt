@@ -2,7 +2,7 @@
 ghost use mathlib.Core.Path.{_≡_};
 ghost use Prim.Native.Nat.{_+_, _*_, _≤_};
 ghost use lib.ListN.{length};
-ghost use Rattle.rows.specs.Update.{rowsArray, blankRow};
+ghost use Rattle.rows.specs.Update.{rowsArray};
 ghost use Rattle.model.specs.Layout.{rowWidth};
 ghost use Rattle.model.specs.JointRows.{state};
 ghost use Rattle.model.specs.Model.{modelOf, Sound, Room, jointCount, totalRows};
@@ -19,10 +19,9 @@ use crate::joint_rows::write_back_joint;
 use crate::store::body1_at;
 use crate::store::body2_at;
 use crate::store::row_at;
-use floats::vector::Vector;
 use rows::joint_constraint_builder::Warmstart;
-use rows::joint_velocity_constraint::JointConstraint;
 use rows::joint_velocity_constraint::Rows;
+use rows::joint_velocity_constraint::blank_row;
 
 // The rows of all joints made anew; their number comes back.
 pub fn build_all(
@@ -174,29 +173,6 @@ pub fn write_back_all(
         write_back_joint(rows, words, first, j, numbers);
         first += count_at(words, j);
         j += 1;
-    }
-}
-
-// A row of zeros.
-pub fn blank_row() -> JointConstraint
-    ensures { λ r. ⌜ r ≡ blankRow ⌝ }
-{
-    JointConstraint {
-        impulse: 0.0,
-        impulse_min: 0.0,
-        impulse_max: 0.0,
-        lin_jac: Vector { x: 0.0, y: 0.0 },
-        ang_jac1: 0.0,
-        ang_jac2: 0.0,
-        ii_ang_jac1: 0.0,
-        ii_ang_jac2: 0.0,
-        inv_lhs: 0.0,
-        rhs: 0.0,
-        rhs_wo_bias: 0.0,
-        cfm_gain: 0.0,
-        cfm_coeff: 0.0,
-        im1: Vector { x: 0.0, y: 0.0 },
-        im2: Vector { x: 0.0, y: 0.0 },
     }
 }
 

@@ -8,7 +8,6 @@ ghost use Rattle.model.specs.Calls.Call.{load, place, build, warmStart, 
 ghost use Rattle.model.specs.JointRows.{rowMasksAt};
 ghost use Rattle.model.specs.Refusals.{readsRows};
 ghost use Rattle.model.specs.Answers.{WithoutRows, loadAnswer, loadHeader, plainAnswer, buildAnswer, buildHeader, rowsAnswer, noRows, rowsAnswerOf, velocityAnswer, sweepAnswer, sweptAs, sweepAnswerOf};
-use crate::all_joints::blank_row;
 use crate::all_joints::build_all;
 use crate::all_joints::remove_bias_all;
 use crate::all_joints::rows_from;
@@ -35,6 +34,7 @@ use motor_table::table::read_table;
 use rows::joint_constraint_builder::Warmstart;
 use rows::joint_velocity_constraint::Rows;
 use rows::joint_velocity_constraint::SolverVel;
+use rows::joint_velocity_constraint::blank_row;
 use rows::row_ids::RowIds;
 use rows::row_ids::row_ids;
 

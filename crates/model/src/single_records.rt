@@ -2,7 +2,6 @@
 // read, and nothing is stored.
 ghost use mathlib.Core.Path.{_≡_};
 ghost use Rattle.model.specs.SingleRecords.{rowIfThere, putRowIfThere, blankJoint, jointIfThere, putSeedIfThere};
-use crate::all_joints::blank_row;
 use crate::counts::joint_count;
 use crate::counts::row_capacity;
 use crate::layout::NUMBERS_WIDTH;
@@ -22,6 +21,7 @@ use rows::integration_parameters::SpringCoefficients;
 use rows::joint_constraint_builder::ImpulseJoint;
 use rows::joint_velocity_constraint::JointConstraint;
 use rows::joint_velocity_constraint::WritebackId;
+use rows::joint_velocity_constraint::blank_row;
 use rows::motor_model::MotorModel;
 
 pub fn read_row(rows: &[f32], k: usize) -> JointConstraint

@@ -5,7 +5,7 @@ ghost use Prim.Native.Nat.{_+_, _*_, _≤_, _<_};
 ghost use lib.ListN.{length};
 ghost use Rattle.model.specs.Layout.{rowWidth, bodyWidth, wordsWidth, numbersWidth};
 ghost use Rattle.model.specs.Records.{numFrom, num, sixOf, word, puts};
-ghost use Rattle.model.specs.Store.{rowAt, putRow, Present, poseOf, solverPoseAt, velAt, putVel, putPose, body1At, body2At, masksAt, limitsOf, allLimitsOf, modelOf, motorOf, allMotorsOf, dataOf, jointAt, axisOf, seedIndex, putSeed, putTarget, enabledOf, enabledAt, centerAt, rotationOf};
+ghost use Rattle.model.specs.Store.{rowAt, putRow, Present, poseOf, solverPoseAt, velAt, putVel, putPose, body1At, body2At, masksAt, limitsOf, allLimitsOf, motorModelOf, motorOf, allMotorsOf, dataOf, jointAt, axisOf, seedIndex, putSeed, putTarget, enabledOf, enabledAt, centerAt, rotationOf};
 use crate::layout::BODY_WIDTH;
 use crate::layout::BODY1;
 use crate::layout::BODY2;
@@ -310,8 +310,8 @@ fn limits_at(s: &[f32], o: usize, c: usize) -> JointLimits
 }
 
 // 0 is acceleration based, and every other number force based.
-fn model_of(m: u32) -> MotorModel
-    ensures { λ r. ⌜ r ≡ modelOf m ⌝ }
+fn motor_model_of(m: u32) -> MotorModel
+    ensures { λ r. ⌜ r ≡ motorModelOf m ⌝ }
 {
     if m == 0 {
         return MotorModel::AccelerationBased;
@@ -353,7 +353,7 @@ fn motor_at(s: &[f32], o: usize, c: usize, m: u32) -> JointMotor
         damping: a.n3,
         max_force: a.n4,
         impulse: a.n5,
-        model: model_of(m),
+        model: motor_model_of(m),
     }
 }
 

@@ -9,8 +9,8 @@ returns : tie.Need-returns
 unfolding combineCoefficients
 returns c = simp (lt-leb _ _ (c .if1 .taken))
 
-model-of-requires : tie.Need-model-of-requires
-model-of-requires c κs = search needs
+motor-model-of-requires : tie.Need-motor-model-of-requires
+motor-model-of-requires c κs = search needs
 
 combine-coefficients-requires : tie.Need-combine-coefficients-requires
 combine-coefficients-requires c κs = search needs
@@ -30,7 +30,7 @@ katydidzinc-combine-coefficients-spec =
     tie.close
     (tie.spec
     returns
-    model-of-requires
+    motor-model-of-requires
     combine-coefficients-requires
     put-three-requires
     same-length

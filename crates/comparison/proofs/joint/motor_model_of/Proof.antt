@@ -1,7 +1,7 @@
--- `model_of` meets its contract: each answer is the case that the test left.
+-- `motor_model_of` meets its contract: each answer is the case that the test left.
 use borrow.Author.Tests.{ne-eqb, eq-eqb}
-use Rattle.comparison.proofs.joint.model_of.Statement.{statement}
-use Rattle.comparison.proofs.joint.model_of.Tie as tie
+use Rattle.comparison.proofs.joint.motor_model_of.Statement.{statement}
+use Rattle.comparison.proofs.joint.motor_model_of.Tie as tie
 
 returns : tie.Need-returns
 returns c = simp (eq-eqb _ _ (c .if1 .taken))
@@ -9,5 +9,5 @@ returns c = simp (eq-eqb _ _ (c .if1 .taken))
 returns-2 : tie.Need-returns-2
 returns-2 c = simp (ne-eqb _ _ (c .if1 .left))
 
-pub model-of-spec : {M : Type 1} → statement M
-model-of-spec = tie.close (tie.spec returns returns-2)
+pub motor-model-of-spec : {M : Type 1} → statement M
+motor-model-of-spec = tie.close (tie.spec returns returns-2)

@@ -1,6 +1,6 @@
 use borrow.Author.Tests.{ne-eqb, eq-eqb}
-use Rattle.model.proofs.store.model_of.Statement.{statement}
-use Rattle.model.proofs.store.model_of.Tie as tie
+use Rattle.model.proofs.store.motor_model_of.Statement.{statement}
+use Rattle.model.proofs.store.motor_model_of.Tie as tie
 
 returns : tie.Need-returns
 returns c = simp (eq-eqb _ _ (c .if1 .taken))
@@ -8,5 +8,5 @@ returns c = simp (eq-eqb _ _ (c .if1 .taken))
 returns-2 : tie.Need-returns-2
 returns-2 c = simp (ne-eqb _ _ (c .if1 .left))
 
-pub model-of-spec : {M : Type 1} → statement M
-model-of-spec = tie.close (tie.spec returns returns-2)
+pub motor-model-of-spec : {M : Type 1} → statement M
+motor-model-of-spec = tie.close (tie.spec returns returns-2)
