@@ -7,7 +7,7 @@ use mathlib.Core.List.{List, [], _∷_, _++_}
 use lib.ListN.{take, replicate}
 use mathlib.Core.Logic.{_≢_, _⊎_, inl, inr}
 use native.Mathlib.Omega.{arith}
-use borrow.Author.Tests.{ne-eqb, eqb-true, eqb-false, lt-ltb, le-ltb}
+use borrow.Author.Tests.{ne-eqb, eqb-true, eqb-false, lt-ltb, le-ltb, not-true, not-false}
 use lib.Dec.{eqb}
 use lib.Ieee.{Float}
 use Rattle.motor_table.specs.Tables.{mostRecords, readTable, tableAnswer}
@@ -34,7 +34,7 @@ use Rattle.model.proofs.JointRowsLaws.{few-rows}
 use Rattle.model.proofs.MotorCounts.{length-sweepCounts, last-counts}
 use Rattle.model.proofs.StoredRows.{rowsFrom-length}
 use Rattle.model.proofs.Tests.{by-cases}
-use Rattle.model.proofs.RefusalLaws.{Numbered, rule-holds, rule-fails, granted-append, refused-append, model-numbered, first-numbered, call-numbered, Hold, all-hold, ruleOf, hold-number, at-most, rules-hold, sound-of, room-of}
+use Rattle.model.proofs.RefusalLaws.{Numbered, no-rules, rule-holds, rule-fails, granted-append, refused-append, model-numbered, first-numbered, call-numbered, Hold, all-hold, ruleOf, hold-number, at-most, rules-hold, sound-of, room-of}
 
 or-true : (t : Bool) → (t || true) ≡ true
 or-true true = refl
@@ -154,6 +154,14 @@ module _ (rest : List Rule) where
     pub some-joint : (j : ℕ) {n : ℕ} → n ≡ jointCount (m .words) (m .numbers) → j < n → refusal (jointRule m j ∷ rest) ≡ refusal rest
     unfolding jointRule
     some-joint j {n} e h = rule-holds (jointRule m j) rest (rw (← e) (lt-ltb j n h))
+
+-- a call whose one rule of its own is that a build comes before it
+module _ (c : Call) (m : Model) (rows : List Float) {k : ℕ} (e : k ≡ refusal (firstRules c m rows)) (z : k ≡ 0) (own : ownRules c m ≡ builtRule m ∷ []) where
+  pub refused-unbuilt : not (m .built) ≡ true → outcome (refused 10) m rows ≡ run c m rows
+  refused-unbuilt t = refused-late c m rows e z (rw own (not-built [] m (not-true (m .built) t))) (omega arith)
+
+  pub granted-built : not (m .built) ≡ false → grantedOf c m rows ≡ run c m rows
+  granted-built t = granted-late c m rows e z (rw own (is-built [] m (not-false (m .built) t) ∙ no-rules))
 
 -- rules 13 to 15 come to the table's refusal
 pub table-refusal : (m : Model) (bytes : List ℕ) → refusal (tableRules m bytes) ≡ firstFault m bytes

@@ -1,54 +1,30 @@
 -- `all_masks_fit` meets its contract. Before turn j, the joints from j on decide.
-use Prim.Native.Nat.{_-_, _≤_}
-use mathlib.Core.Path.{_≡_, sym, _∙_}
-use native.Mathlib.Nat.{sub-zero}
+use Prim.Native.Nat.{_-_}
 use borrow.Author.Needs.{needs}
-use Rattle.model.specs.Refusals.{all, masksFit}
-use Rattle.model.proofs.RefusalLaws.{holds, fails, all-turn, all-stop, all-done}
+use Rattle.model.specs.Refusals.{masksFit}
+use Rattle.model.proofs.RefusalLaws.{holds, fails, Undecided, undecided, still-undecided, one-fails, all-pass}
 use Rattle.model.proofs.refusals.all_masks_fit.Statement.{statement}
 use Rattle.model.proofs.refusals.all_masks_fit.Tie as tie
 
 abbrev Inv-loop : tie.InvT-loop
-Inv-loop words n j₀ j = (j ≤ n) × (all j (n - j) (masksFit words) ≡ all 0 n (masksFit words))
+Inv-loop words n j₀ j = Undecided (masksFit words) n j
 
 abbrev μ-loop : tie.MeasureT-loop
 μ-loop words n j₀ j = n - j
 
-loop-holds : tie.Need-loop-holds Inv-loop μ-loop
-loop-holds c = (search needs, rw sub-zero)
-
-masks-fit-requires : tie.Need-masks-fit-requires Inv-loop μ-loop
-masks-fit-requires c κs = search needs
-
 returns : tie.Need-returns Inv-loop μ-loop
 returns c =
     let lt = c .before .before in
-    sym (all-stop _ _ _ _ (lt .loop-test .taken) (fails (c .before .masks-fit .ensures) (c .if1 .taken))) ∙ lt .before .loop .inv .1
-
-add-j : tie.Need-add-j Inv-loop μ-loop
-add-j c = search needs
-
-loop-less : tie.Need-loop-less Inv-loop μ-loop
-loop-less c = search needs
+    one-fails _ _ _ (lt .before .loop .inv) (lt .loop-test .taken) (fails (c .before .masks-fit .ensures) (c .if1 .taken))
 
 loop-again : tie.Need-loop-again Inv-loop μ-loop
 loop-again c =
     let lt = c .before .before in
-    (search needs, all-turn _ _ _ _ (lt .loop-test .taken) (holds (c .before .masks-fit .ensures) (c .if1 .left)) ∙ lt .before .loop .inv .1)
+    still-undecided _ _ _ (lt .before .loop .inv) (lt .loop-test .taken) (holds (c .before .masks-fit .ensures) (c .if1 .left))
 
 returns-2 : tie.Need-returns-2 Inv-loop μ-loop
-returns-2 c = sym (all-done _ _ _ _ (c .loop-test .left)) ∙ c .before .loop .inv .1
+returns-2 c = all-pass _ _ _ (c .before .loop .inv) (c .loop-test .left)
 
 pub all-masks-fit-spec : {M : Type 1} → statement M
 all-masks-fit-spec =
-    tie.close
-    (tie.spec
-    Inv-loop
-    μ-loop
-    loop-holds
-    masks-fit-requires
-    returns
-    add-j
-    loop-less
-    loop-again
-    returns-2)
+    tie.close (tie.spec Inv-loop μ-loop (λ c. undecided _ _) (λ c κs. search needs) returns (λ c. search needs) (λ c. search needs) loop-again returns-2)

@@ -12,15 +12,6 @@ use Rattle.model.proofs.store.put_seed.Tie as tie
 below : (c : tie.After-seed-index) → seedIndex (c .before .before .before .before .args .id) < numbersWidth
 below c = seed-index-below (c .before .before .before .before .args .id) (rw (c .before .before .axis .ensures) at (c .before .if1 .taken))
 
-axis-requires : tie.Need-axis-requires
-axis-requires c κs = search needs
-
-mul-a : tie.Need-mul-a
-mul-a c = search needs
-
-seed-index-requires : tie.Need-seed-index-requires
-seed-index-requires c κs = search needs
-
 add-a : tie.Need-add-a
 add-a c = omega (arith, below c)
 
@@ -29,9 +20,6 @@ mul-numbers c = omega (arith, below c)
 
 slice-write-numbers : tie.Need-slice-write-numbers
 slice-write-numbers c = omega (arith, below c)
-
-same-length : tie.Need-same-length
-same-length c = search needs
 
 returns : tie.Need-returns
 unfolding putSeed
@@ -44,13 +32,4 @@ returns-2 c = simp (le-ltb _ _ (rw (c .before .axis .ensures) at (c .if1 .left))
 pub put-seed-spec : {M : Type 1} → statement M
 put-seed-spec =
     tie.close
-    (tie.spec
-    axis-requires
-    mul-a
-    seed-index-requires
-    add-a
-    mul-numbers
-    slice-write-numbers
-    same-length
-    returns
-    returns-2)
+    (tie.spec (λ c κs. search needs) (λ c. search needs) (λ c κs. search needs) add-a mul-numbers slice-write-numbers (λ c. search needs) returns returns-2)

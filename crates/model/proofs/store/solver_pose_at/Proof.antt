@@ -9,35 +9,14 @@ returns : tie.Need-returns
 unfolding solverPoseAt
 returns c = simp (eq-eqb _ _ (c .if1 .taken))
 
-mul-o : tie.Need-mul-o
-mul-o c = search needs
-
 pose-at-requires : tie.Need-pose-at-requires
 pose-at-requires c κs = let h = c .before .before .pre (c .if1 .left) in omega arith
-
-add-t9 : tie.Need-add-t9
-add-t9 c = search needs
-
-mul-t11 : tie.Need-mul-t11
-mul-t11 c = search needs
 
 shared-slice-read-t13 : tie.Need-shared-slice-read-t13
 shared-slice-read-t13 c = let d = c .before .before in let h = d .before .before .pre (d .if1 .left) in omega arith
 
-add-t14 : tie.Need-add-t14
-add-t14 c = search needs
-
-mul-t15 : tie.Need-mul-t15
-mul-t15 c = search needs
-
 shared-slice-read-t17 : tie.Need-shared-slice-read-t17
 shared-slice-read-t17 c = let d = c .before .before .before in let h = d .before .before .pre (d .if1 .left) in omega arith
-
-add-t18 : tie.Need-add-t18
-add-t18 c = search needs
-
-mul-t19 : tie.Need-mul-t19
-mul-t19 c = search needs
 
 shared-slice-read-t21 : tie.Need-shared-slice-read-t21
 shared-slice-read-t21 c = let d = c .before .before .before .before in let h = d .before .before .pre (d .if1 .left) in omega arith
@@ -49,17 +28,4 @@ returns-2 c = let d = c .before .before .before in simp (ne-eqb _ _ (d .before .
 pub solver-pose-at-spec : {M : Type 1} → statement M
 solver-pose-at-spec =
     tie.close
-    (tie.spec
-    returns
-    mul-o
-    pose-at-requires
-    add-t9
-    mul-t11
-    shared-slice-read-t13
-    add-t14
-    mul-t15
-    shared-slice-read-t17
-    add-t18
-    mul-t19
-    shared-slice-read-t21
-    returns-2)
+    (tie.spec returns (λ c. search needs) pose-at-requires (λ c. search needs) (λ c. search needs) shared-slice-read-t13 (λ c. search needs) (λ c. search needs) shared-slice-read-t17 (λ c. search needs) (λ c. search needs) shared-slice-read-t21 returns-2)
