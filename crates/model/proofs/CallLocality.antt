@@ -8,7 +8,6 @@ use mathlib.Core.Bool.{Bool, true}
 use mathlib.Core.List.{List, [], _∷_, map, List·Memᴰ}
 use native.Mathlib.Nat.{add-assoc, add-zero}
 use native.Mathlib.Omega.{arith}
-use borrow.Author.Tests.{lt-ltb}
 use lib.ListN.{length, getD, getD-replicate}
 use lib.Ieee.{Float}
 use Rattle.floats.specs.Operators.{bits}
@@ -22,7 +21,6 @@ use Rattle.rows.specs.declared.joint_constraint_builder.SolverPose.{SolverPose}
 use Rattle.rows.specs.declared.joint_constraint_builder.ImpulseJoint.{ImpulseJoint}
 use Rattle.rows.specs.declared.joint_constraint_builder.Warmstart.{Warmstart}
 use Rattle.rows.specs.declared.joint_constraint_builder.Warmstart.the-variants.{Cold, Warm}
-use Rattle.rows.proofs.BuilderLaws.{first-reads-no-row, cold}
 use Rattle.rows.specs.declared.joint_velocity_constraint.WritebackId.{WritebackId}
 use Rattle.rows.proofs.NamedRows.{same-named}
 use Rattle.rows.proofs.WritebackNamed.{fewer-named}
@@ -33,7 +31,7 @@ use Rattle.model.specs.Refusals.{readsRows}
 use Rattle.model.specs.Calls.{eachJoint, rounds, buildOne, warmstartOne, removeBiasOne, rowsOf, sweepRound, countOne, sweepCounts}
 use Rattle.model.specs.Studies.{Inside, OfSet, Agree}
 use Rattle.model.proofs.Tests.{by-cases}
-use Rattle.model.proofs.JointRowsLaws.{masks-enabled, sides-same}
+use Rattle.model.proofs.JointRowsLaws.{masks-enabled, last-impulses, sides-same}
 use Rattle.model.proofs.MotorCounts.{count-at}
 use Rattle.model.proofs.StoreLaws.{velAt-world, solverPoseAt-world}
 use Rattle.model.proofs.StoredRows.{rowsFrom-at, rowsFrom-same, impulses-of}
@@ -41,15 +39,6 @@ use Rattle.model.proofs.SameStudies.{RowsSame, VelsSame}
 use Rattle.model.proofs.JointLocality.{Split, Alike, sideOf, Matched, row-together, rows-together, until-alike, joints-alike, rows-alike, rounds-together}
 use Rattle.model.proofs.ClosedSet.{same-ids, same-enabled, layoutOf, InSet, IsWorld, split}
 use Rattle.model.proofs.RowWorks.{sweepRows, warmRows, biasRows, warm-all, sweep-all, bias-all, lastOf, six-last, pose1, pose2, madeOf, buildSide, row-made}
-
--- last impulses count only where the build reads them
-last-impulses : (params : IntegrationParameters) (body1 body2 : SolverPose) (joint : ImpulseJoint) (warm : Warmstart) (substep : ℕ) (ps qs : List Float)
-    → length ps ≡ 6 → length qs ≡ 6 → (readsRows warm substep ≡ true → ps ≡ qs)
-    → builderUpdateOf params substep warm body1 body2 joint ps ≡ builderUpdateOf params substep warm body1 body2 joint qs
-unfolding readsRows
-last-impulses params body1 body2 joint Cold substep ps qs six six′ h = cold params body1 body2 substep joint ps ∙ sym (cold params body1 body2 substep joint qs)
-last-impulses params body1 body2 joint (Warm c) zero ps qs six six′ h = first-reads-no-row params body1 body2 (Warm c) joint ps qs
-last-impulses params body1 body2 joint (Warm c) (suc substep) ps qs six six′ h = rw (h (lt-ltb 0 (suc substep) (omega arith)))
 
 -- joint j's rows are the same in both, one by one
 abbrev RowByRow : Model → Model → ℕ → List Float → List Float → Type 0

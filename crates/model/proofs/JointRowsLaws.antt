@@ -1,6 +1,6 @@
 -- One joint's rows in storage, one turn of a loop at a time: what is left of the work at a turn is the turn's row and what is left at the next one,
 -- and at the end nothing is left. The rows that are made are as many as the joint's masks name, at most six; a joint that is not enabled makes none.
-use mathlib.Core.Path.{_≡_, refl, ap, _∙_}
+use mathlib.Core.Path.{_≡_, refl, ap, sym, _∙_}
 use mathlib.Core.Bool.{Bool, true, false}
 use mathlib.Core.List.{List, [], _∷_, _++_}
 use Prim.Native.Nat.{ℕ, zero, suc, _+_, _*_, _-_, _≤_, _<_}
@@ -10,6 +10,7 @@ use native.Mathlib.Omega.{arith}
 use lib.ListN.{length, getD, set, take, drop, drop-of-length-le}
 use lib.Seq.{drop-cons, getD-take, length-take-le}
 use lib.Ieee.{Float, nan}
+use borrow.Author.Tests.{lt-ltb}
 use Rattle.floats.specs.Operators.{bits}
 use Rattle.rows.specs.GenericJoint.{isEnabled}
 use Rattle.rows.specs.RowIds.{noMasks, filled, rowIdsArray}
@@ -22,6 +23,7 @@ use Rattle.rows.specs.declared.generic_joint.JointEnabled.{JointEnabled}
 use Rattle.rows.specs.declared.joint_constraint_builder.SolverPose.{SolverPose}
 use Rattle.rows.specs.declared.joint_constraint_builder.ImpulseJoint.{ImpulseJoint}
 use Rattle.rows.specs.declared.joint_constraint_builder.Warmstart.{Warmstart}
+use Rattle.rows.specs.declared.joint_constraint_builder.Warmstart.the-variants.{Cold, Warm}
 use Rattle.rows.specs.declared.joint_velocity_constraint.JointConstraint.{JointConstraint}
 use Rattle.rows.specs.declared.joint_velocity_constraint.WritebackId.{WritebackId}
 use Rattle.rows.specs.declared.joint_velocity_constraint.WritebackId.the-variants.{Dof}
@@ -31,12 +33,14 @@ use Rattle.rows.specs.declared.joint_velocity_constraint.Solved.{Solved}
 use Rattle.rows.specs.declared.row_ids.RowId.{RowId}
 use Rattle.rows.specs.declared.row_ids.RowIds.{RowIds}
 use Rattle.rows.proofs.Filled.{set-filled, length-filled}
+use Rattle.rows.proofs.BuilderLaws.{first-reads-no-row, cold}
 use Rattle.rows.proofs.RowIdsCount.{at-most-six}
 use Rattle.rows.proofs.RowIdsLaws.{no-ids}
 use Rattle.rows.proofs.RowArrays.{rowsArray-len, rowsArray-rows, rowIdsArray-len, rowIdsArray-id, length-builderUpdateOf}
 use Rattle.model.specs.Layout.{rowWidth}
 use Rattle.model.specs.Store.{rowAt, putRow, velAt, putVel, solverPoseAt, jointAt, masksAt, body1At, body2At, putSeed, enabledAt}
 use Rattle.model.specs.JointRows.{State, state, jointIds, rowCount, rowsList, putRows, buildJoint, impulsesAt, sweepRow, sweepSide, sweepJoint, warmstartRow, warmstartJoint, removeBiasJoint, writeBackIds, rowMasksAt, builtRows}
+use Rattle.model.specs.Refusals.{readsRows}
 use Rattle.model.proofs.Tests.{by-cases}
 
 pub less : (n i : ℕ) → i < n → n - i ≡ suc (n - (i + 1))
@@ -157,6 +161,15 @@ module _ (params : IntegrationParameters) (substep : ℕ) (warm : Warmstart) (bo
 
   pub built-rows : rowsList made ≡ builderUpdateOf params substep warm body1 body2 joint prevs
   built-rows = ap (λ m. rowsList m) m ∙ rowsArray-rows (builderUpdateOf params substep warm body1 body2 joint prevs) (few-rows words j count)
+
+-- last impulses count only where the build reads them
+pub last-impulses : (params : IntegrationParameters) (body1 body2 : SolverPose) (joint : ImpulseJoint) (warm : Warmstart) (substep : ℕ) (ps qs : List Float)
+    → length ps ≡ 6 → length qs ≡ 6 → (readsRows warm substep ≡ true → ps ≡ qs)
+    → builderUpdateOf params substep warm body1 body2 joint ps ≡ builderUpdateOf params substep warm body1 body2 joint qs
+unfolding readsRows
+last-impulses params body1 body2 joint Cold substep ps qs six six′ h = cold params body1 body2 substep joint ps ∙ sym (cold params body1 body2 substep joint qs)
+last-impulses params body1 body2 joint (Warm c) zero ps qs six six′ h = first-reads-no-row params body1 body2 (Warm c) joint ps qs
+last-impulses params body1 body2 joint (Warm c) (suc substep) ps qs six six′ h = rw (h (lt-ltb 0 (suc substep) (omega arith)))
 
 -- a joint's rows made anew, from what is read and stored in turn
 pub build-steps : (params : IntegrationParameters) (substep : ℕ) (warm : Warmstart) (bodies : List Float) (words : List ℕ) (numbers : List Float) (j : ℕ)

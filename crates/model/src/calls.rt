@@ -6,7 +6,6 @@ ghost use Rattle.model.specs.Model.{modelOf, jointCount};
 ghost use Rattle.model.specs.Calls.{outcome, run};
 ghost use Rattle.model.specs.Calls.Call.{load, place, build, warmStart, sweep, removeBias, writeBack, readRows, readVelocity, setTargets};
 ghost use Rattle.model.specs.JointRows.{rowMasksAt};
-ghost use Rattle.model.specs.Refusals.{readsRows};
 ghost use Rattle.model.specs.Answers.{WithoutRows, loadAnswer, loadHeader, plainAnswer, buildAnswer, buildHeader, rowsAnswer, noRows, rowsAnswerOf, velocityAnswer, sweepAnswer, sweptAs, sweepAnswerOf};
 use crate::all_joints::build_all;
 use crate::all_joints::remove_bias_all;
@@ -21,6 +20,7 @@ use crate::header::Header;
 use crate::joint_rows::count_at;
 use crate::joint_rows::ids_at;
 use crate::joint_rows::no_masks;
+use crate::joint_rows::reads_rows;
 use crate::refusals::finite_pose;
 use crate::refusals::finite_warm;
 use crate::refusals::model_refusal;
@@ -255,16 +255,6 @@ pub fn write_back(
     }
     write_back_all(header, bodies, words, numbers, rows);
     Plain::Granted
-}
-
-// A build that has both a warm coefficient and a substep above 0 reads the rows of the last build.
-fn reads_rows(warmstart: Warmstart, substep_id: u32) -> bool
-    ensures { λ r. ⌜ r ≡ readsRows warmstart «substep_id» ⌝ }
-{
-    match warmstart {
-        Warmstart::Cold => false,
-        Warmstart::Warm(_) => substep_id > 0,
-    }
 }
 
 // A refusal, with no ids and no rows.

@@ -4,9 +4,14 @@ ghost use mathlib.Core.Bool.{true};
 ghost use Prim.Native.Nat.{_+_, _*_, _≤_};
 ghost use lib.ListN.{length};
 ghost use Rattle.floats.specs.Operators.{bits};
+ghost use Rattle.rows.specs.Builder.{builderUpdateOf};
 ghost use Rattle.rows.specs.GenericJoint.{isEnabled};
 ghost use Rattle.rows.specs.RowIds.{noMasks, filled, rowIdsArray};
+ghost use Rattle.rows.specs.declared.integration_parameters.IntegrationParameters.{IntegrationParameters};
+ghost use Rattle.rows.specs.declared.joint_constraint_builder.ImpulseJoint.{ImpulseJoint};
+ghost use Rattle.rows.specs.declared.joint_constraint_builder.SolverPose.{SolverPose};
 ghost use Rattle.model.specs.Layout.{rowWidth, wordsWidth, numbersWidth};
+ghost use Rattle.model.specs.Refusals.{readsRows};
 ghost use Rattle.model.specs.Store.{Present, enabledAt, body1At, body2At};
 ghost use Rattle.model.specs.JointRows.{state, rowMasksAt, rowCount, motorCount, rowsList, putRows, impulsesAt, buildJoint, sweepRow, sweepSide, sweepJoint, countRow, countRows, warmstartRow, warmstartJoint, removeBiasJoint, writeBackJoint};
 use crate::layout::ROW_WIDTH;
@@ -96,6 +101,34 @@ pub fn impulses_at(rows: &[f32], k: usize, n: usize) -> [f32; 6]
     out
 }
 
+// A build that has both a warm coefficient and a substep above 0 reads the rows of the last build.
+pub fn reads_rows(warmstart: Warmstart, substep_id: u32) -> bool
+    ensures { λ r. ⌜ r ≡ readsRows warmstart «substep_id» ⌝ }
+{
+    match warmstart {
+        Warmstart::Cold => false,
+        Warmstart::Warm(_) => substep_id > 0,
+    }
+}
+
+// The impulses from which a build starts n rows from row k on, at most six, as it left them before: where it reads none, zeros. What it makes is the same as from the rows' own impulses.
+fn last_impulses(
+    rows: &[f32],
+    k: usize,
+    n: usize,
+    warmstart: Warmstart,
+    substep_id: u32,
+) -> [f32; 6]
+    requires { ⌜ n ≤ 6 ⌝ }
+    requires { ⌜ (k + n) * rowWidth ≤ length (now rows) ⌝ }
+    ensures { λ r. ⌜ ((params : IntegrationParameters) (body1 body2 : SolverPose) (joint : ImpulseJoint) → builderUpdateOf params «substep_id» warmstart body1 body2 joint r ≡ builderUpdateOf params «substep_id» warmstart body1 body2 joint (filled 6 (bits 0) (impulsesAt (now (rows .entry)) k n))) ⌝ }
+{
+    if reads_rows(warmstart, substep_id) {
+        return impulses_at(rows, k, n);
+    }
+    [0.0f32; 6]
+}
+
 // The rows of an array, stored from row k on.
 pub fn put_rows(rows: &mut [f32], k: usize, made: Rows)
     requires { ⌜ made .len ≤ 6 ⌝ }
@@ -132,7 +165,7 @@ fn build_enabled(
     ensures { λ r. ⌜ (r ≡ rowCount (now (words .entry)) j) × (now (rows .exit) ≡ buildJoint params (now (bodies .entry)) (now (words .entry)) (now (numbers .entry)) j first warmstart «substep_id» (now (rows .entry))) ⌝ }
 {
     let n = count_at(words, j);
-    let prevs = impulses_at(rows, first, n);
+    let prevs = last_impulses(rows, first, n, warmstart, substep_id);
     let joint = joint_at(words, numbers, j);
     let body1 = solver_pose_at(bodies, body1_at(words, j));
     let body2 = solver_pose_at(bodies, body2_at(words, j));

@@ -1,14 +1,15 @@
 // Document 01's rules 1 to 8, and rule 12 right after 6, each tried on the whole of what a call is handed before the next.
 ghost use mathlib.Core.Path.{_≡_};
-ghost use mathlib.Core.Bool.{_&&_};
+ghost use mathlib.Core.Bool.{Bool, not, _&&_, _||_};
 ghost use mathlib.Core.List.{[], _∷_, _++_};
 ghost use Prim.Native.Nat.{_+_, _*_, _≤_};
 ghost use lib.ListN.{length};
 ghost use lib.Ieee.{isNan};
 ghost use Rattle.floats.specs.Scalar.{isFinite};
+ghost use Rattle.model.specs.declared.header.Header.{Header};
 ghost use Rattle.model.specs.Layout.{bodyWidth, wordsWidth, numbersWidth};
-ghost use Rattle.model.specs.Model.{modelOf};
-ghost use Rattle.model.specs.Refusals.{refusal, all, masksFit, presentOrWorld, bodiesPresent, bodiesApart, finiteFrom, noNanFrom, finiteParams, finitePose, finiteWarm, finiteBody, finiteMotor, limitEnds, finiteMotors, finiteCenter, finiteJoint, allFinite, angleFits, centerFits, jointRules, modelRules, storageRule};
+ghost use Rattle.model.specs.Model.{modelOf, totalRows};
+ghost use Rattle.model.specs.Refusals.{rule, refusal, all, atMost, masksFit, presentOrWorld, bodiesPresent, bodiesApart, finiteFrom, noNanFrom, finiteParams, finitePose, finiteWarm, finiteBody, finiteMotor, limitEnds, finiteMotors, finiteCenter, finiteJoint, angleFits, centerFits, jointRules, modelRules, storageRule};
 use crate::counts::body_count;
 use crate::counts::joint_count;
 use crate::counts::row_capacity;
@@ -301,31 +302,27 @@ fn all_finite_joints(words: &[u32], numbers: &[f32], n: usize) -> bool
     true
 }
 
-// The whole of rule 6. `arguments`: the call's own numbers are finite.
+// The whole of rule 6. `finite`: the settings and the call's own numbers are.
 fn all_finite(
-    params: IntegrationParameters,
+    finite: bool,
     bodies: &[f32],
     n: usize,
     words: &[u32],
     numbers: &[f32],
     joints: usize,
-    arguments: bool,
 ) -> bool
     requires { ⌜ n * bodyWidth ≤ length (now bodies) ⌝ }
     requires { ⌜ joints * wordsWidth ≤ length (now words) ⌝ }
     requires { ⌜ joints * numbersWidth ≤ length (now numbers) ⌝ }
-    ensures { λ r. ⌜ r ≡ allFinite params (now (bodies .entry)) n (now (words .entry)) (now (numbers .entry)) joints arguments ⌝ }
+    ensures { λ r. ⌜ r ≡ (finite && (all 0 n (finiteBody (now (bodies .entry))) && all 0 joints (finiteJoint (now (words .entry)) (now (numbers .entry))))) ⌝ }
 {
-    if !finite_params(params) {
+    if !finite {
         return false;
     }
     if !all_finite_bodies(bodies, n) {
         return false;
     }
-    if !all_finite_joints(words, numbers, joints) {
-        return false;
-    }
-    arguments
+    all_finite_joints(words, numbers, joints)
 }
 
 // ---- rule 12
@@ -373,17 +370,19 @@ fn joints_refusal(bodies: &[f32], words: &[u32], n: usize) -> u32
     0
 }
 
-// The number of the first of rules 1 to 6, 12 and 7 that fails, or 0. `arguments`: the call's own numbers are finite.
-pub fn model_refusal(
-    header: Header,
+// The number of the first of rules 1 to 6, 12, 7 and, where row storage is handed over, 8 that fails, or 0. `finite`: the settings and the call's own numbers are.
+// `room`: so many rows fit in the storage. Settings are handed over one by one: a struct of them would be put together just to be copied.
+fn first_refusal(
+    dt: f32,
+    finite: bool,
     bodies: &[f32],
     words: &[u32],
     numbers: &[f32],
-    arguments: bool,
+    handed: bool,
+    room: usize,
 ) -> u32
-    ensures { λ r. ⌜ r ≡ refusal (modelRules (modelOf header (now (bodies .entry)) (now (words .entry)) (now (numbers .entry))) arguments) ⌝ }
+    ensures { λ r. ⌜ ((header : Header) (arguments : Bool) → dt ≡ header .params .dt → finite ≡ (finiteParams (header .params) && arguments) → r ≡ refusal (modelRules (modelOf header (now (bodies .entry)) (now (words .entry)) (now (numbers .entry))) arguments ++ (rule 8 (not handed || atMost room (totalRows (now (words .entry)) (now (numbers .entry)))) ∷ []))) ⌝ }
 {
-    let params = header.params;
     let n = body_count(bodies);
     let joints = joint_count(words, numbers);
     if n > MOST_BODIES {
@@ -396,16 +395,37 @@ pub fn model_refusal(
     if k != 0 {
         return k;
     }
-    if !all_finite(params, bodies, n, words, numbers, joints, arguments) {
+    if !all_finite(finite, bodies, n, words, numbers, joints) {
         return 6;
     }
     if !all_centers_fit(words, numbers, joints) {
         return 12;
     }
-    if params.dt < 0.0 {
+    if dt < 0.0 {
         return 7;
     }
+    if !handed {
+        return 0;
+    }
+    if rows_before(words, joints) > room {
+        return 8;
+    }
     0
+}
+
+// The number of the first of rules 1 to 6, 12 and 7 that fails, or 0. `arguments`: the call's own numbers are finite.
+pub fn model_refusal(
+    header: Header,
+    bodies: &[f32],
+    words: &[u32],
+    numbers: &[f32],
+    arguments: bool,
+) -> u32
+    ensures { λ r. ⌜ r ≡ refusal (modelRules (modelOf header (now (bodies .entry)) (now (words .entry)) (now (numbers .entry))) arguments) ⌝ }
+{
+    let params = header.params;
+    let finite = finite_params(params) & arguments;
+    first_refusal(params.dt, finite, bodies, words, numbers, false, 0)
 }
 
 // Rules 1 to 8 and 12, for a call that is handed row storage.
@@ -419,13 +439,8 @@ pub fn storage_refusal(
 ) -> u32
     ensures { λ r. ⌜ r ≡ refusal (modelRules (modelOf header (now (bodies .entry)) (now (words .entry)) (now (numbers .entry))) arguments ++ (storageRule (modelOf header (now (bodies .entry)) (now (words .entry)) (now (numbers .entry))) (now (rows .entry)) ∷ [])) ⌝ }
 {
-    let k = model_refusal(header, bodies, words, numbers, arguments);
-    if k != 0 {
-        return k;
-    }
-    let joints = joint_count(words, numbers);
-    if rows_before(words, joints) > row_capacity(rows) {
-        return 8;
-    }
-    0
+    let params = header.params;
+    let finite = finite_params(params) & arguments;
+    let room = row_capacity(rows);
+    first_refusal(params.dt, finite, bodies, words, numbers, true, room)
 }

@@ -8,6 +8,7 @@ pub mod MaskBits
 pub mod RowIdsCount
 pub mod RowIdsPush
 pub mod RowIdsLaws
+pub mod RowSlotsLaws
 pub mod Filled
 pub mod UpdateRows
 pub mod WarmedFinalize

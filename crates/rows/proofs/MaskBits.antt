@@ -38,7 +38,7 @@ first-coupled x = rw (and-mask x 2, ← low4-0 x, ← low4-1 x) (first4 (x % 4) 
 -- ---- counts
 
 -- the test passes at each number below n
-abbrev below : ℕ → (ℕ → Bool) → Bool
+abbrev pub below : ℕ → (ℕ → Bool) → Bool
 below zero f = true
 below (suc n) f = f 0 && below n (λ i. f (suc i))
 
@@ -50,20 +50,20 @@ and-right : (a b : Bool) → T (a && b) → T b
 and-right true b t = t
 and-right false b t = absurd t
 
-at : (n : ℕ) (f : ℕ → Bool) → T (below n f) → (i : ℕ) → i < n → T (f i)
+pub at : (n : ℕ) (f : ℕ → Bool) → T (below n f) → (i : ℕ) → i < n → T (f i)
 at zero f t i h = absurd (not-suc-le-zero h)
 at (suc n) f t zero h = and-left (f 0) (below n (λ i. f (suc i))) t
 at (suc n) f t (suc i) h = at n (λ i. f (suc i)) (and-right (f 0) (below n (λ i. f (suc i))) t) i (le-of-suc-le-suc h)
 
-low8-0 : (x : ℕ) → hasAxis (x % 8) 0 ≡ hasAxis x 0
+pub low8-0 : (x : ℕ) → hasAxis (x % 8) 0 ≡ hasAxis x 0
 unfolding hasAxis
 low8-0 x = let e : x % 8 / 2 ^ 0 % 2 ≡ x / 2 ^ 0 % 2 = omega arith in ap (λ t. eqb t 1) e
 
-low8-1 : (x : ℕ) → hasAxis (x % 8) 1 ≡ hasAxis x 1
+pub low8-1 : (x : ℕ) → hasAxis (x % 8) 1 ≡ hasAxis x 1
 unfolding hasAxis
 low8-1 x = let e : x % 8 / 2 ^ 1 % 2 ≡ x / 2 ^ 1 % 2 = omega arith in ap (λ t. eqb t 1) e
 
-low8-2 : (x : ℕ) → hasAxis (x % 8) 2 ≡ hasAxis x 2
+pub low8-2 : (x : ℕ) → hasAxis (x % 8) 2 ≡ hasAxis x 2
 unfolding hasAxis
 low8-2 x = let e : x % 8 / 2 ^ 2 % 2 ≡ x / 2 ^ 2 % 2 = omega arith in ap (λ t. eqb t 1) e
 

@@ -34,7 +34,7 @@ unpushed ids n l id named t e = rw (t, append-nil) e
 
 -- ---- three pushes, in the order of the axes
 
-split : (f : ℕ → WritebackId) (a b d : Bool) → cond a (f 2 ∷ []) [] ++ (cond b (f 0 ∷ []) [] ++ cond d (f 1 ∷ []) [])
+pub split : (f : ℕ → WritebackId) (a b d : Bool) → cond a (f 2 ∷ []) [] ++ (cond b (f 0 ∷ []) [] ++ cond d (f 1 ∷ []) [])
     ≡ map f (cond a (2 ∷ cond b (0 ∷ cond d (1 ∷ []) []) (cond d (1 ∷ []) [])) (cond b (0 ∷ cond d (1 ∷ []) []) (cond d (1 ∷ []) [])))
 split f true true true = refl
 split f true true false = refl

@@ -76,6 +76,11 @@ module _ (cx : RowContext) (l r : List WritebackId) (h : length (l ++ r) ≤ 6) 
       ap (λ t. finalizeGroups (length l) (length (l ++ r)) t) made
       ∙ finalize-filled 6 (length l) (length (l ++ r)) (map (rowOf cx) l) (map (rowOf cx) r) (length-map l (rowOf cx)) count h
 
+-- the groups' numbers of rows
+pub group-counts : (masks : Masks) → (length (groupOne 2 1 masks) ≤ length (rowIds 2 1 masks)) × (length (rowIds 2 1 masks) ≤ 6)
+unfolding rowIds
+group-counts masks = (omega (arith, length-append (groupOne 2 1 masks) (groupTwo 2 1 masks)), at-most-six masks)
+
 module _ (masks : Masks) {ids : RowIds} (e : ids ≡ rowIdsArray masks) where
   pub counts : (ids .first ≤ ids .len) × (ids .len ≤ 6)
   unfolding rowIdsArray rowIds

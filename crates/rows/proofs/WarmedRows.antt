@@ -1,12 +1,17 @@
--- The rows that the builder's `update` makes: row by row the id's row with the impulse that it starts from. A turn of its loop overwrites one
+-- The rows that the builder's `update` makes: row by row the id's row with the impulse that it starts from, slot by slot. A turn of its loop overwrites one
 -- blank row (`start-turn`); the array at the end (`start-end`), with its groups orthogonalised, is that of the joint's rows (`started-rows`).
-use Prim.Native.Nat.{ℕ, zero, suc, _+_, _≤_, _<_}
+use Prim.Native.Nat.{ℕ, zero, suc, _+_, _-_, _≤_, _<_}
 use native.Mathlib.Nat.{le-of-suc-le-suc, not-suc-le-zero}
+use native.Mathlib.Numerals.{add-one}
 use native.Mathlib.Omega.{arith}
 use mathlib.Core.Path.{_≡_, refl, ap, sym, _∙_}
-use mathlib.Core.List.{List, [], _∷_, _++_, map, map-append, map-map, map-id}
+use mathlib.Core.Bool.{cond}
+use mathlib.Core.List.{List, [], _∷_, _++_, map, map-append}
+use lib.Bits.{bitAnd}
+use lib.Count.{trailingZeros}
+use lib.Dec.{ltb}
 use lib.ListN.{length, getD, set, take, drop, replicate, length-map, length-append, length-drop, length-set, List·getD-map}
-use lib.Seq.{take-all, getD-take, length-take-le}
+use lib.Seq.{take-all, drop-cons}
 use lib.Ieee.{Float}
 use Rattle.rows.specs.declared.integration_parameters.IntegrationParameters.{IntegrationParameters}
 use Rattle.rows.specs.declared.joint_constraint_builder.SolverPose.{SolverPose}
@@ -16,16 +21,15 @@ use Rattle.rows.specs.declared.joint_velocity_constraint.JointConstraint
 use Rattle.rows.specs.declared.joint_velocity_constraint.RowContext.{RowContext}
 use Rattle.rows.specs.declared.joint_velocity_constraint.Rows.{Rows}
 use Rattle.rows.specs.declared.joint_velocity_constraint.WritebackId.{WritebackId}
-use Rattle.rows.specs.declared.joint_velocity_constraint.WritebackId.the-variants.{Dof}
-use Rattle.rows.specs.declared.row_ids.RowId.{RowId}
-use Rattle.rows.specs.declared.row_ids.RowIds.{RowIds}
-use Rattle.rows.specs.RowIds.{filled, rowId, groupOne, groupTwo, rowIds, rowIdsArray}
+use Rattle.rows.specs.RowIds.{filled, firstCoupled, groupOne, groupTwo, rowIds}
+use Rattle.rows.specs.RowSlots.{slotId, slotBits}
 use Rattle.rows.specs.Finalize.{finalizeOf, finalizeGroups}
 use Rattle.rows.specs.Update.{contextOf, rowOf, updateOf, blankRow, rowsArray}
 use Rattle.rows.specs.Builder.{jointContextOf, seedOf, warmedOf, warmedAll, builderUpdateOf}
-use Rattle.rows.proofs.Filled.{take-filled, length-filled, over-blank, overwrite-turn}
+use Rattle.rows.proofs.Filled.{over-blank, overwrite-turn}
 use Rattle.rows.proofs.OrthogonaliseLaws.{length-finalizeOf}
 use Rattle.rows.proofs.RowIdsCount.{at-most-six}
+use Rattle.rows.proofs.RowSlotsLaws.{slotsFrom, lowest-slot, cleared-less, slotBits-lt, slot-ids}
 use Rattle.rows.proofs.UpdateRows.{finalize-filled}
 use Rattle.rows.proofs.WarmedFinalize.{finalize-warmed, warmed-append}
 
@@ -49,64 +53,83 @@ module _ (warm : Warmstart) (substep : ℕ) (joint : ImpulseJoint) where
   getD-warmedAll (j ∷ is) (q ∷ ps) (s ∷ rs) (suc k) i p r d f g h =
       getD-warmedAll is ps rs k i p r d (le-of-suc-le-suc f) (le-of-suc-le-suc g) (le-of-suc-le-suc h)
 
-  -- the rows of the first len ids of an array, each with the impulse that it starts from, before their groups are orthogonalised
-  abbrev pub startedFirst : RowContext → List RowId → List Float → ℕ → List JointConstraint
-  startedFirst cx ids prevs len =
-      warmedAll warm substep joint (map (λ (i : RowId). i .id) (take len ids)) prevs (map (rowOf cx) (map (λ (i : RowId). i .id) (take len ids)))
+  -- the rows of ids, each with the impulse that it starts from, before their groups are orthogonalised
+  abbrev pub startedRows : RowContext → List WritebackId → List Float → List JointConstraint
+  startedRows cx is prevs = warmedAll warm substep joint is prevs (map (rowOf cx) is)
 
 abbrev blanks : List JointConstraint
 blanks = replicate 6 blankRow
 
--- what the builder's loop keeps at row k: the rows before k are made and have the impulses that they start from
-pub record Starting (warm : Warmstart) (substep : ℕ) (joint : ImpulseJoint) (cx : RowContext) (prevs : List Float) (ids : List RowId) (len : ℕ) (rows : List JointConstraint) (k : ℕ) : Type 0 where
-  pub reached : k ≤ len
-  pub few : len ≤ 6
-  pub six-ids : length ids ≡ 6
+-- the ids of the slots that are left
+abbrev pub idsOf : ℕ → ℕ → List WritebackId
+idsOf f left = map (λ s. slotId s f) (slotsFrom 11 0 left)
+
+-- what the builder's loop keeps at row k: the rows of the ids before k are made and have the impulses that they start from, and the slots that are left are those of
+-- the ids from k on
+pub record Starting (warm : Warmstart) (substep : ℕ) (joint : ImpulseJoint) (cx : RowContext) (prevs : List Float) (is : List WritebackId) (f : ℕ) (rows : List JointConstraint) (left k : ℕ) : Type 0 where
+  pub reached : k ≤ length is
+  pub few : length is ≤ 6
+  pub slots-left : left < 2048
+  pub ids-left : idsOf f left ≡ drop k is
   pub six-prevs : length prevs ≡ 6
   pub six-rows : length rows ≡ 6
-  pub so-far : rows ≡ take k (startedFirst warm substep joint cx ids prevs len) ++ drop k blanks
+  pub so-far : rows ≡ take k (startedRows warm substep joint cx is prevs) ++ drop k blanks
 
-module _ (warm : Warmstart) (substep : ℕ) (joint : ImpulseJoint) (cx : RowContext) (prevs : List Float) (ids : List RowId) (len : ℕ) (rows : List JointConstraint) (k : ℕ)
-    (s : Starting warm substep joint cx prevs ids len rows k) where
+-- an id, and those after it, in a list from place k on
+next-id : {A : Type 0} (is : List A) (k : ℕ) (i : A) (l : List A) → i ∷ l ≡ drop k is → (k < length is) × (getD is k i ≡ i) × (drop (k + 1) is ≡ l)
+next-id is k i l e =
+    let at : k < length is = omega (arith, ap length e, length-drop k is) in
+    let split : i ∷ l ≡ getD is k i ∷ drop (suc k) is = e ∙ drop-cons is k i at in
+    (at, sym (ap (λ t. getD t 0 i) split), rw add-one (sym (ap (drop 1) split)))
+
+module _ (warm : Warmstart) (substep : ℕ) (joint : ImpulseJoint) (cx : RowContext) (prevs : List Float) (is : List WritebackId) (f : ℕ) (rows : List JointConstraint) (left k : ℕ)
+    (s : Starting warm substep joint cx prevs is f rows left k) where
   abbrev started : List JointConstraint
-  started = startedFirst warm substep joint cx ids prevs len
+  started = startedRows warm substep joint cx is prevs
 
-  abbrev named : List WritebackId
-  named = map (λ (i : RowId). i .id) (take len ids)
+  length-started : length started ≡ length is
+  length-started = length-warmedAll warm substep joint is prevs (map (rowOf cx) is) (length-map is (rowOf cx)) (omega (arith, s .few, s .six-prevs))
 
-  length-named : length named ≡ len
-  length-named = length-map (take len ids) (λ (i : RowId). i .id) ∙ length-take-le len ids (omega (arith, s .few, s .six-ids))
+  -- the id of the lowest slot is the next one
+  pub next : 0 < left → (k < length is) × (getD is k (slotId (trailingZeros 32 left) f) ≡ slotId (trailingZeros 32 left) f) × (drop (k + 1) is ≡ idsOf f (bitAnd left (left - 1)))
+  next g = next-id is k _ _ (sym (ap (map (λ s. slotId s f)) (lowest-slot left g (s .slots-left))) ∙ s .ids-left)
 
-  length-started : length started ≡ len
-  length-started =
-      length-warmedAll warm substep joint named prevs (map (rowOf cx) named) (length-map named (rowOf cx)) (omega (arith, length-named, s .few, s .six-prevs)) ∙ length-named
+  pub room : 0 < left → k < 6
+  room g = omega (arith, next g .0, s .few)
 
-  -- a turn: i and p stand for what the code would read past an array's end
-  pub start-turn : {y : JointConstraint} (i : RowId) (p : Float) → k < len
-      → y ≡ warmedOf warm substep (seedOf joint (getD ids k i .id)) (getD prevs k p) (rowOf cx (getD ids k i .id))
-      → Starting warm substep joint cx prevs ids len (set rows k y) (k + 1)
-  start-turn {y} i p g v =
-      let at : k < length started = omega (arith, length-started) in
-      let inside : k < length blanks = omega (arith, s .few) in
-      let read-id : getD named k (i .id) ≡ getD ids k i .id =
-      List·getD-map (λ (i : RowId). i .id) (take len ids) k i ∙ ap (λ (i : RowId). i .id) (getD-take len ids k i g) in
-      let read-row : getD (map (rowOf cx) named) k (rowOf cx (i .id)) ≡ rowOf cx (getD named k (i .id)) = List·getD-map (rowOf cx) named k (i .id) in
-      let read : getD started k blankRow ≡ warmedOf warm substep (seedOf joint (getD named k (i .id))) (getD prevs k p) (getD (map (rowOf cx) named) k (rowOf cx (i .id))) =
-      getD-warmedAll warm substep joint named prevs (map (rowOf cx) named) k (i .id) p (rowOf cx (i .id)) blankRow (omega (arith, length-named)) (omega (arith, s .few, s .six-prevs)) (omega (arith, length-map named (rowOf cx), length-named)) in
+  -- a turn: p stands for what the code would read past an array's end
+  pub start-turn : {y : JointConstraint} (p : Float) → 0 < left
+      → y ≡ warmedOf warm substep (seedOf joint (slotId (trailingZeros 32 left) f)) (getD prevs k p) (rowOf cx (slotId (trailingZeros 32 left) f))
+      → Starting warm substep joint cx prevs is f (set rows k y) (bitAnd left (left - 1)) (k + 1)
+  start-turn {y} p g v =
+      let i : WritebackId = slotId (trailingZeros 32 left) f in
+      let there = next g in
+      let at : k < length started = omega (arith, length-started, there .0) in
+      let inside : k < length blanks = omega (arith, s .few, there .0) in
+      let read-row : getD (map (rowOf cx) is) k (rowOf cx i) ≡ rowOf cx (getD is k i) = List·getD-map (rowOf cx) is k i in
+      let read : getD started k blankRow ≡ warmedOf warm substep (seedOf joint (getD is k i)) (getD prevs k p) (getD (map (rowOf cx) is) k (rowOf cx i)) =
+      getD-warmedAll warm substep joint is prevs (map (rowOf cx) is) k i p (rowOf cx i) blankRow (there .0) (omega (arith, s .few, s .six-prevs, there .0)) (omega (arith, length-map is (rowOf cx), there .0)) in
       record {
-        reached = omega arith;
+        reached = omega (arith, there .0);
         few = s .few;
-        six-ids = s .six-ids;
+        slots-left = omega (arith, s .slots-left, cleared-less left g);
+        ids-left = sym (there .2);
         six-prevs = s .six-prevs;
         six-rows = length-set rows k y ∙ s .six-rows;
-        so-far = overwrite-turn started blanks k at inside blankRow (s .so-far) (v ∙ sym (read ∙ rw (read-row, read-id)));
+        so-far = overwrite-turn started blanks k at inside blankRow (s .so-far) (v ∙ sym (read ∙ rw (read-row, there .1)));
       }
 
   -- after the last turn
-  pub start-end : len ≤ k → rows ≡ filled 6 blankRow started
+  pub all-made : left ≤ 0 → k ≡ length is
+  all-made h =
+      let z : left ≡ 0 = omega arith in
+      let none : [] ≡ drop k is = rw z at (s .ids-left) in
+      omega (arith, s .reached, ap length none, length-drop k is)
+
+  pub start-end : left ≤ 0 → rows ≡ filled 6 blankRow started
   start-end h =
-      let e : k ≡ len = omega (arith, s .reached) in
-      s .so-far ∙ rw e (ap (λ t. t ++ drop len blanks) (take-all len started (omega (arith, length-started)))) ∙ over-blank blankRow 6 len started length-started (s .few)
+      s .so-far ∙ rw (all-made h) (ap (λ t. t ++ drop (length is) blanks) (take-all (length is) started (omega (arith, length-started))))
+      ∙ over-blank blankRow 6 (length is) started length-started (s .few)
 
 -- the joint that the context holds
 pub context-joint : (params : IntegrationParameters) (body1 body2 : SolverPose) (joint : ImpulseJoint) → jointContextOf params body1 body2 joint .joint ≡ joint .«data»
@@ -114,13 +137,14 @@ unfolding jointContextOf contextOf
 context-joint params body1 body2 joint = refl
 
 -- before the first turn
-pub start-start : (warm : Warmstart) (substep : ℕ) (joint : ImpulseJoint) (cx : RowContext) (prevs : List Float) {ids : RowIds} → length prevs ≡ 6
-    → ids ≡ rowIdsArray (joint .«data» .masks) → Starting warm substep joint cx prevs (ids .ids) (ids .len) blanks 0
-unfolding rowIdsArray
-start-start warm substep joint cx prevs {ids} six e = record {
+pub start-start : (warm : Warmstart) (substep : ℕ) (joint : ImpulseJoint) (cx : RowContext) (prevs : List Float) (f : ℕ) → length prevs ≡ 6
+    → firstCoupled 2 (joint .«data» .masks) ≡ cond (ltb f 2) (f ∷ []) []
+    → Starting warm substep joint cx prevs (rowIds 2 1 (joint .«data» .masks)) f blanks (slotBits (joint .«data» .masks)) 0
+start-start warm substep joint cx prevs f six e = record {
   reached = omega arith;
-  few = omega (arith, ap (λ (i : RowIds). i .len) e, at-most-six (joint .«data» .masks));
-  six-ids = ap (λ (i : RowIds). length (i .ids)) e ∙ length-filled (rowId (Dof 0)) 6 (map rowId (rowIds 2 1 (joint .«data» .masks)));
+  few = at-most-six (joint .«data» .masks);
+  slots-left = slotBits-lt (joint .«data» .masks);
+  ids-left = slot-ids (joint .«data» .masks) f e;
   six-prevs = six;
   six-rows = refl;
   so-far = refl;
@@ -168,22 +192,19 @@ module _ (warm : Warmstart) (substep : ℕ) (joint : ImpulseJoint) (cx : RowCont
 
 -- what the code returns
 pub started-rows : (params : IntegrationParameters) (substep : ℕ) (warm : Warmstart) (body1 body2 : SolverPose) (joint : ImpulseJoint) (prevs : List Float)
-    {ids : RowIds} {cx : RowContext} {rows : List JointConstraint} → length prevs ≡ 6
-    → ids ≡ rowIdsArray (joint .«data» .masks) → cx ≡ jointContextOf params body1 body2 joint
-    → rows ≡ finalizeGroups (ids .first) (ids .len) (filled 6 blankRow (startedFirst warm substep joint cx (ids .ids) prevs (ids .len)))
-    → _≡_ {A = Rows} (record { rows = rows; len = ids .len }) (rowsArray (builderUpdateOf params substep warm body1 body2 joint prevs))
-unfolding rowIdsArray rowIds rowsArray builderUpdateOf updateOf
-started-rows params substep warm body1 body2 joint prevs {ids} {cx} {rows} six e x g =
+    {first len : ℕ} {cx : RowContext} {rows : List JointConstraint} → length prevs ≡ 6
+    → first ≡ length (groupOne 2 1 (joint .«data» .masks)) → len ≡ length (rowIds 2 1 (joint .«data» .masks)) → cx ≡ jointContextOf params body1 body2 joint
+    → rows ≡ finalizeGroups first len (filled 6 blankRow (startedRows warm substep joint cx (rowIds 2 1 (joint .«data» .masks)) prevs))
+    → _≡_ {A = Rows} (record { rows = rows; len = len }) (rowsArray (builderUpdateOf params substep warm body1 body2 joint prevs))
+unfolding rowIds rowsArray builderUpdateOf updateOf
+started-rows params substep warm body1 body2 joint prevs {first} {len} {cx} {rows} six ef el x g =
     let l : List WritebackId = groupOne 2 1 (joint .«data» .masks) in
     let r : List WritebackId = groupTwo 2 1 (joint .«data» .masks) in
     let cx′ : RowContext = jointContextOf params body1 body2 joint in
     let few : length (l ++ r) ≤ 6 = at-most-six (joint .«data» .masks) in
     let masks : cx′ .joint .masks ≡ joint .«data» .masks = rw context-joint in
-    let ids-read : map (λ (i : RowId). i .id) (take (length (l ++ r)) (filled 6 (rowId (Dof 0)) (map rowId (l ++ r)))) ≡ l ++ r =
-    ap (λ t. map (λ (i : RowId). i .id) t) (take-filled (rowId (Dof 0)) 6 (length (l ++ r)) (map rowId (l ++ r)) (length-map (l ++ r) rowId) few)
-    ∙ map-map (λ (i : RowId). i .id) rowId (l ++ r) ∙ map-id (l ++ r) in
     let whole : rows ≡ filled 6 blankRow (warmedAll warm substep joint (l ++ r) prevs (finalizeOf (map (rowOf cx′) l) ++ finalizeOf (map (rowOf cx′) r))) =
-    g ∙ rw (e, x) (rw ids-read (started-groups warm substep joint cx′ prevs l r six few)) in
+    g ∙ rw (ef, el, x) (started-groups warm substep joint cx′ prevs l r six few) in
     let made : length (finalizeOf (map (rowOf cx′) l) ++ finalizeOf (map (rowOf cx′) r)) ≡ length (l ++ r) =
     omega (
       arith,
@@ -199,5 +220,5 @@ started-rows params substep warm body1 body2 joint prevs {ids} {cx} {rows} six e
     let all : List JointConstraint → List JointConstraint = warmedAll warm substep joint (l ++ r) prevs in
     let updated : updateOf cx′ ≡ finalizeOf (map (rowOf cx′) l) ++ finalizeOf (map (rowOf cx′) r) = rw masks in
     let whole′ : rows ≡ filled 6 blankRow (all (updateOf cx′)) = whole ∙ ap (λ t. filled 6 blankRow (all t)) (sym updated) in
-    let len′ : ids .len ≡ length (all (updateOf cx′)) = ap (λ (i : RowIds). i .len) e ∙ sym count ∙ ap (λ t. length (all t)) (sym updated) in
+    let len′ : len ≡ length (all (updateOf cx′)) = el ∙ sym count ∙ ap (λ t. length (all t)) (sym updated) in
     λ i. record { rows = whole′ i; len = len′ i }

@@ -2,6 +2,7 @@ pub mod MotorModel
 pub mod IntegrationParameters
 pub mod GenericJoint
 pub mod RowIds
+pub mod RowSlots
 pub mod Row
 pub mod Helper
 pub mod Makers

@@ -13,7 +13,9 @@ use crate::joint_velocity_constraint::RowContext;
 use crate::joint_velocity_constraint::Rows;
 use crate::joint_velocity_constraint::WritebackId;
 use crate::joint_velocity_constraint::blank_row;
-use crate::row_ids::row_ids;
+use crate::row_ids::motor_count;
+use crate::row_ids::row_slots;
+use crate::row_ids::slot_id;
 use floats::pose::Pose;
 use floats::rotation_ops::Rotation;
 use floats::vector::Vector;
@@ -134,15 +136,16 @@ pub fn update(
     ensures { λ r. ⌜ r ≡ rowsArray (builderUpdateOf params «substep_id» warmstart body1 body2 joint prevs) ⌝ }
 {
     let data = joint.data;
-    let ids = row_ids(data.masks);
+    let masks = data.masks;
+    let first = motor_count(masks);
+    let f = masks.first_coupled_lin_axis_id();
     let context = joint.context(params, body1, body2);
-    let len = ids.len;
     let blank = blank_row();
     let mut rows = [blank; 6];
+    let mut left = row_slots(masks);
     let mut k = 0usize;
-    while k < len {
-        let named = ids.ids[k];
-        let id = named.id;
+    while left > 0 {
+        let id = slot_id(u32::trailing_zeros(left), f);
         rows[k] = warmed(
             warmstart,
             substep_id,
@@ -150,10 +153,11 @@ pub fn update(
             prevs[k],
             context.row(id),
         );
+        left = left & (left - 1);
         k += 1;
     }
     Rows {
-        rows: finalize_groups(rows, ids.first, len),
-        len: len,
+        rows: finalize_groups(rows, first, k),
+        len: k,
     }
 }

@@ -2,10 +2,11 @@
 ghost use mathlib.Core.Path.{_≡_};
 ghost use mathlib.Core.Bool.{true, cond, not, _&&_};
 ghost use mathlib.Core.List.{List, [], _∷_, _++_};
-ghost use Prim.Native.Nat.{ℕ, _+_, _≤_, _<_};
+ghost use Prim.Native.Nat.{ℕ, _+_, _*_, _/_, _%_, _≤_, _<_};
 ghost use lib.Dec.{ltb};
 ghost use lib.ListN.{length};
 ghost use Rattle.rows.specs.RowIds.{hasAxis, isLocked, isMotor, isLimit, isCoupled, some, keep, inOrder, firstCoupled, sharesLinear, groupOne, lockIds, idsArray, rowIds, rowIdsArray};
+ghost use Rattle.rows.specs.RowSlots.{slotAxis, slotId, bitsOf, atAxes, slotBits};
 ghost use Rattle.rows.specs.declared.joint_velocity_constraint.WritebackId.{WritebackId};
 use crate::generic_joint::Masks;
 use crate::generic_joint::has_axis;
@@ -76,7 +77,7 @@ impl Masks {
     }
 
     // F, the lowest set bit of C's linear part; 32 where it has none.
-    fn first_coupled_lin_axis_id(self) -> usize
+    pub(crate) fn first_coupled_lin_axis_id(self) -> usize
         ensures { λ r. ⌜ firstCoupled 2 self ≡ cond (ltb r 2) (r ∷ []) [] ⌝ }
     {
         u32::trailing_zeros(self.coupled_axes & 3) as usize
@@ -205,4 +206,69 @@ pub fn row_count(masks: Masks) -> usize
     let coupled_motor = masks.shares_linear() as u32;
     let coupled_limit = masks.has_coupled_limit() as u32;
     (motors + coupled_motor + locks + limits + coupled_limit) as usize
+}
+
+// ---- the ids one by one, without an array of them: eleven slots in the order of rows, one bit for each that is named
+
+// The axes of a mask below 8 as bits in the order of rows: the angular one is the lowest.
+fn in_order(mask: u32) -> u32
+    ensures { λ r. ⌜ r ≡ mask % 4 * 2 + mask / 4 ⌝ }
+{
+    mask % 4 * 2 + mask / 4
+}
+
+// The axes of a mask that are neither locked nor coupled, likewise.
+fn outside(mask: u32, locked: u32, coupled: u32) -> u32
+    ensures { λ r. ⌜ r ≡ bitsOf (atAxes (λ i. hasAxis mask i && not (hasAxis locked i) && not (hasAxis coupled i))) ⌝ }
+    ensures { λ r. ⌜ r < 8 ⌝ }
+{
+    in_order((mask % 8) & !(locked % 8) & !(coupled % 8))
+}
+
+// The axes that are locked, likewise.
+fn locks(locked: u32) -> u32
+    ensures { λ r. ⌜ r ≡ bitsOf (atAxes (λ i. hasAxis locked i)) ⌝ }
+    ensures { λ r. ⌜ r < 8 ⌝ }
+{
+    in_order(locked % 8)
+}
+
+// A joint's slots. Their ids, from the lowest bit up, are those of `row_ids`.
+pub(crate) fn row_slots(masks: Masks) -> u32
+    ensures { λ r. ⌜ r ≡ slotBits masks ⌝ }
+{
+    let locked = masks.locked_axes;
+    let coupled = masks.coupled_axes;
+    let motors = outside(masks.motor_axes, locked, coupled);
+    let limits = outside(masks.limit_axes, locked, coupled);
+    let locked_bits = locks(locked);
+    let coupled_motor = masks.shares_linear() as u32;
+    let coupled_limit = masks.has_coupled_limit() as u32;
+    motors + coupled_motor * 8 + locked_bits * 16 + limits * 128 + coupled_limit * 1024
+}
+
+// The axis of slot i of a kind; f is F.
+fn slot_axis(i: u32, f: usize) -> usize
+    ensures { λ r. ⌜ r ≡ slotAxis i f ⌝ }
+{
+    if i == 0 {
+        return 2;
+    }
+    if i < 3 {
+        return (i - 1) as usize;
+    }
+    f
+}
+
+// The id of slot s.
+pub(crate) fn slot_id(s: u32, f: usize) -> WritebackId
+    ensures { λ r. ⌜ r ≡ slotId s f ⌝ }
+{
+    if s < 4 {
+        return WritebackId::Motor(slot_axis(s, f));
+    }
+    if s < 7 {
+        return WritebackId::Dof(slot_axis(s - 4, f));
+    }
+    WritebackId::Limit(slot_axis(s - 7, f))
 }

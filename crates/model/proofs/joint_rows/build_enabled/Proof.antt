@@ -1,5 +1,7 @@
 -- `build_enabled` meets its contract, by those of its parts: as many rows are made as the joint has, at most six.
+use mathlib.Core.Path.{refl, ap, _∙_}
 use native.Mathlib.Omega.{arith}
+use Rattle.rows.specs.Update.{rowsArray}
 use Rattle.model.proofs.JointRowsLaws.{few-rows, built-len, build-steps}
 use borrow.Author.Needs.{needs}
 use Rattle.model.proofs.joint_rows.build_enabled.Statement.{statement}
@@ -8,8 +10,8 @@ use Rattle.model.proofs.joint_rows.build_enabled.Tie as tie
 count-at-requires : tie.Need-count-at-requires
 count-at-requires c κs = search needs
 
-impulses-at-requires : tie.Need-impulses-at-requires
-impulses-at-requires c κs =
+last-impulses-requires : tie.Need-last-impulses-requires
+last-impulses-requires c κs =
     let e = c .before .count-at .ensures in
     (few-rows _ _ e, omega (arith, e, c .before .before .before .before .before .before .pre .1 .1 .1 .1 .0))
 
@@ -23,7 +25,7 @@ solver-pose-at-requires : tie.Need-solver-pose-at-requires
 solver-pose-at-requires c κs = rw (c .body1-at .ensures) (c .before .before .before .before .before .before .before .before .before .pre .1 .1 .0)
 
 body2-at-requires : tie.Need-body2-at-requires
-body2-at-requires c κs = search needs
+body2-at-requires c κs = c .before .before .before .before .before .before .before .before .before .before .pre .0
 
 solver-pose-at-requires-2 : tie.Need-solver-pose-at-requires-2
 solver-pose-at-requires-2 c κs = rw (c .body2-at .ensures) (c .before .before .before .before .before .before .before .before .before .before .before .pre .1 .1 .1 .0)
@@ -37,7 +39,7 @@ put-rows-requires c κs =
     let ja = up .before .before .before .before .before in
     let ia = ja .before in
     let on = ia .before .before .before .before .before .before .before .pre .1 .1 .1 .1 .1 in
-    let e = built-len _ _ _ _ _ _ _ _ _ _ _ on (ja .joint-at .ensures) (ia .impulses-at .ensures) (up .update .ensures) in
+    let e = built-len _ _ _ _ _ _ _ _ _ _ _ on (ja .joint-at .ensures) refl (up .update .ensures ∙ ap rowsArray (ia .last-impulses .ensures _ _ _ _)) in
     (few-rows _ _ e, omega (arith, e, ia .before .before .before .before .before .before .before .pre .1 .1 .1 .1 .0))
 
 same-length : tie.Need-same-length
@@ -55,8 +57,8 @@ returns c =
     let ia = ja .before in
     let ca = ia .before .before in (
       ca .count-at .ensures,
-      build-steps _ _ _ _ _ _ _ _ _ (ca .before .before .before .before .before .pre .1 .1 .1 .1 .1) (ca .count-at .ensures) (ia .impulses-at .ensures) (ja .joint-at .ensures) (b1 .body1-at .ensures) (sp1 .solver-pose-at .ensures) (b2 .body2-at .ensures)
-          (sp2 .solver-pose-at2 .ensures) (up .update .ensures) (pr .put-rows .ensures),
+      build-steps _ _ _ _ _ _ _ _ _ (ca .before .before .before .before .before .pre .1 .1 .1 .1 .1) (ca .count-at .ensures) refl (ja .joint-at .ensures) (b1 .body1-at .ensures) (sp1 .solver-pose-at .ensures) (b2 .body2-at .ensures)
+          (sp2 .solver-pose-at2 .ensures) (up .update .ensures ∙ ap rowsArray (ia .last-impulses .ensures _ _ _ _)) (pr .put-rows .ensures),
     )
 
 pub build-enabled-spec : {M : Type 1} → statement M
@@ -64,7 +66,7 @@ build-enabled-spec =
     tie.close
     (tie.spec
     count-at-requires
-    impulses-at-requires
+    last-impulses-requires
     joint-at-requires
     body1-at-requires
     solver-pose-at-requires

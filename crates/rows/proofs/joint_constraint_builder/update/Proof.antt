@@ -1,21 +1,27 @@
 -- The builder's `update` meets its contract. The loop keeps `Starting`: the rows before k are made and have the impulses that they start from.
-use Prim.Native.Nat.{_-_}
 use mathlib.Core.Path.{ap, _∙_}
+use native.Mathlib.Omega.{arith}
 use Rattle.rows.specs.Finalize.{finalizeGroups}
-use Rattle.rows.proofs.UpdateRows.{counts}
-use Rattle.rows.proofs.WarmedRows.{Starting, start-start, start-turn, start-end, started-rows}
+use Rattle.rows.specs.RowIds.{rowIds}
+use Rattle.rows.proofs.RowSlotsLaws.{cleared-less}
+use Rattle.rows.proofs.UpdateRows.{group-counts}
+use Rattle.rows.proofs.WarmedRows.{Starting, start-start, start-turn, room, all-made, start-end, started-rows}
 use borrow.Author.Needs.{needs}
 use Rattle.rows.proofs.joint_constraint_builder.update.Statement.{statement}
 use Rattle.rows.proofs.joint_constraint_builder.update.Tie as tie
 
 abbrev Inv-loop : tie.InvT-loop
-Inv-loop substep-id warmstart joint prevs ids context len rows₀ k₀ rows k = Starting warmstart substep-id joint context prevs (ids .ids) len rows k
+Inv-loop substep-id warmstart joint prevs first f context rows₀ left₀ k₀ rows left k =
+    Starting warmstart substep-id joint context prevs (rowIds 2 1 (joint .«data» .masks)) f rows left k
 
 abbrev μ-loop : tie.MeasureT-loop
-μ-loop substep-id warmstart joint prevs ids context len rows₀ k₀ rows k = len - k
+μ-loop substep-id warmstart joint prevs first f context rows₀ left₀ k₀ rows left k = left
 
-row-ids-requires : tie.Need-row-ids-requires Inv-loop μ-loop
-row-ids-requires c κs = search needs
+motor-count-requires : tie.Need-motor-count-requires Inv-loop μ-loop
+motor-count-requires c κs = search needs
+
+first-coupled-lin-axis-id-requires : tie.Need-first-coupled-lin-axis-id-requires Inv-loop μ-loop
+first-coupled-lin-axis-id-requires c κs = search needs
 
 context-requires : tie.Need-context-requires Inv-loop μ-loop
 context-requires c κs = search needs
@@ -23,27 +29,35 @@ context-requires c κs = search needs
 blank-row-requires : tie.Need-blank-row-requires Inv-loop μ-loop
 blank-row-requires c κs = search needs
 
+row-slots-requires : tie.Need-row-slots-requires Inv-loop μ-loop
+row-slots-requires c κs = search needs
+
 loop-holds : tie.Need-loop-holds Inv-loop μ-loop
 loop-holds c =
-    let d = c .before in
-    let a = d .before .before .before .args in
-    let six = d .before .before .before .good .1 .1 .1 .1 .1 .1 .0 .1 .0 .1 in
-    rw (c .blank-row .ensures) (start-start (a .warmstart) (a .substep-id) (a .joint) (d .context .result) (a .t7) six (d .before .row-ids .ensures))
+    let a = c .before .before .before .before .before .before .before .args in
+    let six = c .before .before .before .before .before .before .before .good .1 .1 .1 .1 .1 .1 .0 .1 .0 .1 in
+    rw (c .before .blank-row .ensures, c .row-slots .ensures)
+    (start-start (a .warmstart) (a .substep-id) (a .joint) (c .before .before .context .result) (a .t7) (c .before .before .before .first-coupled-lin-axis-id .result) six (c .before .before .before .first-coupled-lin-axis-id .ensures))
 
-mul-named : tie.Need-mul-named Inv-loop μ-loop
-mul-named c = search needs
-
-element-copy-out-named : tie.Need-element-copy-out-named Inv-loop μ-loop
-element-copy-out-named c = search needs
+slot-id-requires : tie.Need-slot-id-requires Inv-loop μ-loop
+slot-id-requires c κs = search needs
 
 seed-requires : tie.Need-seed-requires Inv-loop μ-loop
 seed-requires c κs = search needs
 
 mul-warmed : tie.Need-mul-warmed Inv-loop μ-loop
-mul-warmed c = search needs
+mul-warmed c =
+    let l = c .before .before .before in
+    let d = l .before in
+    let a = d .before .before .before .before .before .before .before .args in
+    record { fits = omega (arith, room (a .warmstart) (a .substep-id) (a .joint) (d .before .before .context .result) (a .t7) (rowIds 2 1 (a .joint .«data» .masks)) (d .before .before .before .first-coupled-lin-axis-id .result) (l .loop .rows) (l .loop .left) (l .loop .k) (l .loop .inv) (c .before .before .loop-test .taken)) }
 
 array-read-warmed : tie.Need-array-read-warmed Inv-loop μ-loop
-array-read-warmed c = search needs
+array-read-warmed c =
+    let l = c .before .before .before in
+    let d = l .before in
+    let a = d .before .before .before .before .before .before .before .args in
+    room (a .warmstart) (a .substep-id) (a .joint) (d .before .before .context .result) (a .t7) (rowIds 2 1 (a .joint .«data» .masks)) (d .before .before .before .first-coupled-lin-axis-id .result) (l .loop .rows) (l .loop .left) (l .loop .k) (l .loop .inv) (c .before .before .loop-test .taken)
 
 row-requires : tie.Need-row-requires Inv-loop μ-loop
 row-requires c κs = search needs
@@ -52,41 +66,59 @@ warmed-requires : tie.Need-warmed-requires Inv-loop μ-loop
 warmed-requires c κs = search needs
 
 mul-rows : tie.Need-mul-rows Inv-loop μ-loop
-mul-rows c = search needs
+mul-rows c =
+    let l = c .before .before .before .before .before in
+    let d = l .before in
+    let a = d .before .before .before .before .before .before .before .args in
+    record { fits = omega (arith, room (a .warmstart) (a .substep-id) (a .joint) (d .before .before .context .result) (a .t7) (rowIds 2 1 (a .joint .«data» .masks)) (d .before .before .before .first-coupled-lin-axis-id .result) (l .loop .rows) (l .loop .left) (l .loop .k) (l .loop .inv) (c .before .before .before .before .loop-test .taken)) }
 
 array-set-from-rows : tie.Need-array-set-from-rows Inv-loop μ-loop
-array-set-from-rows c = search needs
+array-set-from-rows c =
+    let l = c .before .before .before .before .before in
+    let d = l .before in
+    let a = d .before .before .before .before .before .before .before .args in
+    room (a .warmstart) (a .substep-id) (a .joint) (d .before .before .context .result) (a .t7) (rowIds 2 1 (a .joint .«data» .masks)) (d .before .before .before .first-coupled-lin-axis-id .result) (l .loop .rows) (l .loop .left) (l .loop .k) (l .loop .inv) (c .before .before .before .before .loop-test .taken)
+
+sub-left : tie.Need-sub-left Inv-loop μ-loop
+sub-left c = search needs
 
 add-k : tie.Need-add-k Inv-loop μ-loop
-add-k c = search needs
+add-k c =
+    let l = c .before .before .before .before .before in
+    let d = l .before in
+    let a = d .before .before .before .before .before .before .before .args in
+    record { fits = omega (arith, room (a .warmstart) (a .substep-id) (a .joint) (d .before .before .context .result) (a .t7) (rowIds 2 1 (a .joint .«data» .masks)) (d .before .before .before .first-coupled-lin-axis-id .result) (l .loop .rows) (l .loop .left) (l .loop .k) (l .loop .inv) (c .before .before .before .before .loop-test .taken)) }
 
 loop-less : tie.Need-loop-less Inv-loop μ-loop
-loop-less c = search needs
+loop-less c = cleared-less (c .before .before .before .before .before .loop .left) (c .before .before .before .before .loop-test .taken)
 
 loop-again : tie.Need-loop-again Inv-loop μ-loop
 loop-again c =
     let l = c .before .before .before .before .before in
-    let d = l .before .before in
-    let a = d .before .before .before .args in
-    let ids = d .before .row-ids .result in
-    start-turn (a .warmstart) (a .substep-id) (a .joint) (d .context .result) (a .t7) (ids .ids) (ids .len) (l .loop .rows) (l .loop .k) (l .loop .inv) _ _
-    (c .before .before .before .before .loop-test .taken) (rw (c .before .before .seed .ensures, c .before .row .ensures) at (c .warmed .ensures))
+    let d = l .before in
+    let a = d .before .before .before .before .before .before .before .args in
+    start-turn (a .warmstart) (a .substep-id) (a .joint) (d .before .before .context .result) (a .t7) (rowIds 2 1 (a .joint .«data» .masks)) (d .before .before .before .first-coupled-lin-axis-id .result) (l .loop .rows) (l .loop .left) (l .loop .k) (l .loop .inv) _
+    (c .before .before .before .before .loop-test .taken) (rw (c .before .before .seed .ensures, c .before .row .ensures, c .before .before .before .slot-id .ensures) at (c .warmed .ensures))
 
 finalize-groups-requires : tie.Need-finalize-groups-requires Inv-loop μ-loop
 finalize-groups-requires c κs =
-    let d = c .before .before .before in
-    counts (d .before .before .before .args .joint .«data» .masks) (d .before .row-ids .ensures)
+    let l = c .before in
+    let d = l .before in
+    let a = d .before .before .before .before .before .before .before .args in
+    let made = all-made (a .warmstart) (a .substep-id) (a .joint) (d .before .before .context .result) (a .t7) (rowIds 2 1 (a .joint .«data» .masks)) (d .before .before .before .first-coupled-lin-axis-id .result) (l .loop .rows) (l .loop .left) (l .loop .k) (l .loop .inv) (c .loop-test .left) in
+    let counts = group-counts (a .joint .«data» .masks) in
+    (omega (arith, made, counts .0, d .before .before .before .before .motor-count .ensures), omega (arith, made, counts .1))
 
 returns : tie.Need-returns Inv-loop μ-loop
 returns c =
     let l = c .before .before in
-    let d = l .before .before in
-    let a = d .before .before .before .args in
-    let ids = d .before .row-ids .result in
-    started-rows (a .params) (a .substep-id) (a .warmstart) (a .body1) (a .body2) (a .joint) (a .t7) (l .loop .inv .six-prevs) (d .before .row-ids .ensures) (d .context .ensures)
+    let d = l .before in
+    let a = d .before .before .before .before .before .before .before .args in
+    let made = all-made (a .warmstart) (a .substep-id) (a .joint) (d .before .before .context .result) (a .t7) (rowIds 2 1 (a .joint .«data» .masks)) (d .before .before .before .first-coupled-lin-axis-id .result) (l .loop .rows) (l .loop .left) (l .loop .k) (l .loop .inv) (c .before .loop-test .left) in
+    started-rows (a .params) (a .substep-id) (a .warmstart) (a .body1) (a .body2) (a .joint) (a .t7) (l .loop .inv .six-prevs) (d .before .before .before .before .motor-count .ensures) made (d .before .before .context .ensures)
     (c .finalize-groups .ensures
-    ∙ ap (λ t. finalizeGroups (ids .first) (ids .len) t)
-    (start-end (a .warmstart) (a .substep-id) (a .joint) (d .context .result) (a .t7) (ids .ids) (ids .len) (l .loop .rows) (l .loop .k) (l .loop .inv) (c .before .loop-test .left)))
+    ∙ ap (λ t. finalizeGroups (d .before .before .before .before .motor-count .result) (l .loop .k) t)
+    (start-end (a .warmstart) (a .substep-id) (a .joint) (d .before .before .context .result) (a .t7) (rowIds 2 1 (a .joint .«data» .masks)) (d .before .before .before .first-coupled-lin-axis-id .result) (l .loop .rows) (l .loop .left) (l .loop .k) (l .loop .inv) (c .before .loop-test .left)))
 
 pub update-spec : {M : Type 1} → statement M
 update-spec =
@@ -94,12 +126,13 @@ update-spec =
     (tie.spec
     Inv-loop
     μ-loop
-    row-ids-requires
+    motor-count-requires
+    first-coupled-lin-axis-id-requires
     context-requires
     blank-row-requires
+    row-slots-requires
     loop-holds
-    mul-named
-    element-copy-out-named
+    slot-id-requires
     seed-requires
     mul-warmed
     array-read-warmed
@@ -107,6 +140,7 @@ update-spec =
     warmed-requires
     mul-rows
     array-set-from-rows
+    sub-left
     add-k
     loop-less
     loop-again

@@ -1,8 +1,8 @@
 -- `reads_rows` meets its contract, by cases of the warm coefficient.
 use Rattle.model.specs.Refusals.{readsRows}
 use borrow.Author.Needs.{needs}
-use Rattle.model.proofs.calls.reads_rows.Statement.{statement}
-use Rattle.model.proofs.calls.reads_rows.Tie as tie
+use Rattle.model.proofs.joint_rows.reads_rows.Statement.{statement}
+use Rattle.model.proofs.joint_rows.reads_rows.Tie as tie
 
 enum-told : tie.Need-enum-told
 enum-told c = search needs
