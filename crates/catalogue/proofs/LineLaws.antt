@@ -1,8 +1,10 @@
 -- A line tells its masks (`line-tells`), so that no two lines are the same, and LF stands at its end alone (`one-line`).
 use Prim.Native.Nat.{ℕ, _+_, _<_}
 use mathlib.Core.Path.{_≡_, refl, sym, ap, _∙_}
+use mathlib.Core.Bool.{Bool, true, false, cond}
 use mathlib.Core.List.{List, [], _∷_, _++_, flatMap}
 use native.Mathlib.Omega.{arith}
+use lib.Dec.{eqb}
 use lib.ListN.{length, getD}
 use Rattle.rows.specs.RowIds.{rowIds}
 use Rattle.rows.specs.declared.generic_joint.Masks.{Masks}
@@ -10,7 +12,9 @@ use Rattle.rows.specs.declared.joint_velocity_constraint.WritebackId.{Writeback
 use Rattle.rows.specs.declared.joint_velocity_constraint.WritebackId.the-variants.{Dof, Limit, Motor}
 use Rattle.rows.proofs.RowIdsLaws.{All}
 use Rattle.catalogue.specs.Choices.{masks}
-use Rattle.catalogue.specs.Text.{LF, digit, idText, idsText, headText, lineText}
+use Rattle.texts.specs.Ascii.{LF}
+use Rattle.texts.specs.Digits.{digit}
+use Rattle.catalogue.specs.Text.{axisDigit, spacedId, idsText, headText, lineText}
 
 -- the byte at a place of the line
 byte : ℕ → Masks → ℕ
@@ -46,16 +50,24 @@ both : (P : ℕ → Type 0) (a b : List ℕ) → All P a → All P b → All P (
 both P [] b h g = g
 both P (x ∷ a) b h g = (h .0, both P a b (h .1) g)
 
-above : (id : WritebackId) → All (λ b. LF < b) (idText id)
-unfolding idText
-above (Dof i) = omega arith
-above (Limit i) = omega arith
-above (Motor i) = omega arith
+axis-above : (i : ℕ) → LF < axisDigit i
+axis-above i = go (eqb i 0) (eqb i 1)
+  where
+    go : (a b : Bool) → LF < cond a 0x30 (cond b 0x31 0x32)
+    go true b = omega arith
+    go false true = omega arith
+    go false false = omega arith
+
+above : (id : WritebackId) → All (λ b. LF < b) (spacedId id)
+unfolding spacedId
+above (Dof i) = omega (arith, axis-above i)
+above (Limit i) = omega (arith, axis-above i)
+above (Motor i) = omega (arith, axis-above i)
 
 all-above : (ids : List WritebackId) → All (λ b. LF < b) (idsText ids)
 unfolding flatMap
 all-above [] = tt
-all-above (i ∷ is) = both (λ b. LF < b) (idText i) (idsText is) (above i) (all-above is)
+all-above (i ∷ is) = both (λ b. LF < b) (spacedId i) (idsText is) (above i) (all-above is)
 
 head-above : (k : Masks) (count : ℕ) → All (λ b. LF < b) (headText k count)
 unfolding headText

@@ -1,14 +1,10 @@
--- Text put into a list from a position on; the lengths of a line's parts; a joint's ids as the code holds them.
+-- Texts of a list's elements put in one after the other; the lengths of a line's parts; a joint's ids as the code holds them.
 use Prim.Native.Nat.{ℕ, zero, suc, _+_, _≤_, _<_}
-use mathlib.Core.Path.{_≡_, refl, sym, ap, subst, _∙_}
-use mathlib.Core.Bool.{Bool, cond}
-use mathlib.Core.List.{List, [], _∷_, _++_, append-nil, append-assoc, map, flatMap}
-use native.Mathlib.Nat.{add-zero, zero-add}
-use native.Mathlib.Numerals.{add-one}
+use mathlib.Core.Path.{_≡_, refl, sym, ap, _∙_}
+use mathlib.Core.List.{List, [], _∷_, _++_, map, flatMap}
 use native.Mathlib.Omega.{arith}
-use borrow.Author.Tests.{le-leb, lt-leb}
-use lib.ListN.{length, getD, set, take, drop, length-append, length-drop, length-map, take-append-drop, List·getD-map, List·getD-eq-default}
-use lib.Seq.{length-take-le, take-at, drop-at, drop-drop, take-all, take-length, getD-take, paste, paste-suc, length-paste}
+use lib.ListN.{length, getD, take, length-append, length-map, List·getD-map, List·getD-eq-default}
+use lib.Seq.{length-take-le, take-all, getD-take}
 use Rattle.rows.specs.RowIds.{rowIds, rowIdsArray, rowId, noMasks}
 use Rattle.rows.specs.declared.generic_joint.Masks.{Masks}
 use Rattle.rows.specs.declared.row_ids.RowId.{RowId}
@@ -17,88 +13,16 @@ use Rattle.rows.specs.declared.joint_velocity_constraint.WritebackId.{Writeback
 use Rattle.rows.specs.declared.joint_velocity_constraint.WritebackId.the-variants.{Dof, Limit, Motor}
 use Rattle.rows.proofs.Filled.{length-filled}
 use Rattle.rows.proofs.RowIdsCount.{at-most-six}
-use Rattle.rows.proofs.RowIdsLaws as laws
-use Rattle.rows.proofs.RowArrays.{rowIdsArray-len, rowIdsArray-id, rowIdsArray-ids}
-use Rattle.model.specs.Store.{axisOf}
+use Rattle.rows.proofs.RowArrays.{rowIdsArray-len, rowIdsArray-ids}
 use Rattle.catalogue.specs.Choices.{choices, choiceOf, entry, Legal}
-use Rattle.catalogue.specs.Text.{LF, idText, idsText, headText, lineText, catalogueText, lineAt, written, Put}
+use Rattle.texts.specs.Ascii.{LF}
+use Rattle.texts.proofs.PutLaws.{put-none, put-length, put-then, put-text, put-room, put-written}
+use Rattle.texts.specs.Written.{written, Put}
+use Rattle.catalogue.specs.Text.{spacedId, idsText, headText, lineText, catalogueText, lineAt}
 use Rattle.catalogue.proofs.FlatLaws.{flat-short, flat-turn, flat-within, flat-none}
 use Rattle.catalogue.proofs.ChoicesLaws.{choices-length, entry-at, legal-choice}
 
--- ---- text from a position on
-
-pub put-none : (out : List ℕ) (at : ℕ) → Put out at [] out at
-put-none out at =
-    record {
-      ends = sym (add-zero at);
-      holds = sym (ap (λ (n : ℕ). take at out ++ [] ++ drop n out) (add-zero at) ∙ ap (λ (l : List ℕ). l ++ drop at out) (append-nil (take at out)) ∙ take-append-drop at out);
-    }
-
-pub put-length : (out : List ℕ) (at : ℕ) (text out′ : List ℕ) (r : ℕ) → Put out at text out′ r → at + length text ≤ length out → length out′ ≡ length out
-put-length out at text out′ r p h =
-    let a = length-append (take at out ++ text) (drop (at + length text) out) in
-    let b = length-append (take at out) text in
-    let t = length-take-le at out (omega arith) in
-    let d = length-drop (at + length text) out in
-    omega (arith, ap length (p .holds))
-
--- a text after a text
-pub put-then : (out : List ℕ) (at : ℕ) (text mid : List ℕ) (end : ℕ) (more last : List ℕ) (r : ℕ) → Put out at text mid end → Put mid end more last r
-    → at + length text + length more ≤ length out → Put out at (text ++ more) last r
-put-then out at text mid end more last r p q h =
-    let front : List ℕ = take at out ++ text in
-    let long : length front ≡ end = omega (arith, length-append (take at out) text, length-take-le at out (omega arith), p .ends) in
-    let split : mid ≡ front ++ drop end out = p .holds ∙ ap (λ (n : ℕ). front ++ drop n out) (sym (p .ends)) in
-    let head : take end mid ≡ front = ap (take end) split ∙ take-at front (drop end out) end long in
-    let tail : drop (end + length more) mid ≡ drop (end + length more) out =
-    sym (drop-drop (length more) end mid) ∙ ap (drop (length more)) (ap (drop end) split ∙ drop-at front (drop end out) end long) ∙ drop-drop (length more) end out in
-    let place : end + length more ≡ at + length (text ++ more) = omega (arith, length-append text more, p .ends) in
-    record {
-      ends = q .ends ∙ place;
-      holds =
-          q .holds
-          ∙ ap (λ (l : List ℕ). l ++ more ++ drop (end + length more) mid) head
-          ∙ ap (λ (l : List ℕ). front ++ more ++ l) tail
-          ∙ ap (λ (n : ℕ). front ++ more ++ drop n out) place
-          ∙ ap (λ (l : List ℕ). l ++ drop (at + length (text ++ more)) out) (append-assoc (take at out) text more);
-    }
-
-pub put-text : {out : List ℕ} {at : ℕ} {text text′ out′ : List ℕ} {r : ℕ} → text ≡ text′ → Put out at text out′ r → Put out at text′ out′ r
-put-text {out} {at} {text} {text′} {out′} {r} e p = subst (λ (t : List ℕ). Put out at t out′ r) e p
-
--- a text put in byte by byte: after k bytes, and after all
-module _ (out : List ℕ) (at : ℕ) (text : List ℕ) (fits : at + length text ≤ length out) (k : ℕ) (out′ : List ℕ) (so-far : out′ ≡ paste out at text k) where
-  pub bytes-length : k ≤ length text → length out′ ≡ length out
-  bytes-length h = ap length so-far ∙ length-paste out at text k (omega arith) h
-
-  pub bytes-turn : k < length text → set out′ (at + k) (getD text k 0) ≡ paste out at text (k + 1)
-  bytes-turn h =
-      ap (λ (l : List ℕ). set l (at + k) (getD text k 0)) so-far ∙ paste-suc out at text k 0 (omega arith) h ∙ ap (paste out at text) (sym (add-one k))
-
-  pub bytes-end : k ≤ length text → length text ≤ k → Put out at text out′ (at + k)
-  bytes-end h g =
-      let e : k ≡ length text = omega arith in
-      record {
-        ends = ap (λ (n : ℕ). at + n) e;
-        holds = so-far ∙ ap (paste out at text) e ∙ ap (λ (t : List ℕ). take at out ++ t ++ drop (at + length text) out) (take-length text);
-      }
-
--- what is left of the room
-pub put-room : (out : List ℕ) (at : ℕ) (text mid : List ℕ) (end n : ℕ) → Put out at text mid end → at + length text + n ≤ length out → end + n ≤ length mid
-put-room out at text mid end n p h = omega (arith, p .ends, put-length out at text mid end p (omega arith))
-
--- a text at the front, and one that does not fit
-pub put-written : (out text out′ : List ℕ) (r : ℕ) → Put out 0 text out′ r → length text ≤ length out → out′ ≡ written out text
-unfolding written
-put-written out text out′ r p h =
-    p .holds ∙ ap (λ (n : ℕ). text ++ drop n out) (zero-add (length text))
-    ∙ sym (ap (λ (b : Bool). cond b (text ++ drop (length text) out) out) (le-leb (length text) (length out) h))
-
-pub not-written : (out text : List ℕ) → length out < length text → out ≡ written out text
-unfolding written
-not-written out text h = sym (ap (λ (b : Bool). cond b (text ++ drop (length text) out) out) (lt-leb (length text) (length out) h))
-
--- the texts of a list's elements, one after the other: one more
+-- ---- the texts of a list's elements, one after the other: one more
 module _ {A : Type 0} (f : A → List ℕ) (l : List A) (i : ℕ) (d : A) (h : i < length l) where
   pub sum-turn : (sum n : ℕ) → sum ≡ length (flatMap f (take i l)) → n ≡ length (f (getD l i d)) → sum + n ≡ length (flatMap f (take (i + 1) l))
   sum-turn sum n e g = omega (arith, length-append (flatMap f (take i l)) (f (getD l i d)), ap length (flat-turn f l i d h))
@@ -126,8 +50,8 @@ put-last f l i out at last r h p = put-text (ap (flatMap f) (take-all i l h)) p
 
 -- ---- lengths
 
-pub id-short : (id : WritebackId) → length (idText id) ≤ 7
-unfolding idText
+pub id-short : (id : WritebackId) → length (spacedId id) ≤ 7
+unfolding spacedId
 id-short (Dof i) = omega arith
 id-short (Limit i) = omega arith
 id-short (Motor i) = omega arith
@@ -144,25 +68,20 @@ line-length k =
     (arith, length-append (headText k (length ids) ++ idsText ids) (LF ∷ []), length-append (headText k (length ids)) (idsText ids), head-length k (length ids))
 
 pub line-short : (k : Masks) → length (lineText k) ≤ 52
-line-short k = omega (arith, line-length k, flat-short idText 7 id-short (rowIds 2 1 k), at-most-six k)
+line-short k = omega (arith, line-length k, flat-short spacedId 7 id-short (rowIds 2 1 k), at-most-six k)
 
 -- ---- a joint's ids in the array that the code holds
 
-all-at : (P : WritebackId → Type 0) (l : List WritebackId) (i : ℕ) → i < length l → laws.All P l → P (getD l i (Dof 0))
-all-at P [] i h a = absurd (omega arith)
-all-at P (x ∷ l) zero h a = a .0
-all-at P (x ∷ l) (suc i) h a = all-at P l i (omega arith) (a .1)
-
 -- the text of an id as an element of the array
 abbrev pub named : RowId → List ℕ
-named r = idText (r .id)
+named r = spacedId (r .id)
 
 named-ids : (l : List RowId) → flatMap named l ≡ idsText (map (λ (i : RowId). i .id) l)
 unfolding flatMap
 named-ids [] = refl
 named-ids (r ∷ l) = ap (λ (t : List ℕ). named r ++ t) (named-ids l)
 
-pub id-bound : (id : WritebackId) (n : ℕ) → n ≡ length (idText id) → n ≤ 7
+pub id-bound : (id : WritebackId) (n : ℕ) → n ≡ length (spacedId id) → n ≤ 7
 id-bound id n e = omega (arith, id-short id)
 
 module _ (k : Masks) {ids : RowIds} (e : ids ≡ rowIdsArray k) where
@@ -180,12 +99,6 @@ module _ (k : Masks) {ids : RowIds} (e : ids ≡ rowIdsArray k) where
   ids-text =
       named-ids (take (ids .len) (ids .ids))
       ∙ ap idsText (ap (λ (r : RowIds). map (λ (i : RowId). i .id) (take (r .len) (r .ids))) e ∙ rowIdsArray-ids k)
-
-  pub ids-axis : (i : ℕ) (d : RowId) → i < ids .len → axisOf (getD (ids .ids) i d .id) < 3
-  ids-axis i d h =
-      let at : getD (ids .ids) i d .id ≡ getD (rowIds 2 1 k) i (Dof 0) =
-      ap (λ (r : RowIds). getD (r .ids) i d .id) e ∙ rowIdsArray-id k i d (Dof 0) (omega (arith, ids-len)) in
-      rw at (all-at (λ x. laws.axisOf x < 3) (rowIds 2 1 k) i (omega (arith, ids-len)) (laws.axis-below 2 1 k))
 
   -- the ids put in one after the other, of which i are there
   first-ids : List RowId
@@ -302,10 +215,6 @@ there-line n h =
 pub no-line : (n : ℕ) → 4096 ≤ n → lineAt n ≡ []
 unfolding lineAt
 no-line n h = List·getD-eq-default (map lineText choices) [] (omega (arith, choices-length, length-map choices lineText))
-
-pub empty-written : (out text : List ℕ) → text ≡ [] → out ≡ written out text
-unfolding written
-empty-written out text e = sym (ap (written out) e ∙ ap (λ (b : Bool). cond b out out) (le-leb 0 (length out) (omega arith)))
 
 pub line-written : (n : ℕ) (out out′ : List ℕ) → n < 4096 → (len : ℕ) → len ≡ length (lineText (choiceOf n)) → len ≤ length out → (r : ℕ) → Put out 0 (lineText (choiceOf n)) out′ r
     → out′ ≡ written out (lineAt n)

@@ -2,21 +2,22 @@
 ghost use mathlib.Core.Path.{_≡_};
 ghost use Prim.Native.Nat.{_+_, _≤_, _<_};
 ghost use lib.ListN.{length};
-ghost use Rattle.model.specs.Store.{axisOf};
 ghost use Rattle.rows.specs.RowIds.{rowIds};
 ghost use Rattle.catalogue.specs.Choices.{choiceOf};
-ghost use Rattle.catalogue.specs.Text.{idText, idsText, headText, lineText, catalogueText, lineAt, written, Put};
+ghost use Rattle.texts.specs.Written.{written, Put};
+ghost use Rattle.catalogue.specs.Text.{axisDigit, spacedId, idsText, headText, lineText, catalogueText, lineAt};
 use crate::choices::CHOICES;
 use crate::choices::choice;
 use rows::generic_joint::Masks;
 use rows::joint_velocity_constraint::WritebackId;
 use rows::row_ids::row_count;
 use rows::row_ids::row_ids;
+use texts::put::put_text;
 
 // ---- lengths
 
 fn id_length(id: WritebackId) -> usize
-    ensures { λ r. ⌜ r ≡ length (idText id) ⌝ }
+    ensures { λ r. ⌜ r ≡ length (spacedId id) ⌝ }
 {
     match id {
         WritebackId::Dof(_) => 5,
@@ -62,33 +63,33 @@ fn catalogue_length() -> usize
 
 // ---- text put in: each function puts a text in from `at` on and answers where it ends
 
-pub fn put_text(out: &mut [u8], at: usize, text: &[u8]) -> usize
-    requires { ⌜ at + length (now text) ≤ length (now out) ⌝ }
-    ensures { λ r. ⌜ Put (now (out .entry)) at (now (text .entry)) (now (out .exit)) r ⌝ }
+pub fn axis_digit(axis: usize) -> u8
+    ensures { λ r. ⌜ r ≡ axisDigit axis ⌝ }
 {
-    let mut k: usize = 0;
-    while k < text.len() {
-        out[at + k] = text[k];
-        k += 1;
+    if axis == 0 {
+        return b'0';
     }
-    at + k
+    if axis == 1 {
+        return b'1';
+    }
+    b'2'
 }
 
 fn put_id(out: &mut [u8], at: usize, id: WritebackId) -> usize
-    requires { ⌜ (axisOf id < 3) × (at + length (idText id) ≤ length (now out)) ⌝ }
-    ensures { λ r. ⌜ Put (now (out .entry)) at (idText id) (now (out .exit)) r ⌝ }
+    requires { ⌜ at + length (spacedId id) ≤ length (now out) ⌝ }
+    ensures { λ r. ⌜ Put (now (out .entry)) at (spacedId id) (now (out .exit)) r ⌝ }
 {
     match id {
         WritebackId::Dof(i) => {
-            let word = [b' ', b'D', b'o', b'f', 48 + i as u8];
+            let word = [b' ', b'D', b'o', b'f', axis_digit(i)];
             put_text(&mut *out, at, &word)
         }
         WritebackId::Limit(i) => {
-            let word = [b' ', b'L', b'i', b'm', b'i', b't', 48 + i as u8];
+            let word = [b' ', b'L', b'i', b'm', b'i', b't', axis_digit(i)];
             put_text(&mut *out, at, &word)
         }
         WritebackId::Motor(i) => {
-            let word = [b' ', b'M', b'o', b't', b'o', b'r', 48 + i as u8];
+            let word = [b' ', b'M', b'o', b't', b'o', b'r', axis_digit(i)];
             put_text(&mut *out, at, &word)
         }
     }

@@ -10,7 +10,8 @@ use borrow.Author.Tests.{lt-ltb, le-ltb, le-leb, lt-leb, leb-true}
 use lib.Dec.{leb}
 use lib.ListN.{length, drop, getD, drop-of-length-le}
 use lib.Seq.{drop-cons}
-use Rattle.decimals.specs.Words.{isDigit, digitsCount, digitsValue}
+use Rattle.texts.specs.Digits.{isDigit}
+use Rattle.decimals.specs.Words.{digitsCount, digitsValue}
 use Rattle.decimals.specs.Capped.{cap}
 use Rattle.decimals.specs.declared.digits.Digits.{Digits}
 use Rattle.decimals.proofs.PatternLaws.{side}

@@ -4,7 +4,8 @@ use mathlib.Core.List.{List, [], _∷_, map}
 use Prim.Native.Nat.{ℕ}
 use lib.Ieee.{binary32, round, ofBits}
 use Rattle.decimals.specs.Rounding.{decimalOf}
-use Rattle.decimals.specs.Words.{isDigit, digitsCount, digitsValue, decimalRead, exponentDigits, exponentSign, exponentPart, pointDigits, noPoint, pointPart, decimalWord, hexDigit, bitsAfter, isHex, bitsWord, isInf, unsigned, readingOf}
+use Rattle.texts.specs.Digits.{isDigit}
+use Rattle.decimals.specs.Words.{digitsCount, digitsValue, decimalRead, exponentDigits, exponentSign, exponentPart, pointDigits, noPoint, pointPart, decimalWord, hexValue, bitsAfter, isHex, bitsWord, isInf, unsigned, readingOf}
 use Rattle.decimals.specs.declared.number.Reading.{Reading}
 use Rattle.decimals.specs.declared.number.Reading.the-variants.{Number, TooManyDigits, NotANumber}
 
@@ -65,5 +66,5 @@ table =
     ∷ []
 
 pub cases : map (λ (c : Case). readingOf (c .word)) table ≡ map (λ (c : Case). c .reading) table
-unfolding table readingOf isHex hexDigit bitsAfter bitsWord unsigned isInf decimalWord isDigit digitsCount digitsValue pointPart pointDigits noPoint exponentPart exponentSign exponentDigits decimalRead decimalOf round ofBits
+unfolding table readingOf isHex hexValue bitsAfter bitsWord unsigned isInf decimalWord isDigit digitsCount digitsValue pointPart pointDigits noPoint exponentPart exponentSign exponentDigits decimalRead decimalOf round ofBits
 cases = refl

@@ -11,7 +11,9 @@ use lib.Dec.{eqb}
 use lib.ListN.{length, drop, getD, length-drop, drop-of-length-le}
 use lib.Seq.{drop-cons, drop-drop, getD-drop}
 use lib.Ieee.{Float, inf, binary32, ofBits, neg}
-use Rattle.decimals.specs.Words.{PLUS, MINUS, POINT, isDigit, digitsCount, digitsValue, afterDigits, decimalRead, exponentDigits, exponentSign, exponentPart, pointDigits, noPoint, pointPart, decimalWord, hexDigit, bitsAfter, isHex, bitsWord, isInf, unsigned, readingOf}
+use Rattle.texts.specs.Ascii.{PLUS, MINUS, POINT}
+use Rattle.texts.specs.Digits.{isDigit}
+use Rattle.decimals.specs.Words.{digitsCount, digitsValue, afterDigits, decimalRead, exponentDigits, exponentSign, exponentPart, pointDigits, noPoint, pointPart, decimalWord, hexValue, bitsAfter, isHex, bitsWord, isInf, unsigned, readingOf}
 use Rattle.decimals.specs.declared.number.Reading.the-variants.{Number, NotANumber}
 
 pub at-byte : (t : List ℕ) (at : ℕ) → at < length t → drop at t ≡ getD t at 0 ∷ drop (at + 1) t
@@ -136,13 +138,13 @@ module _ (s : Bool) (t : List ℕ) (at end : ℕ) (e : end ≡ at + digitsCount 
 
 -- ---- hexadecimal digits
 module _ (t : List ℕ) (i v : ℕ) where
-  pub bits-digit : i < length t → hexDigit (getD t i 0) < 16 → bitsAfter (v * 16 + hexDigit (getD t i 0)) (drop (i + 1) t) ≡ bitsAfter v (drop i t)
+  pub bits-digit : i < length t → hexValue (getD t i 0) < 16 → bitsAfter (v * 16 + hexValue (getD t i 0)) (drop (i + 1) t) ≡ bitsAfter v (drop i t)
   unfolding bitsAfter
-  bits-digit below h = sym (ap (bitsAfter v) (at-byte t i below) ∙ simp (lt-ltb (hexDigit (getD t i 0)) 16 h))
+  bits-digit below h = sym (ap (bitsAfter v) (at-byte t i below) ∙ simp (lt-ltb (hexValue (getD t i 0)) 16 h))
 
-  pub bits-fault : i < length t → 16 ≤ hexDigit (getD t i 0) → NotANumber ≡ bitsAfter v (drop i t)
+  pub bits-fault : i < length t → 16 ≤ hexValue (getD t i 0) → NotANumber ≡ bitsAfter v (drop i t)
   unfolding bitsAfter
-  bits-fault below h = sym (ap (bitsAfter v) (at-byte t i below) ∙ simp (le-ltb (hexDigit (getD t i 0)) 16 h))
+  bits-fault below h = sym (ap (bitsAfter v) (at-byte t i below) ∙ simp (le-ltb (hexValue (getD t i 0)) 16 h))
 
   pub bits-end : length t ≤ i → Number (ofBits binary32 v) ≡ bitsAfter v (drop i t)
   unfolding bitsAfter
@@ -160,32 +162,32 @@ hex-room v d i small h l = let p : 16 ^ (i - 2) ≤ 16 ^ 7 = pow-le-pow-right (o
 
 -- the tests of a byte
 module _ (b : ℕ) where
-  pub hex-low : b < 0x30 → 16 ≡ hexDigit b
-  unfolding hexDigit
+  pub hex-low : b < 0x30 → 16 ≡ hexValue b
+  unfolding hexValue
   hex-low h = simp (lt-leb 0x30 b h, lt-leb 0x41 b (omega arith), lt-leb 0x61 b (omega arith))
 
-  pub hex-decimal : 0x30 ≤ b → b ≤ 0x39 → b - 0x30 ≡ hexDigit b
-  unfolding hexDigit
+  pub hex-decimal : 0x30 ≤ b → b ≤ 0x39 → b - 0x30 ≡ hexValue b
+  unfolding hexValue
   hex-decimal h k = simp (le-leb 0x30 b h, le-leb b 0x39 k)
 
-  pub hex-between : 0x39 < b → b < 0x41 → 16 ≡ hexDigit b
-  unfolding hexDigit
+  pub hex-between : 0x39 < b → b < 0x41 → 16 ≡ hexValue b
+  unfolding hexValue
   hex-between h k = simp (le-leb 0x30 b (omega arith), lt-leb b 0x39 h, lt-leb 0x41 b k, lt-leb 0x61 b (omega arith))
 
-  pub hex-upper : 0x41 ≤ b → b ≤ 0x46 → b - 0x37 ≡ hexDigit b
-  unfolding hexDigit
+  pub hex-upper : 0x41 ≤ b → b ≤ 0x46 → b - 0x37 ≡ hexValue b
+  unfolding hexValue
   hex-upper h k = simp (le-leb 0x30 b (omega arith), lt-leb b 0x39 (omega arith), le-leb 0x41 b h, le-leb b 0x46 k)
 
-  pub hex-between-cases : 0x46 < b → b < 0x61 → 16 ≡ hexDigit b
-  unfolding hexDigit
+  pub hex-between-cases : 0x46 < b → b < 0x61 → 16 ≡ hexValue b
+  unfolding hexValue
   hex-between-cases h k = simp (le-leb 0x30 b (omega arith), lt-leb b 0x39 (omega arith), le-leb 0x41 b (omega arith), lt-leb b 0x46 h, lt-leb 0x61 b k)
 
-  pub hex-lower : 0x61 ≤ b → b ≤ 0x66 → b - 0x57 ≡ hexDigit b
-  unfolding hexDigit
+  pub hex-lower : 0x61 ≤ b → b ≤ 0x66 → b - 0x57 ≡ hexValue b
+  unfolding hexValue
   hex-lower h k = simp (le-leb 0x30 b (omega arith), lt-leb b 0x39 (omega arith), le-leb 0x41 b (omega arith), lt-leb b 0x46 (omega arith), le-leb 0x61 b h, le-leb b 0x66 k)
 
-  pub hex-high : 0x66 < b → 16 ≡ hexDigit b
-  unfolding hexDigit
+  pub hex-high : 0x66 < b → 16 ≡ hexValue b
+  unfolding hexValue
   hex-high h = simp (le-leb 0x30 b (omega arith), lt-leb b 0x39 (omega arith), le-leb 0x41 b (omega arith), lt-leb b 0x46 (omega arith), le-leb 0x61 b (omega arith), lt-leb b 0x66 h)
 
 -- ---- 0x

@@ -5,21 +5,11 @@ use Prim.Native.Nat.{ℕ, suc, _+_, _-_, _*_, _^_}
 use lib.Dec.{leb, ltb, eqb}
 use lib.ListN.{length, getD, drop}
 use lib.Ieee.{inf, binary32, ofBits}
+use Rattle.texts.specs.Ascii.{PLUS, MINUS, POINT}
+use Rattle.texts.specs.Digits.{isDigit}
 use Rattle.decimals.specs.Rounding.{decimalOf}
 use Rattle.decimals.specs.declared.number.Reading.{Reading}
 use Rattle.decimals.specs.declared.number.Reading.the-variants.{Number, TooManyDigits, NotANumber}
-
-abbrev pub PLUS : ℕ
-PLUS = 0x2b
-
-abbrev pub MINUS : ℕ
-MINUS = 0x2d
-
-abbrev pub POINT : ℕ
-POINT = 0x2e
-
-unfoldable pub isDigit : ℕ → Bool
-isDigit b = leb 0x30 b && leb b 0x39
 
 -- ---- the digits at the front of a text
 
@@ -79,14 +69,14 @@ decimalWord negative bs = pointPart negative (digitsCount bs) (digitsValue 0 bs)
 -- ---- f32 bits: 0x and eight hexadecimal digits of either case
 
 -- 16 is no digit
-unfoldable pub hexDigit : ℕ → ℕ
-hexDigit b =
+unfoldable pub hexValue : ℕ → ℕ
+hexValue b =
     cond (leb 0x30 b && leb b 0x39) (b - 0x30)
     (cond (leb 0x41 b && leb b 0x46) (b - 0x37) (cond (leb 0x61 b && leb b 0x66) (b - 0x57) 16))
 
 unfoldable pub bitsAfter : ℕ → List ℕ → Reading
 bitsAfter v [] = Number (ofBits binary32 v)
-bitsAfter v (b ∷ bs) = cond (ltb (hexDigit b) 16) (bitsAfter (v * 16 + hexDigit b) bs) NotANumber
+bitsAfter v (b ∷ bs) = cond (ltb (hexValue b) 16) (bitsAfter (v * 16 + hexValue b) bs) NotANumber
 
 unfoldable pub isHex : List ℕ → Bool
 isHex bs = leb 2 (length bs) && eqb (getD bs 0 0) 0x30 && eqb (getD bs 1 0) 0x78

@@ -2,7 +2,7 @@
 ghost use mathlib.Core.Path.{_≡_};
 ghost use Prim.Native.Nat.{_+_, _*_, _^_, _<_, _≤_};
 ghost use lib.ListN.{drop};
-ghost use Rattle.decimals.specs.Words.{isDigit};
+ghost use Rattle.texts.specs.Digits.{isDigit};
 ghost use Rattle.decimals.specs.Capped.{cap, digitsOf};
 
 // The value of the digits, at most 10^19, and where they end.

@@ -5,7 +5,7 @@ ghost use Prim.Native.Nat.{_+_, _^_, _<_, _≤_};
 ghost use lib.Ieee.{neg};
 ghost use lib.ListN.{length, drop};
 ghost use Rattle.decimals.specs.Rounding.{decimalOf};
-ghost use Rattle.decimals.specs.Words.{decimalRead, exponentDigits, exponentSign, exponentPart, pointDigits, noPoint, decimalWord, hexDigit, bitsAfter, bitsWord, isHex, isInf, unsigned, readingOf};
+ghost use Rattle.decimals.specs.Words.{decimalRead, exponentDigits, exponentSign, exponentPart, pointDigits, noPoint, decimalWord, hexValue, bitsAfter, bitsWord, isHex, isInf, unsigned, readingOf};
 use crate::digits::digits_at;
 use crate::rounding::scaled_down;
 use crate::rounding::scaled_up;
@@ -182,8 +182,8 @@ fn decimal_word(word: &[u8], at: usize, negative: bool) -> Reading
 // ---- f32 bits in hexadecimal digits
 
 // 16 for a byte that is no digit
-fn hex_digit(b: u8) -> u32
-    ensures { λ r. ⌜ r ≡ hexDigit b ⌝ }
+fn hex_value(b: u8) -> u32
+    ensures { λ r. ⌜ r ≡ hexValue b ⌝ }
 {
     if b < 0x30 {
         return 16;
@@ -214,7 +214,7 @@ fn hex_digits(word: &[u8]) -> Reading
     let mut v: u32 = 0;
     let mut i: usize = 2;
     while i < word.len() {
-        let d = hex_digit(word[i]);
+        let d = hex_value(word[i]);
         if 16 <= d {
             return Reading::NotANumber;
         }

@@ -3,7 +3,8 @@ use mathlib.Core.Path.{_≡_, refl, sym, ap, _∙_}
 use mathlib.Core.Bool.{Bool, true, false}
 use mathlib.Core.List.{List, [], _∷_, _++_, append-assoc, append-nil}
 use Prim.Native.Nat.{ℕ}
-use Rattle.motor_table.specs.Rfc4180.{COMMA, CR, DQUOTE, LF, isTextdata, moveAt, mayEnd, Parsed, withByte, withField, recordFrom, firstRecord}
+use Rattle.texts.specs.Ascii.{COMMA, CR, DQUOTE, LF}
+use Rattle.motor_table.specs.Rfc4180.{isTextdata, moveAt, mayEnd, Parsed, withByte, withField, recordFrom, firstRecord}
 use Rattle.motor_table.specs.Rfc4180.Parsed.{fields}
 use Rattle.motor_table.specs.Grammar.{Unquoted, Quoted, Field, Record, Follows}
 use Rattle.motor_table.proofs.RoundTrip.{withBytes, bytes-first, followed, no-quote, bare-move, start-move}

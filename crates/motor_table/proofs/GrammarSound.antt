@@ -6,7 +6,8 @@ use Prim.Native.Nat.{ℕ}
 use native.Mathlib.Omega.{arith}
 use borrow.Author.Tests.{eqb-true}
 use lib.Dec.{eqb}
-use Rattle.motor_table.specs.Rfc4180.{COMMA, CR, DQUOTE, LF, isTextdata, separatorMove, nonEscapedMove, escapedMove, moveAt, mayEnd, Parsed, withByte, withField, recordFrom, firstRecord}
+use Rattle.texts.specs.Ascii.{COMMA, CR, DQUOTE, LF}
+use Rattle.motor_table.specs.Rfc4180.{isTextdata, separatorMove, nonEscapedMove, escapedMove, moveAt, mayEnd, Parsed, withByte, withField, recordFrom, firstRecord}
 use Rattle.motor_table.specs.Rfc4180.Parsed.{fields, broken}
 use Rattle.motor_table.specs.Grammar.{Unquoted, Quoted, Field, Record, Follows}
 use Rattle.motor_table.proofs.RoundTrip.{followed}

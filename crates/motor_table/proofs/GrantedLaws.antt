@@ -12,7 +12,8 @@ use lib.Dec.{eqb, ltb, leb}
 use lib.ListN.{length, drop}
 use Rattle.motor_table.specs.Rfc4180.{Parsed, firstRecord}
 use Rattle.motor_table.specs.Rfc4180.Parsed.{fields, broken}
-use Rattle.motor_table.specs.WholeNumber.{largestSize, MINUS, isSign, numberOf, digitsAfter, sized, unsigned, wholeNumber}
+use Rattle.texts.specs.Ascii.{MINUS}
+use Rattle.motor_table.specs.WholeNumber.{largestSize, isSign, numberOf, digitsAfter, sized, unsigned, wholeNumber}
 use Rattle.motor_table.specs.Records.{entryOf, threeNumbers, isPresent, readAt}
 use Rattle.motor_table.specs.Tables.{Table, tableRefusal, after, checked, unlessEmpty, readFrom, tableAnswer}
 use Rattle.motor_table.specs.Tables.Table.{granted, refused}

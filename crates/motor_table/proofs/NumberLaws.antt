@@ -8,7 +8,9 @@ use Prim.Native.Nat.{ℕ, _+_, _-_, _*_, _≤_, _<_}
 use native.Mathlib.Omega.{arith}
 use borrow.Author.Tests.{le-leb, lt-leb, leb-true, leb-false, eq-eqb, ne-eqb}
 use lib.Dec.{leb, eqb}
-use Rattle.motor_table.specs.WholeNumber.{largestSize, MINUS, isDigit, isSign, numberOf, digitsAfter, sized, unsigned, wholeNumber}
+use Rattle.texts.specs.Ascii.{MINUS}
+use Rattle.texts.specs.Digits.{isDigit}
+use Rattle.motor_table.specs.WholeNumber.{largestSize, isSign, numberOf, digitsAfter, sized, unsigned, wholeNumber}
 use Rattle.motor_table.specs.Scan.{emptyField, noNumber, digitsField, grown, withDigit, withSign, pushOf, isDigits, isNumber, numberIn}
 use Rattle.motor_table.specs.declared.whole_number.Number.{Number}
 use Rattle.motor_table.specs.declared.whole_number.Field.{Field}

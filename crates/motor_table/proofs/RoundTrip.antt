@@ -10,16 +10,19 @@ use native.Mathlib.Omega.{arith}
 use borrow.Author.Tests.{lt-ltb, le-ltb, le-leb, lt-leb, ltb-true, ltb-false, ne-eqb}
 use lib.Dec.{leb, ltb, eqb}
 use lib.ListN.{length, getD}
-use Rattle.motor_table.specs.Rfc4180.{COMMA, CR, LF, DQUOTE, isTextdata, moveAt, Parsed, withByte, withField, recordFrom, firstRecord}
+use Rattle.texts.specs.Ascii.{COMMA, CR, LF, DQUOTE, MINUS}
+use Rattle.texts.specs.Digits.{isDigit, digit, decimalOnto, decimal}
+use Rattle.texts.proofs.DigitsLaws.{tenth}
+use Rattle.motor_table.specs.Rfc4180.{isTextdata, moveAt, Parsed, withByte, withField, recordFrom, firstRecord}
 use Rattle.motor_table.specs.Rfc4180.Parsed.{fields, broken}
-use Rattle.motor_table.specs.WholeNumber.{largestSize, MINUS, isDigit, isSign, numberOf, digitsAfter, sized, unsigned, wholeNumber}
+use Rattle.motor_table.specs.WholeNumber.{largestSize, isSign, numberOf, digitsAfter, sized, unsigned, wholeNumber}
 use Rattle.motor_table.specs.Records.{entryOf, threeNumbers, isPresent}
 use Rattle.motor_table.specs.Tables.{Table, mostRecords, after, checked, unlessEmpty, readFrom, readTable}
 use Rattle.motor_table.specs.Tables.Table.{granted, refused}
-use Rattle.motor_table.specs.Text.{digit, decimalOnto, decimal, numberText, fieldText, lastFieldText, recordText, textOf, wordNumber, entryAt, entriesFrom, recordsIn, entriesOf, isSized, granting, tableOf}
+use Rattle.motor_table.specs.Text.{numberText, fieldText, lastFieldText, recordText, textOf, wordNumber, entryAt, entriesFrom, recordsIn, entriesOf, isSized, granting, tableOf}
 use Rattle.motor_table.proofs.Textdata.{after-comma}
 use Rattle.motor_table.proofs.NumberLaws.{is-digit, digit-no-sign}
-use Rattle.motor_table.proofs.TextLaws.{tenth, record-length}
+use Rattle.motor_table.proofs.TextLaws.{record-length}
 use Rattle.motor_table.proofs.TableLaws.{no-bytes}
 use Rattle.motor_table.specs.declared.rfc4180.Place.the-variants.{FieldStart, NonEscaped}
 use Rattle.motor_table.specs.declared.rfc4180.Move.{Move}

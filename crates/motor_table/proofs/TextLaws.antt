@@ -1,141 +1,25 @@
--- Text in front of a position, and the digits of a number as division gives them.
-use mathlib.Core.Path.{_≡_, refl, sym, ap, subst, _∙_}
+-- The texts of numbers and records, their lengths, and records put in from the last to the first.
+use mathlib.Core.Path.{_≡_, refl, sym, ap, _∙_}
 use mathlib.Core.Bool.{Bool, true, false, cond, _&&_}
-use mathlib.Core.List.{List, [], _∷_, _++_, append-assoc}
-use Prim.Native.Nat.{ℕ, zero, suc, _+_, _-_, _*_, _/_, _%_, _^_, _≤_, _<_}
+use mathlib.Core.List.{List, [], _∷_, _++_}
+use Prim.Native.Nat.{ℕ, zero, suc, _+_, _-_, _*_, _/_, _^_, _≤_, _<_}
 use native.Mathlib.Nat.{div-add-mod', sub-zero}
 use native.Mathlib.Numerals.{add-one}
 use native.Mathlib.Omega.{arith}
-use borrow.Author.Tests.{lt-ltb, le-ltb, le-leb, lt-leb, leb-true}
+use borrow.Author.Tests.{le-ltb, le-leb, lt-leb, leb-true}
 use lib.Dec.{leb, ltb}
-use lib.ListN.{length, take, drop, set, length-append, length-take, length-drop, take-append-drop}
-use lib.Seq.{length-take-le, set-split, take-append-le, take-take, drop-at}
-use Rattle.motor_table.specs.WholeNumber.{largestSize, MINUS}
-use Rattle.motor_table.specs.Text.{digit, decimalOnto, decimal, numberText, fieldText, lastFieldText, recordText, textOf, wordNumber, entryAt, entriesFrom, recordsIn, entriesOf, isSized, splice, Put}
+use lib.ListN.{length, length-append}
+use Rattle.texts.specs.Ascii.{MINUS}
+use Rattle.texts.specs.Before.{PutBefore}
+use Rattle.texts.specs.Digits.{decimal}
+use Rattle.texts.proofs.BeforeLaws.{put-then, put-room}
+use Rattle.texts.proofs.DigitsLaws.{decimal-short}
+use Rattle.motor_table.specs.WholeNumber.{largestSize}
+use Rattle.motor_table.specs.Text.{numberText, fieldText, lastFieldText, recordText, textOf, wordNumber, entryAt, entriesFrom, recordsIn, entriesOf, isSized}
 use Rattle.motor_table.specs.declared.whole_number.Number.{Number}
 use Rattle.motor_table.specs.declared.record.Entry.{Entry}
 
--- ---- text in front of a position
-
-pub splice-length : (out : List ℕ) (end : ℕ) (text : List ℕ) → length text ≤ end → end ≤ length out → length (splice out end text) ≡ length out
-splice-length out end text h k =
-    let a = length-append (take (end - length text) out) (text ++ drop end out) in
-    let b = length-append text (drop end out) in
-    let d = length-drop end out in
-    let t = length-take-le (end - length text) out (omega arith) in
-    omega arith
-
-pub put-none : (out : List ℕ) (end : ℕ) → Put out end [] out end
-put-none out end =
-    record {
-      starts = sym (sub-zero end);
-      holds = sym (ap (λ (n : ℕ). take n out ++ drop end out) (sub-zero end) ∙ take-append-drop end out);
-    }
-
-pub put-one : (out : List ℕ) (end b : ℕ) → 1 ≤ end → end ≤ length out → Put out end (b ∷ []) (set out (end - 1) b) (end - 1)
-put-one out end b h k =
-    let e : suc (end - 1) ≡ end = omega arith in
-    record {
-      starts = refl;
-      holds = set-split out (end - 1) b (omega arith) ∙ ap (λ (n : ℕ). take (end - 1) out ++ (b ∷ drop n out)) e;
-    }
-
--- a text in front of a text
-pub put-then : (out : List ℕ) (end : ℕ) (text mid : List ℕ) (at : ℕ) (more last : List ℕ) (r : ℕ) → Put out end text mid at → Put mid at more last r
-    → length more + length text ≤ end → end ≤ length out → Put out end (more ++ text) last r
-put-then out end text mid at more last r p q h k =
-    let len = length-append more text in
-    let front = take (end - length text) out in
-    let long : length front ≡ at = length-take-le (end - length text) out (omega arith) ∙ sym (p .starts) in
-    let place : at - length more ≡ end - length (more ++ text) = omega (arith, p .starts) in
-    let fits : at - length more ≤ length front = omega arith in
-    let head : take (at - length more) mid ≡ take (end - length (more ++ text)) out =
-    ap (take (at - length more)) (p .holds)
-    ∙ take-append-le (at - length more) front (text ++ drop end out) fits
-    ∙ take-take (at - length more) (end - length text) out (omega (arith, p .starts))
-    ∙ ap (λ (n : ℕ). take n out) place in
-    let tail : drop at mid ≡ text ++ drop end out = ap (drop at) (p .holds) ∙ drop-at front (text ++ drop end out) at long in
-    record {
-      starts = q .starts ∙ place;
-      holds =
-          q .holds
-          ∙ ap (λ (l : List ℕ). l ++ (more ++ drop at mid)) head
-          ∙ ap (λ (l : List ℕ). take (end - length (more ++ text)) out ++ (more ++ l)) tail
-          ∙ ap (λ (l : List ℕ). take (end - length (more ++ text)) out ++ l) (sym (append-assoc more text (drop end out)));
-    }
-
-pub put-length : (out : List ℕ) (end : ℕ) (text out′ : List ℕ) (r : ℕ) → Put out end text out′ r → length text ≤ end → end ≤ length out
-    → length out′ ≡ length out
-put-length out end text out′ r p h k = ap length (p .holds) ∙ splice-length out end text h k
-
--- ---- digits
-
-pub tenth : (n : ℕ) → (n / 10) * 10 + n % 10 ≡ n
-tenth n = div-add-mod' n 10
-
--- the digits of n are those of `left` in front of `text`
-pub record Digits (n left : ℕ) (text : List ℕ) : Type 0 where
-  pub steps : ℕ
-  pub enough : left ≤ steps
-  pub same : decimalOnto steps left text ≡ decimal n
-
-pub digits-start : (n : ℕ) → Digits n n []
-unfolding decimal
-digits-start n = record { steps = n; enough = omega arith; same = refl }
-
-turn-digits : (n left : ℕ) (text : List ℕ) → 10 ≤ left → (steps : ℕ) → left ≤ steps → decimalOnto steps left text ≡ decimal n
-    → Digits n (left / 10) (digit (left % 10) ∷ text)
-unfolding decimalOnto
-turn-digits n left text h zero l e = absurd (let z : ⊥ = omega arith in z)
-turn-digits n left text h (suc k) l e =
-    record {
-      steps = k;
-      enough = omega (arith, tenth left);
-      same =
-          sym
-          (ap
-          (λ (t : Bool). elim t [ true ↦ digit left ∷ text | false ↦ decimalOnto k (left / 10) (digit (left % 10) ∷ text) ])
-          (le-ltb left 10 h))
-          ∙ e;
-    }
-
-pub digits-turn : (n left : ℕ) (text : List ℕ) → Digits n left text → 10 ≤ left → Digits n (left / 10) (digit (left % 10) ∷ text)
-digits-turn n left text d h = turn-digits n left text h (d .steps) (d .enough) (d .same)
-
-last-digit : (left : ℕ) (text : List ℕ) → left < 10 → (steps : ℕ) → decimalOnto steps left text ≡ digit left ∷ text
-unfolding decimalOnto
-last-digit left text h zero = refl
-last-digit left text h (suc k) =
-    ap
-    (λ (t : Bool). elim t [ true ↦ digit left ∷ text | false ↦ decimalOnto k (left / 10) (digit (left % 10) ∷ text) ])
-    (lt-ltb left 10 h)
-
-pub digits-end : (n left : ℕ) (text : List ℕ) → Digits n left text → left < 10 → decimal n ≡ digit left ∷ text
-digits-end n left text d h = sym (d .same) ∙ last-digit left text h (d .steps)
-
--- each text is longer than what it is put in front of, and by at most a digit a step
-pub onto-longer : (steps n : ℕ) (text : List ℕ) → (length text + 1 ≤ length (decimalOnto steps n text)) × (length (decimalOnto steps n text) ≤ length text + steps + 1)
-unfolding decimalOnto
-onto-longer zero n text = (omega arith, omega arith)
-onto-longer (suc k) n text = go (ltb n 10)
-    (onto-longer k (n / 10) (digit (n % 10) ∷ text))
-  where
-    go : (t : Bool)
-        → (length (digit (n % 10) ∷ text) + 1 ≤ length (decimalOnto k (n / 10) (digit (n % 10) ∷ text)))
-        × (length (decimalOnto k (n / 10) (digit (n % 10) ∷ text)) ≤ length (digit (n % 10) ∷ text) + k + 1)
-        → (length text + 1 ≤ length {A = ℕ} (elim t [ true ↦ digit n ∷ text | false ↦ decimalOnto k (n / 10) (digit (n % 10) ∷ text) ]))
-        × (length {A = ℕ} (elim t [ true ↦ digit n ∷ text | false ↦ decimalOnto k (n / 10) (digit (n % 10) ∷ text) ]) ≤ length text + suc k + 1)
-    go true ih = (omega arith, omega arith)
-    go false ih = (omega (arith, ih .0), omega (arith, ih .1))
-
-pub digits-longer : (n left : ℕ) (text : List ℕ) → Digits n left text → length text + 1 ≤ length (decimal n)
-digits-longer n left text d = omega (arith, onto-longer (d .steps) left text .0, ap length (d .same))
-
 -- ---- numbers and records
-
-pub decimal-short : (n : ℕ) → length (decimal n) ≤ n + 1
-unfolding decimal
-decimal-short n = omega (arith, onto-longer n n [] .1)
 
 pub minus-text : (n : Number) → n .negative ≡ true → numberText n ≡ MINUS ∷ decimal (n .size)
 unfolding numberText
@@ -207,24 +91,7 @@ high-word w h k =
     ap (λ (n : ℕ). record { negative = true; size = n }) e
     ∙ sym (ap (λ (b : Bool). cond b (record { negative = false; size = w }) (record { negative = true; size = 2 ^ 32 - w })) t)
 
--- ---- puts one after the other
-
-pub put-text : {out : List ℕ} {end : ℕ} {text text′ out′ : List ℕ} {r : ℕ} → text ≡ text′ → Put out end text out′ r → Put out end text′ out′ r
-put-text {out} {end} {text} {text′} {out′} {r} e p = subst (λ (t : List ℕ). Put out end t out′ r) e p
-
-pub put-room : (out : List ℕ) (end : ℕ) (text mid : List ℕ) (at : ℕ) (n : ℕ) → Put out end text mid at → n + length text ≤ end → end ≤ length out
-    → (n ≤ at) × (at ≤ length mid)
-put-room out end text mid at n p h k =
-    let l = put-length out end text mid at p (omega arith) k in
-    (omega (arith, p .starts), omega (arith, p .starts, l))
-
-pub digits-put : (n left : ℕ) (text out : List ℕ) (end : ℕ) (mid : List ℕ) (at : ℕ) (last : List ℕ) (r : ℕ) → Digits n left text → left < 10
-    → Put out end text mid at → Put mid at (digit left ∷ []) last r → length (decimal n) ≤ end → end ≤ length out → Put out end (decimal n) last r
-digits-put n left text out end mid at last r d h p q l k =
-    let e = digits-end n left text d h in
-    put-text (sym e) (put-then out end text mid at (digit left ∷ []) last r p q (omega (arith, ap length e)) k)
-
--- the parts of a record, from its end
+-- ---- the parts of a record, from its end
 module _ (e : Entry) (out : List ℕ) (end : ℕ) (fits : length (recordText e) ≤ end) (inside : end ≤ length out) where
   last-room : length (lastFieldText (e .thousandths)) + length (fieldText (e .axis)) + length (fieldText (e .joint)) ≤ end
   last-room =
@@ -233,12 +100,12 @@ module _ (e : Entry) (out : List ℕ) (end : ℕ) (fits : length (recordText e) 
   pub put-last-room : length (lastFieldText (e .thousandths)) ≤ end
   put-last-room = omega (arith, last-room)
 
-  module _ (m₁ : List ℕ) (a₁ : ℕ) (p₁ : Put out end (lastFieldText (e .thousandths)) m₁ a₁) where
+  module _ (m₁ : List ℕ) (a₁ : ℕ) (p₁ : PutBefore out end (lastFieldText (e .thousandths)) m₁ a₁) where
     pub put-axis-room : (length (fieldText (e .axis)) ≤ a₁) × (a₁ ≤ length m₁)
     put-axis-room = put-room out end _ m₁ a₁ _ p₁ (omega (arith, last-room)) inside
 
-    module _ (m₂ : List ℕ) (a₂ : ℕ) (p₂ : Put m₁ a₁ (fieldText (e .axis)) m₂ a₂) where
-      two : Put out end (fieldText (e .axis) ++ lastFieldText (e .thousandths)) m₂ a₂
+    module _ (m₂ : List ℕ) (a₂ : ℕ) (p₂ : PutBefore m₁ a₁ (fieldText (e .axis)) m₂ a₂) where
+      two : PutBefore out end (fieldText (e .axis) ++ lastFieldText (e .thousandths)) m₂ a₂
       two = put-then out end _ m₁ a₁ _ m₂ a₂ p₁ p₂ (omega (arith, last-room)) inside
 
       two-length : length (fieldText (e .axis) ++ lastFieldText (e .thousandths)) ≡ length (fieldText (e .axis)) + length (lastFieldText (e .thousandths))
@@ -247,7 +114,7 @@ module _ (e : Entry) (out : List ℕ) (end : ℕ) (fits : length (recordText e) 
       pub put-joint-room : (length (fieldText (e .joint)) ≤ a₂) × (a₂ ≤ length m₂)
       put-joint-room = put-room out end _ m₂ a₂ _ two (omega (arith, last-room, two-length)) inside
 
-      pub put-record : (last : List ℕ) (r : ℕ) → Put m₂ a₂ (fieldText (e .joint)) last r → Put out end (recordText e) last r
+      pub put-record : (last : List ℕ) (r : ℕ) → PutBefore m₂ a₂ (fieldText (e .joint)) last r → PutBefore out end (recordText e) last r
       unfolding recordText
       put-record last r p₃ = put-then out end _ m₂ a₂ _ last r two p₃ (omega (arith, last-room, two-length)) inside
 

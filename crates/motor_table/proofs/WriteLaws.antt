@@ -11,7 +11,9 @@ use lib.ListN.{length, take, drop, length-append}
 use Rattle.motor_table.specs.Records.{isPresent}
 use Rattle.motor_table.specs.Tables.{Table, after}
 use Rattle.motor_table.specs.Tables.Table.{granted, refused}
-use Rattle.motor_table.specs.Text.{recordText, textOf, entryAt, entriesFrom, isSized, granting, writtenAnswer, written, writtenText, splice, Put}
+use Rattle.texts.specs.Before.{splice, PutBefore}
+use Rattle.texts.specs.Written.{written}
+use Rattle.motor_table.specs.Text.{recordText, textOf, entryAt, entriesFrom, isSized, granting, writtenAnswer, writtenText}
 use Rattle.motor_table.specs.declared.record.Entry.{Entry}
 use Rattle.motor_table.specs.declared.text.Written.{Written}
 
@@ -126,7 +128,7 @@ module _ (joints left : ℕ) (es : List Entry) (n : ℕ) (h : writtenAnswer 0 (g
       let t : leb (length (textOf es)) (length out) ≡ false = lt-leb (length (textOf es)) (length out) (omega (arith, text-length)) in
       sym (ap (writtenText out) text-granted ∙ ap (λ (b : Bool). cond b (textOf es ++ drop (length (textOf es)) out) out) t)
 
-  pub text-put : (out′ : List ℕ) (r : ℕ) → n ≤ length out → Put out n (textOf es) out′ r → out′ ≡ writtenText out (granting joints left es)
+  pub text-put : (out′ : List ℕ) (r : ℕ) → n ≤ length out → PutBefore out n (textOf es) out′ r → out′ ≡ writtenText out (granting joints left es)
   unfolding writtenText written
   text-put out′ r l p =
       let t : leb (length (textOf es)) (length out) ≡ true = le-leb (length (textOf es)) (length out) (omega (arith, text-length)) in

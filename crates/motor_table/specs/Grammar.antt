@@ -5,7 +5,8 @@ use mathlib.Core.Path.{_≡_}
 use mathlib.Core.Bool.{true}
 use mathlib.Core.List.{List, [], _∷_, _++_}
 use Prim.Native.Nat.{ℕ}
-use Rattle.motor_table.specs.Rfc4180.{COMMA, CR, DQUOTE, LF, isTextdata}
+use Rattle.texts.specs.Ascii.{COMMA, CR, DQUOTE, LF}
+use Rattle.motor_table.specs.Rfc4180.{isTextdata}
 
 -- *TEXTDATA
 pub data Unquoted : List ℕ → Type 0 where

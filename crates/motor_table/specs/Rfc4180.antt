@@ -13,22 +13,11 @@ use mathlib.Core.Bool.{Bool, true, false, cond, _&&_, _||_}
 use mathlib.Core.List.{List, [], _∷_}
 use Prim.Native.Nat.{ℕ}
 use lib.Dec.{leb, eqb}
+use Rattle.texts.specs.Ascii.{COMMA, CR, DQUOTE, LF}
 use Rattle.motor_table.specs.declared.rfc4180.Place.{Place}
 use Rattle.motor_table.specs.declared.rfc4180.Place.the-variants.{FieldStart, NonEscaped, Escaped, QuoteSeen, CrSeen}
 use Rattle.motor_table.specs.declared.rfc4180.Move.{Move}
 use Rattle.motor_table.specs.declared.rfc4180.Move.the-variants.{Take, Skip, NextField, End, Fault}
-
-abbrev pub COMMA : ℕ
-COMMA = 0x2c
-
-abbrev pub CR : ℕ
-CR = 0x0d
-
-abbrev pub DQUOTE : ℕ
-DQUOTE = 0x22
-
-abbrev pub LF : ℕ
-LF = 0x0a
 
 unfoldable pub isTextdata : ℕ → Bool
 isTextdata b = (leb 0x20 b && leb b 0x21) || (leb 0x23 b && leb b 0x2b) || (leb 0x2d b && leb b 0x7e)

@@ -1,19 +1,20 @@
 -- How the program reads a record: in one pass, with a summary of the fields in place of their bytes. Nothing here need be
 -- believed: proofs/ScanLaws.antt shows that it comes to what Rfc4180, WholeNumber and Records say.
-use mathlib.Core.Bool.{Bool, true, false, cond, _&&_}
+use mathlib.Core.Bool.{Bool, false, cond, _&&_}
 use mathlib.Core.List.{List, [], _∷_}
 use Prim.Native.Nat.{ℕ, _+_, _-_, _*_}
-use lib.Dec.{leb, ltb, eqb}
+use lib.Dec.{leb, eqb}
 use lib.ListN.{length}
 use Rattle.motor_table.specs.Rfc4180.{moveAt, mayEnd}
-use Rattle.motor_table.specs.WholeNumber.{largestSize, MINUS, isDigit, isSign, numberOf}
+use Rattle.texts.specs.Ascii.{MINUS}
+use Rattle.texts.specs.Digits.{isDigit}
+use Rattle.motor_table.specs.WholeNumber.{largestSize, isSign, numberOf}
 use Rattle.motor_table.specs.declared.rfc4180.Place.{Place}
 use Rattle.motor_table.specs.declared.rfc4180.Move.{Move}
 use Rattle.motor_table.specs.declared.whole_number.Number.{Number}
 use Rattle.motor_table.specs.declared.whole_number.Spelling.{Spelling}
 use Rattle.motor_table.specs.declared.whole_number.Spelling.the-variants.{Nothing, Sign, Digits, NoNumber}
 use Rattle.motor_table.specs.declared.whole_number.Field.{Field}
-use Rattle.motor_table.specs.declared.record.Entry.{Entry}
 use Rattle.motor_table.specs.declared.record.Fields.{Fields}
 use Rattle.motor_table.specs.declared.record.Scan.{Scan}
 use Rattle.motor_table.specs.declared.record.Step.{Step}

@@ -1,13 +1,14 @@
 -- Writing a table (request R-6): records in as numbers, one spelling out, with no header, no quotes, no leading zeros or plus, a minus only
 -- before a nonzero number, and CRLF after each record.
-use mathlib.Core.Path.{_≡_}
 use mathlib.Core.Bool.{Bool, true, false, cond, _&&_}
 use mathlib.Core.List.{List, [], _∷_, _++_}
-use Prim.Native.Nat.{ℕ, zero, suc, _+_, _-_, _*_, _/_, _%_, _^_}
+use Prim.Native.Nat.{ℕ, zero, suc, _+_, _-_, _*_, _/_, _^_}
 use lib.Dec.{leb, ltb}
-use lib.ListN.{length, getD, take, drop}
-use Rattle.motor_table.specs.Rfc4180.{COMMA, CR, LF}
-use Rattle.motor_table.specs.WholeNumber.{largestSize, MINUS}
+use lib.ListN.{length, getD}
+use Rattle.texts.specs.Ascii.{COMMA, CR, LF, MINUS}
+use Rattle.texts.specs.Digits.{decimal}
+use Rattle.texts.specs.Written.{written}
+use Rattle.motor_table.specs.WholeNumber.{largestSize}
 use Rattle.motor_table.specs.Records.{isPresent}
 use Rattle.motor_table.specs.Tables.{Table, mostRecords, after}
 use Rattle.motor_table.specs.Tables.Table.{granted, refused}
@@ -16,19 +17,6 @@ use Rattle.motor_table.specs.declared.record.Entry.{Entry}
 use Rattle.motor_table.specs.declared.text.Written.{Written}
 
 -- ---- the spelling
-
-abbrev pub digit : ℕ → ℕ
-digit d = 0x30 + d
-
--- the digits of n in front of a text, in at most `steps` divisions by 10
-unfoldable pub decimalOnto : ℕ → ℕ → List ℕ → List ℕ
-decimalOnto zero n text = digit n ∷ text
-decimalOnto (suc steps) n text =
-    elim (ltb n 10) [ true ↦ digit n ∷ text | false ↦ decimalOnto steps (n / 10) (digit (n % 10) ∷ text) ]
-
--- n divisions are more than enough
-unfoldable pub decimal : ℕ → List ℕ
-decimal n = decimalOnto n n []
 
 unfoldable pub numberText : Number → List ℕ
 numberText n = cond (n .negative) (MINUS ∷ decimal (n .size)) (decimal (n .size))
@@ -89,20 +77,7 @@ unfoldable pub writtenAnswer : ℕ → Table → Written
 writtenAnswer n (granted es) = Written.Length (n + length (textOf es))
 writtenAnswer n (refused k) = Written.Refused k
 
--- the lent bytes afterwards: the text and then what stood past it, or all as it was where the text is longer or the table refused
-unfoldable pub written : List ℕ → List ℕ → List ℕ
-written out text = cond (leb (length text) (length out)) (text ++ drop (length text) out) out
-
+-- the lent bytes afterwards: with the text, or all as it was where the table is refused
 unfoldable pub writtenText : List ℕ → Table → List ℕ
 writtenText out (granted es) = written out (textOf es)
 writtenText out (refused k) = out
-
--- ---- how the program puts text in: in front of a position
-
-abbrev pub splice : List ℕ → ℕ → List ℕ → List ℕ
-splice out end text = take (end - length text) out ++ (text ++ drop end out)
-
--- out becomes out′, with the text in front of `end`, and it starts at r
-pub record Put (out : List ℕ) (end : ℕ) (text : List ℕ) (out′ : List ℕ) (r : ℕ) : Type 0 where
-  pub starts : r ≡ end - length text
-  pub holds : out′ ≡ splice out end text

@@ -4,19 +4,12 @@ use mathlib.Core.List.{List, [], _∷_}
 use mathlib.Core.Option.{Option, none, some}
 use Prim.Native.Nat.{ℕ, _+_, _-_, _*_}
 use lib.Dec.{leb, ltb, eqb}
+use Rattle.texts.specs.Ascii.{PLUS, MINUS}
+use Rattle.texts.specs.Digits.{isDigit}
 use Rattle.motor_table.specs.declared.whole_number.Number.{Number}
 
 abbrev pub largestSize : ℕ
 largestSize = 8000000
-
-abbrev pub PLUS : ℕ
-PLUS = 0x2b
-
-abbrev pub MINUS : ℕ
-MINUS = 0x2d
-
-unfoldable pub isDigit : ℕ → Bool
-isDigit b = leb 0x30 b && leb b 0x39
 
 unfoldable pub isSign : ℕ → Bool
 isSign b = eqb b PLUS || eqb b MINUS

@@ -5,13 +5,18 @@ ghost use mathlib.Core.Path.{_≡_};
 ghost use mathlib.Core.List.{[], _∷_, _++_};
 ghost use Prim.Native.Nat.{_+_, _-_, _*_, _≤_, _<_};
 ghost use lib.ListN.{length};
-ghost use Rattle.motor_table.specs.Rfc4180.{CR, LF};
-ghost use Rattle.motor_table.specs.Text.{decimal, numberText, recordText, textOf, wordNumber, entryAt, entriesFrom, entriesOf, recordsIn, isSized, tableOf, writtenAnswer, writtenText, fieldText, lastFieldText, Put};
+ghost use Rattle.texts.specs.Ascii.{CR, LF};
+ghost use Rattle.texts.specs.Before.{PutBefore};
+ghost use Rattle.texts.specs.Digits.{decimal};
+ghost use Rattle.motor_table.specs.Text.{numberText, recordText, textOf, wordNumber, entryAt, entriesFrom, entriesOf, recordsIn, isSized, tableOf, writtenAnswer, writtenText, fieldText, lastFieldText};
 use crate::record::Entry;
 use crate::record::is_present;
 use crate::table::MOST_RECORDS;
 use crate::whole_number::LARGEST_SIZE;
 use crate::whole_number::Number;
+use texts::digits::decimal_length;
+use texts::digits::put_byte;
+use texts::digits::put_digits;
 
 pub enum Written {
     // the text's length
@@ -71,18 +76,6 @@ fn is_sized(e: Entry) -> bool
 
 // ---- lengths
 
-fn decimal_length(n: u32) -> usize
-    ensures { λ r. ⌜ r ≡ length (decimal n) ⌝ }
-{
-    let mut left = n;
-    let mut count: usize = 1;
-    while 10 <= left {
-        left = left / 10;
-        count += 1;
-    }
-    count
-}
-
 fn number_length(n: Number) -> usize
     ensures { λ r. ⌜ r ≡ length (numberText n) ⌝ }
 {
@@ -132,30 +125,9 @@ pub fn text_length(table: &[u32], joints: u32) -> Written
 
 // ---- text out: each function puts a text in front of `end` and answers where it starts
 
-fn put_byte(out: &mut [u8], end: usize, b: u8) -> usize
-    requires { ⌜ (1 ≤ end) × (end ≤ length (now out)) ⌝ }
-    ensures { λ r. ⌜ Put (now (out .entry)) end (b ∷ []) (now (out .exit)) r ⌝ }
-{
-    out[end - 1] = b;
-    end - 1
-}
-
-fn put_digits(out: &mut [u8], end: usize, n: u32) -> usize
-    requires { ⌜ (length (decimal n) ≤ end) × (end ≤ length (now out)) ⌝ }
-    ensures { λ r. ⌜ Put (now (out .entry)) end (decimal n) (now (out .exit)) r ⌝ }
-{
-    let mut at = end;
-    let mut left = n;
-    while 10 <= left {
-        at = put_byte(&mut *out, at, 48 + (left % 10) as u8);
-        left = left / 10;
-    }
-    put_byte(&mut *out, at, 48 + left as u8)
-}
-
 pub fn put_number(out: &mut [u8], end: usize, n: Number) -> usize
     requires { ⌜ (length (numberText n) ≤ end) × (end ≤ length (now out)) ⌝ }
-    ensures { λ r. ⌜ Put (now (out .entry)) end (numberText n) (now (out .exit)) r ⌝ }
+    ensures { λ r. ⌜ PutBefore (now (out .entry)) end (numberText n) (now (out .exit)) r ⌝ }
 {
     let negative = n.negative;
     let size = n.size;
@@ -168,7 +140,7 @@ pub fn put_number(out: &mut [u8], end: usize, n: Number) -> usize
 
 fn put_crlf(out: &mut [u8], end: usize) -> usize
     requires { ⌜ (2 ≤ end) × (end ≤ length (now out)) ⌝ }
-    ensures { λ r. ⌜ Put (now (out .entry)) end (CR ∷ LF ∷ []) (now (out .exit)) r ⌝ }
+    ensures { λ r. ⌜ PutBefore (now (out .entry)) end (CR ∷ LF ∷ []) (now (out .exit)) r ⌝ }
 {
     let at = put_byte(&mut *out, end, b'\n');
     put_byte(&mut *out, at, b'\r')
@@ -176,7 +148,7 @@ fn put_crlf(out: &mut [u8], end: usize) -> usize
 
 fn put_field(out: &mut [u8], end: usize, n: Number) -> usize
     requires { ⌜ (length (fieldText n) ≤ end) × (end ≤ length (now out)) ⌝ }
-    ensures { λ r. ⌜ Put (now (out .entry)) end (fieldText n) (now (out .exit)) r ⌝ }
+    ensures { λ r. ⌜ PutBefore (now (out .entry)) end (fieldText n) (now (out .exit)) r ⌝ }
 {
     let at = put_byte(&mut *out, end, b',');
     put_number(&mut *out, at, n)
@@ -184,7 +156,7 @@ fn put_field(out: &mut [u8], end: usize, n: Number) -> usize
 
 fn put_last_field(out: &mut [u8], end: usize, n: Number) -> usize
     requires { ⌜ (length (lastFieldText n) ≤ end) × (end ≤ length (now out)) ⌝ }
-    ensures { λ r. ⌜ Put (now (out .entry)) end (lastFieldText n) (now (out .exit)) r ⌝ }
+    ensures { λ r. ⌜ PutBefore (now (out .entry)) end (lastFieldText n) (now (out .exit)) r ⌝ }
 {
     let at = put_crlf(&mut *out, end);
     put_number(&mut *out, at, n)
@@ -192,7 +164,7 @@ fn put_last_field(out: &mut [u8], end: usize, n: Number) -> usize
 
 fn put_entry(out: &mut [u8], end: usize, e: Entry) -> usize
     requires { ⌜ (length (recordText e) ≤ end) × (end ≤ length (now out)) ⌝ }
-    ensures { λ r. ⌜ Put (now (out .entry)) end (recordText e) (now (out .exit)) r ⌝ }
+    ensures { λ r. ⌜ PutBefore (now (out .entry)) end (recordText e) (now (out .exit)) r ⌝ }
 {
     let joint = e.joint;
     let axis = e.axis;
@@ -204,7 +176,7 @@ fn put_entry(out: &mut [u8], end: usize, e: Entry) -> usize
 
 fn put_table(table: &[u32], out: &mut [u8], end: usize) -> usize
     requires { ⌜ (length (textOf (entriesOf (now table))) ≤ end) × (end ≤ length (now out)) ⌝ }
-    ensures { λ r. ⌜ Put (now (out .entry)) end (textOf (entriesOf (now (table .entry)))) (now (out .exit)) r ⌝ }
+    ensures { λ r. ⌜ PutBefore (now (out .entry)) end (textOf (entriesOf (now (table .entry)))) (now (out .exit)) r ⌝ }
 {
     let mut k = table.len() / 3;
     let mut at = end;

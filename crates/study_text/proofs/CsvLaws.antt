@@ -1,5 +1,5 @@
 -- A record's fields put in one after the other, and their lengths.
-use Prim.Native.Nat.{ℕ, _+_, _-_, _/_, _%_, _≤_, _<_}
+use Prim.Native.Nat.{ℕ, _+_, _-_, _≤_, _<_}
 use mathlib.Core.Path.{_≡_, refl, sym, ap, _∙_}
 use mathlib.Core.Bool.{Bool, true, false, cond}
 use mathlib.Core.List.{List, [], _∷_, _++_, append-assoc}
@@ -13,14 +13,16 @@ use lib.Seq.{length-take-le, take-at, drop-at}
 use Rattle.rows.specs.declared.joint_velocity_constraint.WritebackId.{WritebackId}
 use Rattle.rows.specs.declared.joint_velocity_constraint.WritebackId.the-variants.{Dof, Limit, Motor}
 use Rattle.model.specs.Store.{axisOf}
-use Rattle.motor_table.specs.Rfc4180.{COMMA, CR, LF}
-use Rattle.catalogue.specs.Text.{written, Put}
-use Rattle.catalogue.proofs.TextLaws.{put-then, put-text, put-room, put-length, put-written, not-written}
-use Rattle.study_text.specs.Number.{SPACE, blanks, filled, atRight, millionthsText, columnOf}
+use Rattle.texts.specs.Ascii.{ascii, COMMA, CR, LF, SPACE}
+use Rattle.texts.specs.Hex.{hexWord}
+use Rattle.texts.specs.Written.{written, Put}
+use Rattle.texts.proofs.PutLaws.{put-then, put-text, put-room, put-length, put-written, not-written, kept-prefix, kept-text}
+use Rattle.study_text.specs.Number.{blanks, filled, atRight, millionthsText, columnOf}
 use Rattle.study_text.specs.Rules.{ruleOf}
-use Rattle.study_text.specs.Words.{idText, boundOf, numberOf, definitionText, wordOf}
+use Rattle.catalogue.specs.Text.{idText}
+use Rattle.study_text.specs.Words.{boundOf, numberOf, definitionText, wordOf}
 use Rattle.study_text.specs.Row.{areNames}
-use Rattle.study_text.specs.Csv.{field, unitOf, unitText, atText, hexDigit, hexText, bitsText, csvNames, csvId, csvNumber, csvNumbers, csvEnd, csvRule, csvValues, csvText}
+use Rattle.study_text.specs.Csv.{field, unitOf, unitText, atText, bitsText, csvNames, csvId, csvNumber, csvNumbers, csvEnd, csvRule, csvValues, csvText}
 use Rattle.study_text.specs.declared.number.Column.{Column}
 use Rattle.study_text.specs.declared.rules.Rule.{Rule}
 use Rattle.study_text.specs.declared.words.Word.{Word}
@@ -56,15 +58,10 @@ module _ (text : List ℕ) {w : Word} (e : w ≡ wordOf text) where
         length-append text (blanks (20 - length text)),
       )
 
-pub hex-word : (n d₁ d₂ d₃ d₄ d₅ d₆ d₇ d₈ : ℕ) → d₁ ≡ hexDigit (n / 0x10000000 % 16) → d₂ ≡ hexDigit (n / 0x1000000 % 16) → d₃ ≡ hexDigit (n / 0x100000 % 16)
-    → d₄ ≡ hexDigit (n / 0x10000 % 16) → d₅ ≡ hexDigit (n / 0x1000 % 16) → d₆ ≡ hexDigit (n / 0x100 % 16) → d₇ ≡ hexDigit (n / 0x10 % 16) → d₈ ≡ hexDigit (n % 16)
-    → wordOf (0x30 ∷ 0x78 ∷ d₁ ∷ d₂ ∷ d₃ ∷ d₄ ∷ d₅ ∷ d₆ ∷ d₇ ∷ d₈ ∷ []) ≡ wordOf (0x30 ∷ 0x78 ∷ hexText n)
-hex-word n d₁ d₂ d₃ d₄ d₅ d₆ d₇ d₈ e₁ e₂ e₃ e₄ e₅ e₆ e₇ e₈ = rw (e₁, e₂, e₃, e₄, e₅, e₆, e₇, e₈) refl
-
-pub unit-angular : (i : ℕ) → i ≡ 2 → wordOf (0x4e ∷ 0x2a ∷ 0x6d ∷ 0x2a ∷ 0x73 ∷ []) ≡ wordOf (unitOf i)
+pub unit-angular : (i : ℕ) → i ≡ 2 → wordOf (ascii "N*m*s") ≡ wordOf (unitOf i)
 unit-angular i h = simp (eq-eqb i 2 h)
 
-pub unit-linear : (i : ℕ) → (i ≡ 2 → ⊥) → wordOf (0x4e ∷ 0x2a ∷ 0x73 ∷ []) ≡ wordOf (unitOf i)
+pub unit-linear : (i : ℕ) → (i ≡ 2 → ⊥) → wordOf (ascii "N*s") ≡ wordOf (unitOf i)
 unit-linear i h = simp (ne-eqb i 2 h)
 
 -- ---- the number at the right of its column
@@ -105,7 +102,7 @@ field-length text = length-append text (COMMA ∷ [])
 unit-short : (i : ℕ) → length (unitOf i) ≤ 5
 unit-short i = go (eqb i 2)
   where
-    go : (t : Bool) → length {A = ℕ} (cond t (0x4e ∷ 0x2a ∷ 0x6d ∷ 0x2a ∷ 0x73 ∷ []) (0x4e ∷ 0x2a ∷ 0x73 ∷ [])) ≤ 5
+    go : (t : Bool) → length {A = ℕ} (cond t (ascii "N*m*s") (ascii "N*s")) ≤ 5
     go true = omega arith
     go false = omega arith
 
@@ -121,7 +118,7 @@ at-four Both = omega arith
 at-four No = omega arith
 
 csv-number-short : (x : Float) → length (csvNumber x) ≤ 23
-unfolding csvNumber
+unfolding csvNumber hexWord
 csv-number-short x =
     omega
     (arith, length-append (field (millionthsText x)) (field (bitsText x)), field-length (millionthsText x), field-length (bitsText x), millionths-short x)
@@ -166,21 +163,6 @@ values-short id rule impulse low high =
       definition-short rule,
     )
 
--- ---- the values, kept in 128 bytes of their own
-
-module _ (values : List ℕ) (short : length values ≤ 128) (kept : List ℕ) (n : ℕ) (p : Put (replicate 128 0) 0 values kept n) where
-  pub kept-count : n ≡ length values
-  kept-count = p .ends ∙ zero-add (length values)
-
-  pub kept-inside : n ≤ length kept
-  kept-inside = omega (arith, kept-count, put-length (replicate 128 0) 0 values kept n p (omega (arith, length-replicate {A = ℕ} 128 0)), length-replicate {A = ℕ} 128 0)
-
-  pub kept-prefix : n ≡ length (take n kept)
-  kept-prefix = sym (length-take-le n kept kept-inside)
-
-  pub kept-text : take n kept ≡ values
-  kept-text = ap (take n) (p .holds) ∙ take-at values (drop (0 + length values) (replicate 128 0)) n (sym kept-count)
-
 -- ---- the line
 
 module _ (joint body1 body2 : List ℕ) (id : WritebackId) (coupled : ℕ) (impulse low high : Float) where
@@ -192,7 +174,7 @@ module _ (joint body1 body2 : List ℕ) (id : WritebackId) (coupled : ℕ) (impu
     the-csv : csvNames joint body1 body2 ++ take n kept ≡ csvText joint body1 body2 id coupled impulse low high
     unfolding csvText
     the-csv =
-        ap (λ (l : List ℕ). csvNames joint body1 body2 ++ l) (kept-text (csvValues id rule impulse low high) (values-short id rule impulse low high) kept n p)
+        ap (λ (l : List ℕ). csvNames joint body1 body2 ++ l) (kept-text (values-short id rule impulse low high) p)
         ∙ ap (λ (r : Rule). csvNames joint body1 body2 ++ csvValues id r impulse low high) e
         ∙ sym (ap (λ (b : Bool). cond b (csvNames joint body1 body2 ++ csvValues id (ruleOf id coupled) impulse low high) []) h)
 
@@ -202,7 +184,7 @@ module _ (joint body1 body2 : List ℕ) (id : WritebackId) (coupled : ℕ) (impu
           arith,
           length-append (csvNames joint body1 body2) (take n kept),
           names-length joint body1 body2,
-          kept-prefix (csvValues id rule impulse low high) (values-short id rule impulse low high) kept n p,
+          kept-prefix (values-short id rule impulse low high) p,
         )
 
     pub csv-length : length joint + length body1 + length body2 + 3 + n ≡ length (csvText joint body1 body2 id coupled impulse low high)

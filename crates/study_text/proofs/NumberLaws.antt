@@ -17,10 +17,12 @@ use borrow.Author.Tests.{ltb-true, ltb-false}
 use Rattle.floats.specs.Bits.{partsOf}
 use Rattle.floats.specs.declared.bits.Parts.{Parts}
 use Rattle.floats.specs.declared.bits.Parts.the-variants as parts
-use Rattle.motor_table.specs.Text.{digit, decimalOnto, decimal, numberText, splice, Put}
-use Rattle.motor_table.specs.WholeNumber.{MINUS}
+use Rattle.texts.specs.Ascii.{MINUS, SPACE}
+use Rattle.texts.specs.Before.{splice, PutBefore}
+use Rattle.texts.specs.Digits.{digit, decimalOnto, decimal}
+use Rattle.motor_table.specs.Text.{numberText}
 use Rattle.motor_table.specs.declared.whole_number.Number.{Number}
-use Rattle.study_text.specs.Number.{SPACE, blanks, filled, atRight, signed, overText, columnOf}
+use Rattle.study_text.specs.Number.{blanks, filled, atRight, signed, overText, columnOf}
 use Rattle.study_text.specs.declared.number.Column.{Column}
 
 -- ---- sign and size
@@ -133,7 +135,7 @@ take-blanks zero m h = refl
 take-blanks (suc n) zero h = absurd (let z : ⊥ = omega arith in z)
 take-blanks (suc n) (suc m) h = ap (λ (l : List ℕ). SPACE ∷ l) (take-blanks n m (omega arith))
 
-pub column-put : (text bytes : List ℕ) (start : ℕ) → length text ≤ 11 → Put (blanks 12) 11 text bytes start → _≡_ {A = Column} (record { bytes = bytes; start = start }) (columnOf text)
+pub column-put : (text bytes : List ℕ) (start : ℕ) → length text ≤ 11 → PutBefore (blanks 12) 11 text bytes start → _≡_ {A = Column} (record { bytes = bytes; start = start }) (columnOf text)
 unfolding columnOf
 column-put text bytes start h p =
     let b : bytes ≡ blanks (11 - length text) ++ text ++ SPACE ∷ [] =

@@ -16,11 +16,13 @@ use Rattle.floats.specs.declared.micro_report.MicroReport.{MicroReport}
 use Rattle.floats.specs.declared.micro_report.MicroReport.the-variants.{Whole, Over, Nan}
 use Rattle.rows.specs.declared.joint_velocity_constraint.WritebackId.{WritebackId}
 use Rattle.rows.specs.declared.joint_velocity_constraint.WritebackId.the-variants.{Dof, Limit, Motor}
-use Rattle.catalogue.specs.Text.{LF, written, Put}
-use Rattle.catalogue.proofs.TextLaws.{put-then, put-text, put-room, put-written, not-written, empty-written}
-use Rattle.study_text.specs.Number.{SPACE, blanks, filled, atRight, signed, overText, reportText, millionthsText, columnOf}
+use Rattle.texts.specs.Ascii.{LF, SPACE}
+use Rattle.texts.specs.Written.{written, Put}
+use Rattle.texts.proofs.PutLaws.{put-then, put-text, put-room, put-written, not-written, empty-written}
+use Rattle.study_text.specs.Number.{blanks, filled, atRight, signed, overText, reportText, millionthsText, columnOf}
 use Rattle.study_text.specs.Rules.{ruleOf}
-use Rattle.study_text.specs.Words.{idText, boundOf, boundText, numberOf, definitionText, wordOf}
+use Rattle.catalogue.specs.Text.{idText}
+use Rattle.study_text.specs.Words.{boundOf, boundText, numberOf, definitionText, wordOf}
 use Rattle.study_text.specs.Row.{column, numberColumn, namesText, numbersText, valuesText, ruleText, lineWith, longestName, areNames, rowText}
 use Rattle.study_text.specs.declared.number.Column.{Column}
 use Rattle.study_text.specs.declared.rules.Rule.{Rule}

@@ -1,16 +1,18 @@
 -- A line of a study's table, as a record of comma-separated values.
-use Prim.Native.Nat.{ℕ, _+_, _/_, _%_}
-use mathlib.Core.Bool.{cond}
+use Prim.Native.Nat.{ℕ}
+use mathlib.Core.Bool.{false, cond}
 use mathlib.Core.List.{List, [], _∷_, _++_}
-use lib.Dec.{eqb, ltb}
+use lib.Dec.{eqb}
 use lib.Ieee.{Float, binary32, toBits}
 use lib.ListN.{length}
 use Rattle.rows.specs.declared.joint_velocity_constraint.WritebackId.{WritebackId}
-use Rattle.motor_table.specs.Rfc4180.{COMMA, CR, LF}
+use Rattle.texts.specs.Ascii.{ascii, COMMA, CR, LF}
+use Rattle.texts.specs.Hex.{hexWord}
 use Rattle.model.specs.Store.{axisOf}
 use Rattle.study_text.specs.Number.{millionthsText}
 use Rattle.study_text.specs.Rules.{ruleOf}
-use Rattle.study_text.specs.Words.{idText, boundOf, numberOf, definitionText}
+use Rattle.catalogue.specs.Text.{idText}
+use Rattle.study_text.specs.Words.{boundOf, numberOf, definitionText}
 use Rattle.study_text.specs.Row.{areNames}
 use Rattle.study_text.specs.declared.rules.Rule.{Rule}
 use Rattle.study_text.specs.declared.words.Bound.{Bound}
@@ -22,40 +24,22 @@ field text = text ++ COMMA ∷ []
 
 -- ---- words
 
--- an impulse's unit: "N*m*s" of the angle, "N*s" of a linear axis
+-- an impulse's unit, of the angle and of a linear axis
 abbrev pub unitOf : ℕ → List ℕ
-unitOf i = cond (eqb i 2) (0x4e ∷ 0x2a ∷ 0x6d ∷ 0x2a ∷ 0x73 ∷ []) (0x4e ∷ 0x2a ∷ 0x73 ∷ [])
+unitOf i = cond (eqb i 2) (ascii "N*m*s") (ascii "N*s")
 
 abbrev pub unitText : WritebackId → List ℕ
 unitText id = unitOf (axisOf id)
 
--- "low", "high", "both" or "no"
 abbrev pub atText : Bound → List ℕ
-atText Low = 0x6c ∷ 0x6f ∷ 0x77 ∷ []
-atText High = 0x68 ∷ 0x69 ∷ 0x67 ∷ 0x68 ∷ []
-atText Both = 0x62 ∷ 0x6f ∷ 0x74 ∷ 0x68 ∷ []
-atText No = 0x6e ∷ 0x6f ∷ []
+atText Low = ascii "low"
+atText High = ascii "high"
+atText Both = ascii "both"
+atText No = ascii "no"
 
--- a digit to the base 16, in lower case
-abbrev pub hexDigit : ℕ → ℕ
-hexDigit d = cond (ltb d 10) (0x30 + d) (0x57 + d)
-
--- eight digits
-abbrev pub hexText : ℕ → List ℕ
-hexText n =
-    hexDigit (n / 0x10000000 % 16)
-    ∷ hexDigit (n / 0x1000000 % 16)
-    ∷ hexDigit (n / 0x100000 % 16)
-    ∷ hexDigit (n / 0x10000 % 16)
-    ∷ hexDigit (n / 0x1000 % 16)
-    ∷ hexDigit (n / 0x100 % 16)
-    ∷ hexDigit (n / 0x10 % 16)
-    ∷ hexDigit (n % 16)
-    ∷ []
-
--- "0x" and the digits of a number's bits
+-- the bits of a number, a to f not in capitals
 abbrev pub bitsText : Float → List ℕ
-bitsText x = 0x30 ∷ 0x78 ∷ hexText (toBits binary32 x)
+bitsText x = hexWord false (toBits binary32 x)
 
 -- ---- the record
 

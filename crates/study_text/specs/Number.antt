@@ -5,15 +5,13 @@ use mathlib.Core.List.{List, [], _∷_, _++_}
 use lib.IntN.{ℤ, pos, negsuc}
 use lib.Ieee.{Float, nan, inf, fin}
 use lib.ListN.{length, replicate}
+use Rattle.texts.specs.Ascii.{ascii, SPACE}
 use Rattle.floats.specs.MicroReport.{microReportOf}
 use Rattle.floats.specs.declared.micro_report.MicroReport.{MicroReport}
 use Rattle.floats.specs.declared.micro_report.MicroReport.the-variants.{Whole, Over, Nan}
 use Rattle.motor_table.specs.Text.{numberText}
 use Rattle.motor_table.specs.declared.whole_number.Number.{Number}
 use Rattle.study_text.specs.declared.number.Column.{Column}
-
-abbrev pub SPACE : ℕ
-SPACE = 0x20
 
 abbrev pub blanks : ℕ → List ℕ
 blanks n = replicate n SPACE
@@ -32,18 +30,18 @@ unfoldable pub signed : ℤ → Number
 signed (pos n) = record { negative = false; size = n }
 signed (negsuc n) = record { negative = true; size = suc n }
 
--- what the report calls Over: "-inf", "inf" or "over"
+-- what the report calls Over
 unfoldable pub overText : Float → List ℕ
-overText (inf true) = 0x2d ∷ 0x69 ∷ 0x6e ∷ 0x66 ∷ []
-overText (inf false) = 0x69 ∷ 0x6e ∷ 0x66 ∷ []
-overText (fin s m e) = 0x6f ∷ 0x76 ∷ 0x65 ∷ 0x72 ∷ []
-overText nan = 0x6f ∷ 0x76 ∷ 0x65 ∷ 0x72 ∷ []
+overText (inf true) = ascii "-inf"
+overText (inf false) = ascii "inf"
+overText (fin s m e) = ascii "over"
+overText nan = ascii "over"
 
--- a minus before a negative number, and its digits; or a word, of which the last is "nan"
+-- a minus before a negative number, and its digits; or a word
 unfoldable pub reportText : Float → MicroReport → List ℕ
 reportText x (Whole n) = numberText (signed n)
 reportText x Over = overText x
-reportText x Nan = 0x6e ∷ 0x61 ∷ 0x6e ∷ []
+reportText x Nan = ascii "nan"
 
 unfoldable pub millionthsText : Float → List ℕ
 millionthsText x = reportText x (microReportOf x)

@@ -6,10 +6,11 @@ use lib.Dec.{leb}
 use lib.Ieee.{Float}
 use lib.ListN.{length}
 use Rattle.rows.specs.declared.joint_velocity_constraint.WritebackId.{WritebackId}
-use Rattle.catalogue.specs.Text.{LF}
-use Rattle.study_text.specs.Number.{SPACE, filled, atRight, millionthsText}
+use Rattle.texts.specs.Ascii.{LF, SPACE}
+use Rattle.study_text.specs.Number.{filled, atRight, millionthsText}
 use Rattle.study_text.specs.Rules.{ruleOf}
-use Rattle.study_text.specs.Words.{idText, boundOf, boundText, numberOf, definitionText}
+use Rattle.catalogue.specs.Text.{idText}
+use Rattle.study_text.specs.Words.{boundOf, boundText, numberOf, definitionText}
 use Rattle.study_text.specs.declared.rules.Rule.{Rule}
 
 -- a text filled up with blanks to w bytes, and one blank more

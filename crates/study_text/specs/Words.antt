@@ -1,12 +1,10 @@
--- The words of a line, in bytes.
+-- The words of a line.
 use Prim.Native.Nat.{ℕ}
 use mathlib.Core.Bool.{cond}
-use mathlib.Core.List.{List, [], _∷_}
-use lib.Dec.{eqb}
+use mathlib.Core.List.{List}
 use lib.Ieee.{Float, eq}
 use lib.ListN.{length}
-use Rattle.rows.specs.declared.joint_velocity_constraint.WritebackId.{WritebackId}
-use Rattle.rows.specs.declared.joint_velocity_constraint.WritebackId.the-variants.{Dof, Limit, Motor}
+use Rattle.texts.specs.Ascii.{ascii}
 use Rattle.study_text.specs.Number.{filled}
 use Rattle.study_text.specs.declared.rules.Rule.{Rule}
 use Rattle.study_text.specs.declared.rules.Rule.the-variants.{Motor2, Motor0, Motor1, MotorF, Dof2, Dof0, Dof1, Limit2, Limit0, Limit1, LimitF}
@@ -14,65 +12,43 @@ use Rattle.study_text.specs.declared.words.Word.{Word}
 use Rattle.study_text.specs.declared.words.Bound.{Bound}
 use Rattle.study_text.specs.declared.words.Bound.the-variants.{Low, High, Both, No}
 
--- the axis of an id is 0, 1 or 2
-abbrev pub axisDigit : ℕ → ℕ
-axisDigit i = cond (eqb i 0) 0x30 (cond (eqb i 1) 0x31 0x32)
-
--- "Dof0", "Limit1", "Motor2"
-abbrev pub idText : WritebackId → List ℕ
-idText (Dof i) = 0x44 ∷ 0x6f ∷ 0x66 ∷ axisDigit i ∷ []
-idText (Limit i) = 0x4c ∷ 0x69 ∷ 0x6d ∷ 0x69 ∷ 0x74 ∷ axisDigit i ∷ []
-idText (Motor i) = 0x4d ∷ 0x6f ∷ 0x74 ∷ 0x6f ∷ 0x72 ∷ axisDigit i ∷ []
-
 -- the bounds that an impulse is equal to, by IEEE 754's equality
 abbrev pub boundOf : Float → Float → Float → Bound
 boundOf impulse low high = cond (eq impulse low) (cond (eq impulse high) Both Low) (cond (eq impulse high) High No)
 
--- "low", "high", "both" or "-"
 abbrev pub boundText : Bound → List ℕ
-boundText Low = 0x6c ∷ 0x6f ∷ 0x77 ∷ []
-boundText High = 0x68 ∷ 0x69 ∷ 0x67 ∷ 0x68 ∷ []
-boundText Both = 0x62 ∷ 0x6f ∷ 0x74 ∷ 0x68 ∷ []
-boundText No = 0x2d ∷ []
+boundText Low = ascii "low"
+boundText High = ascii "high"
+boundText Both = ascii "both"
+boundText No = ascii "-"
 
--- the rule's number: the group and the place in it, "1.1" to "2.7"
+-- the rule's number: the group and the place in it
 abbrev pub numberOf : Rule → List ℕ
-numberOf Motor2 = 0x31 ∷ 0x2e ∷ 0x31 ∷ []
-numberOf Motor0 = 0x31 ∷ 0x2e ∷ 0x32 ∷ []
-numberOf Motor1 = 0x31 ∷ 0x2e ∷ 0x33 ∷ []
-numberOf MotorF = 0x31 ∷ 0x2e ∷ 0x34 ∷ []
-numberOf Dof2 = 0x32 ∷ 0x2e ∷ 0x31 ∷ []
-numberOf Dof0 = 0x32 ∷ 0x2e ∷ 0x32 ∷ []
-numberOf Dof1 = 0x32 ∷ 0x2e ∷ 0x33 ∷ []
-numberOf Limit2 = 0x32 ∷ 0x2e ∷ 0x34 ∷ []
-numberOf Limit0 = 0x32 ∷ 0x2e ∷ 0x35 ∷ []
-numberOf Limit1 = 0x32 ∷ 0x2e ∷ 0x36 ∷ []
-numberOf LimitF = 0x32 ∷ 0x2e ∷ 0x37 ∷ []
+numberOf Motor2 = ascii "1.1"
+numberOf Motor0 = ascii "1.2"
+numberOf Motor1 = ascii "1.3"
+numberOf MotorF = ascii "1.4"
+numberOf Dof2 = ascii "2.1"
+numberOf Dof0 = ascii "2.2"
+numberOf Dof1 = ascii "2.3"
+numberOf Limit2 = ascii "2.4"
+numberOf Limit0 = ascii "2.5"
+numberOf Limit1 = ascii "2.6"
+numberOf LimitF = ascii "2.7"
 
 -- the name of the definition in rows/specs/Makers
 abbrev pub definitionText : Rule → List ℕ
--- "motorAngularOf"
-definitionText Motor2 = 0x6d ∷ 0x6f ∷ 0x74 ∷ 0x6f ∷ 0x72 ∷ 0x41 ∷ 0x6e ∷ 0x67 ∷ 0x75 ∷ 0x6c ∷ 0x61 ∷ 0x72 ∷ 0x4f ∷ 0x66 ∷ []
--- "motorLinearOf"
-definitionText Motor0 = 0x6d ∷ 0x6f ∷ 0x74 ∷ 0x6f ∷ 0x72 ∷ 0x4c ∷ 0x69 ∷ 0x6e ∷ 0x65 ∷ 0x61 ∷ 0x72 ∷ 0x4f ∷ 0x66 ∷ []
--- "motorLinearOf"
-definitionText Motor1 = 0x6d ∷ 0x6f ∷ 0x74 ∷ 0x6f ∷ 0x72 ∷ 0x4c ∷ 0x69 ∷ 0x6e ∷ 0x65 ∷ 0x61 ∷ 0x72 ∷ 0x4f ∷ 0x66 ∷ []
--- "motorLinearCoupledOf"
-definitionText MotorF = 0x6d ∷ 0x6f ∷ 0x74 ∷ 0x6f ∷ 0x72 ∷ 0x4c ∷ 0x69 ∷ 0x6e ∷ 0x65 ∷ 0x61 ∷ 0x72 ∷ 0x43 ∷ 0x6f ∷ 0x75 ∷ 0x70 ∷ 0x6c ∷ 0x65 ∷ 0x64 ∷ 0x4f ∷ 0x66 ∷ []
--- "lockAngularOf"
-definitionText Dof2 = 0x6c ∷ 0x6f ∷ 0x63 ∷ 0x6b ∷ 0x41 ∷ 0x6e ∷ 0x67 ∷ 0x75 ∷ 0x6c ∷ 0x61 ∷ 0x72 ∷ 0x4f ∷ 0x66 ∷ []
--- "lockLinearOf"
-definitionText Dof0 = 0x6c ∷ 0x6f ∷ 0x63 ∷ 0x6b ∷ 0x4c ∷ 0x69 ∷ 0x6e ∷ 0x65 ∷ 0x61 ∷ 0x72 ∷ 0x4f ∷ 0x66 ∷ []
--- "lockLinearOf"
-definitionText Dof1 = 0x6c ∷ 0x6f ∷ 0x63 ∷ 0x6b ∷ 0x4c ∷ 0x69 ∷ 0x6e ∷ 0x65 ∷ 0x61 ∷ 0x72 ∷ 0x4f ∷ 0x66 ∷ []
--- "limitAngularOf"
-definitionText Limit2 = 0x6c ∷ 0x69 ∷ 0x6d ∷ 0x69 ∷ 0x74 ∷ 0x41 ∷ 0x6e ∷ 0x67 ∷ 0x75 ∷ 0x6c ∷ 0x61 ∷ 0x72 ∷ 0x4f ∷ 0x66 ∷ []
--- "limitLinearOf"
-definitionText Limit0 = 0x6c ∷ 0x69 ∷ 0x6d ∷ 0x69 ∷ 0x74 ∷ 0x4c ∷ 0x69 ∷ 0x6e ∷ 0x65 ∷ 0x61 ∷ 0x72 ∷ 0x4f ∷ 0x66 ∷ []
--- "limitLinearOf"
-definitionText Limit1 = 0x6c ∷ 0x69 ∷ 0x6d ∷ 0x69 ∷ 0x74 ∷ 0x4c ∷ 0x69 ∷ 0x6e ∷ 0x65 ∷ 0x61 ∷ 0x72 ∷ 0x4f ∷ 0x66 ∷ []
--- "limitLinearCoupledOf"
-definitionText LimitF = 0x6c ∷ 0x69 ∷ 0x6d ∷ 0x69 ∷ 0x74 ∷ 0x4c ∷ 0x69 ∷ 0x6e ∷ 0x65 ∷ 0x61 ∷ 0x72 ∷ 0x43 ∷ 0x6f ∷ 0x75 ∷ 0x70 ∷ 0x6c ∷ 0x65 ∷ 0x64 ∷ 0x4f ∷ 0x66 ∷ []
+definitionText Motor2 = ascii "motorAngularOf"
+definitionText Motor0 = ascii "motorLinearOf"
+definitionText Motor1 = ascii "motorLinearOf"
+definitionText MotorF = ascii "motorLinearCoupledOf"
+definitionText Dof2 = ascii "lockAngularOf"
+definitionText Dof0 = ascii "lockLinearOf"
+definitionText Dof1 = ascii "lockLinearOf"
+definitionText Limit2 = ascii "limitAngularOf"
+definitionText Limit0 = ascii "limitLinearOf"
+definitionText Limit1 = ascii "limitLinearOf"
+definitionText LimitF = ascii "limitLinearCoupledOf"
 
 -- a word at the left of 20 bytes, and its length
 abbrev pub wordOf : List ℕ → Word

@@ -3,10 +3,10 @@ ghost use mathlib.Core.Path.{_≡_};
 ghost use mathlib.Core.List.{_++_};
 ghost use Prim.Native.Nat.{_+_, _≤_, _<_};
 ghost use lib.ListN.{length, take};
-ghost use Rattle.catalogue.specs.Text.{written, Put};
+ghost use Rattle.texts.specs.Written.{written, Put};
 ghost use Rattle.study_text.specs.Number.{millionthsText};
 ghost use Rattle.study_text.specs.Words.{boundOf, wordOf};
-ghost use Rattle.study_text.specs.Csv.{field, unitOf, unitText, atText, hexDigit, bitsText, csvNames, csvId, csvNumber, csvNumbers, csvEnd, csvRule, csvValues, csvText};
+ghost use Rattle.study_text.specs.Csv.{field, unitOf, unitText, atText, csvNames, csvId, csvNumber, csvNumbers, csvEnd, csvRule, csvValues, csvText};
 use crate::number::number_column;
 use crate::row::are_names;
 use crate::row::put_definition;
@@ -17,9 +17,10 @@ use crate::words::Word;
 use crate::words::bound_of;
 use crate::words::id_word;
 use crate::words::number_word;
-use catalogue::text::put_text;
 use floats::bits::to_bits;
 use rows::joint_velocity_constraint::WritebackId;
+use texts::hex::hex_word;
+use texts::put::put_text;
 
 // ---- words
 
@@ -71,32 +72,6 @@ fn at_word(bound: Bound) -> Word
     }
 }
 
-fn hex_digit(d: u32) -> u8
-    requires { ⌜ d < 16 ⌝ }
-    ensures { λ r. ⌜ r ≡ hexDigit d ⌝ }
-{
-    if d < 10 {
-        return 48 + d as u8;
-    }
-    87 + d as u8
-}
-
-fn bits_word(x: f32) -> Word
-    ensures { λ r. ⌜ r ≡ wordOf (bitsText x) ⌝ }
-{
-    let n = to_bits(x);
-    let mut bytes = *b"0x                  ";
-    bytes[2] = hex_digit(n / 0x1000_0000 % 16);
-    bytes[3] = hex_digit(n / 0x100_0000 % 16);
-    bytes[4] = hex_digit(n / 0x10_0000 % 16);
-    bytes[5] = hex_digit(n / 0x1_0000 % 16);
-    bytes[6] = hex_digit(n / 0x1000 % 16);
-    bytes[7] = hex_digit(n / 0x100 % 16);
-    bytes[8] = hex_digit(n / 0x10 % 16);
-    bytes[9] = hex_digit(n % 16);
-    Word { bytes, len: 10 }
-}
-
 // ---- fields
 
 fn put_field(out: &mut [u8], at: usize, text: &[u8]) -> usize
@@ -116,7 +91,7 @@ fn put_word(out: &mut [u8], at: usize, w: Word) -> usize
     put_field(&mut *out, at, &bytes[..len])
 }
 
-fn put_millionths(out: &mut [u8], at: usize, x: f32) -> usize
+fn put_number_field(out: &mut [u8], at: usize, x: f32) -> usize
     requires { ⌜ at + length (field (millionthsText x)) ≤ length (now out) ⌝ }
     ensures { λ r. ⌜ Put (now (out .entry)) at (field (millionthsText x)) (now (out .exit)) r ⌝ }
 {
@@ -151,9 +126,9 @@ fn put_csv_number(out: &mut [u8], at: usize, x: f32) -> usize
     requires { ⌜ at + length (csvNumber x) ≤ length (now out) ⌝ }
     ensures { λ r. ⌜ Put (now (out .entry)) at (csvNumber x) (now (out .exit)) r ⌝ }
 {
-    let word = bits_word(x);
-    let a = put_millionths(&mut *out, at, x);
-    put_word(&mut *out, a, word)
+    let bits = hex_word(false, to_bits(x));
+    let a = put_number_field(&mut *out, at, x);
+    put_field(&mut *out, a, &bits)
 }
 
 fn put_csv_numbers(out: &mut [u8], at: usize, impulse: f32, low: f32, high: f32) -> usize

@@ -1,5 +1,8 @@
 // A number in millionths: the micro report in decimal, or a word where there is none.
 ghost use mathlib.Core.Path.{_≡_};
+ghost use Prim.Native.Nat.{_+_, _≤_};
+ghost use lib.ListN.{length};
+ghost use Rattle.texts.specs.Written.{Put};
 ghost use Rattle.study_text.specs.Number.{signed, overText, millionthsText, columnOf};
 ghost use Rattle.motor_table.specs.Text.{numberText};
 use floats::bits::Parts;
@@ -8,6 +11,7 @@ use floats::micro_report::MicroReport;
 use floats::micro_report::micro_report;
 use motor_table::text::put_number;
 use motor_table::whole_number::Number;
+use texts::put::put_text;
 
 // A text at the right of 11 bytes and a blank, and where it starts.
 pub struct Column {
@@ -80,4 +84,15 @@ pub fn number_column(x: f32) -> Column
             start: 8,
         },
     }
+}
+
+// The number put in from `at` on, without blanks; answers where it ends.
+pub fn put_millionths(out: &mut [u8], at: usize, x: f32) -> usize
+    requires { ⌜ at + length (millionthsText x) ≤ length (now out) ⌝ }
+    ensures { λ r. ⌜ Put (now (out .entry)) at (millionthsText x) (now (out .exit)) r ⌝ }
+{
+    let number = number_column(x);
+    let bytes = number.bytes;
+    let start = number.start;
+    put_text(&mut *out, at, &bytes[start..11])
 }

@@ -2,8 +2,9 @@
 ghost use mathlib.Core.Path.{_≡_};
 ghost use Prim.Native.Nat.{_+_, _-_, _≤_};
 ghost use lib.ListN.{length};
-ghost use Rattle.catalogue.specs.Text.{written, Put};
-ghost use Rattle.study_text.specs.Words.{idText, boundOf, boundText, numberOf, definitionText};
+ghost use Rattle.texts.specs.Written.{written, Put};
+ghost use Rattle.catalogue.specs.Text.{idText};
+ghost use Rattle.study_text.specs.Words.{boundOf, boundText, numberOf, definitionText};
 ghost use Rattle.study_text.specs.Row.{column, numberColumn, namesText, numbersText, valuesText, ruleText, lineWith, longestName, areNames, rowText};
 use crate::number::number_column;
 use crate::rules::Rule;
@@ -13,8 +14,8 @@ use crate::words::bound_word;
 use crate::words::definition_word;
 use crate::words::id_word;
 use crate::words::number_word;
-use catalogue::text::put_text;
 use rows::joint_velocity_constraint::WritebackId;
+use texts::put::put_text;
 
 // Places in a study's text are numbers of 32 bits, so no name of it is longer.
 pub const LONGEST_NAME: usize = 0xffff_ffff;

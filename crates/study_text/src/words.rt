@@ -1,12 +1,28 @@
 // The words of a line, each at the left of 20 bytes.
 ghost use mathlib.Core.Path.{_≡_};
-ghost use Rattle.study_text.specs.Words.{axisDigit, idText, numberOf, definitionText, boundOf, boundText, wordOf};
+ghost use Prim.Native.Nat.{_+_, _≤_};
+ghost use lib.ListN.{length, take};
+ghost use Rattle.texts.specs.Written.{Put};
+ghost use Rattle.catalogue.specs.Text.{idText};
+ghost use Rattle.study_text.specs.Words.{numberOf, definitionText, boundOf, boundText, wordOf};
 use crate::rules::Rule;
+use catalogue::text::axis_digit;
 use rows::joint_velocity_constraint::WritebackId;
+use texts::put::put_text;
 
 pub struct Word {
     pub bytes: [u8; 20],
     pub len: usize,
+}
+
+// A word put in from `at` on; answers where it ends.
+pub fn put_word(out: &mut [u8], at: usize, w: Word) -> usize
+    requires { ⌜ (w .len ≤ length (w .bytes)) × (at + length (take (w .len) (w .bytes)) ≤ length (now out)) ⌝ }
+    ensures { λ r. ⌜ Put (now (out .entry)) at (take (w .len) (w .bytes)) (now (out .exit)) r ⌝ }
+{
+    let bytes = w.bytes;
+    let len = w.len;
+    put_text(&mut *out, at, &bytes[..len])
 }
 
 // Whether an impulse stands at a bound.
@@ -15,18 +31,6 @@ pub enum Bound {
     High,
     Both,
     No,
-}
-
-fn axis_digit(axis: usize) -> u8
-    ensures { λ r. ⌜ r ≡ axisDigit axis ⌝ }
-{
-    if axis == 0 {
-        return b'0';
-    }
-    if axis == 1 {
-        return b'1';
-    }
-    b'2'
 }
 
 pub fn id_word(id: WritebackId) -> Word

@@ -4,7 +4,8 @@ use mathlib.Core.List.{flatMap}
 use native.Mathlib.Omega.{arith}
 use lib.ListN.{take}
 use Rattle.catalogue.specs.Choices.{choices}
-use Rattle.catalogue.specs.Text.{lineText, Put}
+use Rattle.texts.specs.Written.{Put}
+use Rattle.catalogue.specs.Text.{lineText}
 use Rattle.catalogue.proofs.TextLaws.{put-first, lines-room, lines-turn, lines-end, lines-length}
 use Rattle.catalogue.proofs.text.put_catalogue.Statement.{statement}
 use Rattle.catalogue.proofs.text.put_catalogue.Tie as tie

@@ -4,8 +4,9 @@ use mathlib.Core.List.{flatMap}
 use native.Mathlib.Omega.{arith}
 use borrow.Author.Needs.{needs}
 use lib.ListN.{take}
-use Rattle.catalogue.specs.Text.{Put}
-use Rattle.catalogue.proofs.TextLaws.{named, put-first, put-length, ids-few, ids-axis, ids-room, ids-turn, ids-end}
+use Rattle.texts.specs.Written.{Put}
+use Rattle.texts.proofs.PutLaws.{put-length}
+use Rattle.catalogue.proofs.TextLaws.{named, put-first, ids-few, ids-room, ids-turn, ids-end}
 use Rattle.catalogue.proofs.text.put_ids.Statement.{statement}
 use Rattle.catalogue.proofs.text.put_ids.Tie as tie
 
@@ -28,7 +29,7 @@ array-copy-out-named : tie.Need-array-copy-out-named Inv-loop μ-loop
 array-copy-out-named c = omega (arith, ids-few (c .before .before .before .before .before .args .k) (c .before .before .before .row-ids .ensures))
 
 put-id-requires : tie.Need-put-id-requires Inv-loop μ-loop
-put-id-requires c κs = (ids-axis (c .before .before .before .before .before .before .before .args .k) (c .before .before .before .before .before .row-ids .ensures) _ _ (c .before .before .loop-test .taken), ids-room (c .before .before .before .before .before .before .before .args .k) (c .before .before .before .before .before .row-ids .ensures) _ _ (c .before .before .before .before .before .before .before .pre) _ _ _ (c .before .before .before .loop .inv .1) (c .before .before .loop-test .taken))
+put-id-requires c κs = ids-room (c .before .before .before .before .before .before .before .args .k) (c .before .before .before .before .before .row-ids .ensures) _ _ (c .before .before .before .before .before .before .before .pre) _ _ _ (c .before .before .before .loop .inv .1) (c .before .before .loop-test .taken)
 
 add-next : tie.Need-add-next Inv-loop μ-loop
 add-next c = omega arith

@@ -1,6 +1,6 @@
 -- `write_catalogue` meets its contract: the text where it fits, and else nothing.
 use native.Mathlib.Omega.{arith}
-use Rattle.catalogue.proofs.TextLaws.{not-written}
+use Rattle.texts.proofs.PutLaws.{not-written}
 use borrow.Author.Needs.{needs}
 use Rattle.catalogue.proofs.text.write_catalogue.Statement.{statement}
 use Rattle.catalogue.proofs.text.write_catalogue.Tie as tie

@@ -2,7 +2,8 @@
 use mathlib.Core.Path.{sym, ap, _∙_}
 use native.Mathlib.Omega.{arith}
 use lib.ListN.{length}
-use Rattle.catalogue.proofs.TextLaws.{there-line, no-line, line-written, not-written, empty-written}
+use Rattle.texts.proofs.PutLaws.{not-written, empty-written}
+use Rattle.catalogue.proofs.TextLaws.{there-line, no-line, line-written}
 use borrow.Author.Needs.{needs}
 use Rattle.catalogue.proofs.text.write_line.Statement.{statement}
 use Rattle.catalogue.proofs.text.write_line.Tie as tie

@@ -6,7 +6,8 @@ use native.Mathlib.Omega.{arith}
 use borrow.Author.Needs.{needs}
 use borrow.Author.Tests.{not-true, not-false}
 use lib.ListN.{length, drop, getD}
-use Rattle.decimals.specs.Words.{isDigit, digitsCount, digitsValue}
+use Rattle.texts.specs.Digits.{isDigit}
+use Rattle.decimals.specs.Words.{digitsCount, digitsValue}
 use Rattle.decimals.specs.Capped.{cap}
 use Rattle.decimals.proofs.CapLaws.{cap-most, cap-le, digit-least, digit-most, digit-count, digit-value, stop-count, stop-value, end-count, end-value, digits-same}
 use Rattle.decimals.proofs.digits.digits_at.Statement.{statement}

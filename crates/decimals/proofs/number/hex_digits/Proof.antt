@@ -16,20 +16,20 @@ Inv-loop word v₀ i₀ v i = (2 ≤ i) × (i ≤ length word) × (v < 16 ^ (i -
 abbrev μ-loop : tie.MeasureT-loop
 μ-loop word v₀ i₀ v i = length word - i
 
-room : (c : tie.Else1 Inv-loop μ-loop) → c .before .before .before .before .loop .v * 16 + c .before .hex-digit .result < 2 ^ 32
-room c = hex-room (c .before .before .before .before .loop .v) (c .before .hex-digit .result) (c .before .before .before .before .loop .i) (omega (arith, c .before .before .before .loop-test .taken, c .before .before .before .before .before .before .pre)) (c .before .before .before .before .loop .inv .2) (c .if1 .left)
+room : (c : tie.Else1 Inv-loop μ-loop) → c .before .before .before .before .loop .v * 16 + c .before .hex-value .result < 2 ^ 32
+room c = hex-room (c .before .before .before .before .loop .v) (c .before .hex-value .result) (c .before .before .before .before .loop .i) (omega (arith, c .before .before .before .loop-test .taken, c .before .before .before .before .before .before .pre)) (c .before .before .before .before .loop .inv .2) (c .if1 .left)
 
 loop-holds : tie.Need-loop-holds Inv-loop μ-loop
 loop-holds c = (search needs, search needs, search needs, refl)
 
-shared-slice-read-hex-digit : tie.Need-shared-slice-read-hex-digit Inv-loop μ-loop
-shared-slice-read-hex-digit c = search needs
+shared-slice-read-hex-value : tie.Need-shared-slice-read-hex-value Inv-loop μ-loop
+shared-slice-read-hex-value c = search needs
 
-hex-digit-requires : tie.Need-hex-digit-requires Inv-loop μ-loop
-hex-digit-requires c κs = search needs
+hex-value-requires : tie.Need-hex-value-requires Inv-loop μ-loop
+hex-value-requires c κs = search needs
 
 returns : tie.Need-returns Inv-loop μ-loop
-returns c = bits-fault (c .before .before .before .before .before .before .args .word .now) (c .before .before .before .before .loop .i) (c .before .before .before .before .loop .v) (c .before .before .before .loop-test .taken) (subst (λ (x : ℕ). 16 ≤ x) (c .before .hex-digit .ensures) (c .if1 .taken)) ∙ c .before .before .before .before .loop .inv .3
+returns c = bits-fault (c .before .before .before .before .before .before .args .word .now) (c .before .before .before .before .loop .i) (c .before .before .before .before .loop .v) (c .before .before .before .loop-test .taken) (subst (λ (x : ℕ). 16 ≤ x) (c .before .hex-value .ensures) (c .if1 .taken)) ∙ c .before .before .before .before .loop .inv .3
 
 mul-v : tie.Need-mul-v Inv-loop μ-loop
 mul-v c = record { fits = omega (arith, room c) }
@@ -47,9 +47,9 @@ loop-again : tie.Need-loop-again Inv-loop μ-loop
 loop-again c = (
   omega arith,
   omega arith,
-  hex-more (c .before .before .before .before .loop .v) (c .before .hex-digit .result) (c .before .before .before .before .loop .i) (c .before .before .before .before .loop .inv .0) (c .before .before .before .before .loop .inv .2) (c .if1 .left),
-  ap (λ (d : ℕ). bitsAfter (c .before .before .before .before .loop .v * 16 + d) (drop (c .before .before .before .before .loop .i + 1) (c .before .before .before .before .before .before .args .word .now))) (c .before .hex-digit .ensures)
-      ∙ bits-digit (c .before .before .before .before .before .before .args .word .now) (c .before .before .before .before .loop .i) (c .before .before .before .before .loop .v) (c .before .before .before .loop-test .taken) (subst (λ (x : ℕ). x < 16) (c .before .hex-digit .ensures) (c .if1 .left))
+  hex-more (c .before .before .before .before .loop .v) (c .before .hex-value .result) (c .before .before .before .before .loop .i) (c .before .before .before .before .loop .inv .0) (c .before .before .before .before .loop .inv .2) (c .if1 .left),
+  ap (λ (d : ℕ). bitsAfter (c .before .before .before .before .loop .v * 16 + d) (drop (c .before .before .before .before .loop .i + 1) (c .before .before .before .before .before .before .args .word .now))) (c .before .hex-value .ensures)
+      ∙ bits-digit (c .before .before .before .before .before .before .args .word .now) (c .before .before .before .before .loop .i) (c .before .before .before .before .loop .v) (c .before .before .before .loop-test .taken) (subst (λ (x : ℕ). x < 16) (c .before .hex-value .ensures) (c .if1 .left))
       ∙ c .before .before .before .before .loop .inv .3,
 )
 
@@ -66,8 +66,8 @@ hex-digits-spec =
     Inv-loop
     μ-loop
     loop-holds
-    shared-slice-read-hex-digit
-    hex-digit-requires
+    shared-slice-read-hex-value
+    hex-value-requires
     returns
     mul-v
     add-v

@@ -2,7 +2,8 @@
 use mathlib.Core.Path.{ap}
 use native.Mathlib.Omega.{arith}
 use lib.ListN.{length}
-use Rattle.motor_table.proofs.TextLaws.{decimal-short, minus-text, plain-text}
+use Rattle.texts.proofs.DigitsLaws.{decimal-short}
+use Rattle.motor_table.proofs.TextLaws.{minus-text, plain-text}
 use borrow.Author.Needs.{needs}
 use Rattle.motor_table.proofs.text.number_length.Statement.{statement}
 use Rattle.motor_table.proofs.text.number_length.Tie as tie

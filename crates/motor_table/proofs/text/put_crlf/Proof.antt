@@ -1,5 +1,5 @@
 -- `put_crlf` meets its contract: LF, and CR in front of it.
-use Rattle.motor_table.proofs.TextLaws.{put-then}
+use Rattle.texts.proofs.BeforeLaws.{put-then}
 use borrow.Author.Needs.{needs}
 use Rattle.motor_table.proofs.text.put_crlf.Statement.{statement}
 use Rattle.motor_table.proofs.text.put_crlf.Tie as tie

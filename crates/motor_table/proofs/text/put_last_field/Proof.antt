@@ -1,6 +1,7 @@
 -- `put_last_field` meets its contract: what follows the number, and the number in front of it.
 use native.Mathlib.Omega.{arith}
-use Rattle.motor_table.proofs.TextLaws.{last-field-length, put-then, put-room}
+use Rattle.texts.proofs.BeforeLaws.{put-then, put-room}
+use Rattle.motor_table.proofs.TextLaws.{last-field-length}
 use borrow.Author.Needs.{needs}
 use Rattle.motor_table.proofs.text.put_last_field.Statement.{statement}
 use Rattle.motor_table.proofs.text.put_last_field.Tie as tie

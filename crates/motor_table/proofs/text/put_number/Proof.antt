@@ -2,7 +2,8 @@
 use mathlib.Core.Path.{sym, ap}
 use native.Mathlib.Omega.{arith}
 use lib.ListN.{length}
-use Rattle.motor_table.proofs.TextLaws.{minus-text, plain-text, put-text, put-then, put-room}
+use Rattle.texts.proofs.BeforeLaws.{put-text, put-then, put-room}
+use Rattle.motor_table.proofs.TextLaws.{minus-text, plain-text}
 use borrow.Author.Needs.{needs}
 use Rattle.motor_table.proofs.text.put_number.Statement.{statement}
 use Rattle.motor_table.proofs.text.put_number.Tie as tie

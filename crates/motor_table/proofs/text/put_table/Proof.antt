@@ -5,14 +5,16 @@ use Rattle.motor_table.specs.declared.record.Entry.{Entry}
 use Prim.Native.Nat.{ℕ, _≤_}
 use mathlib.Core.Path.{_≡_, sym, ap, _∙_}
 use native.Mathlib.Omega.{arith}
-use Rattle.motor_table.specs.Text.{recordsIn, recordText, Put}
-use Rattle.motor_table.proofs.TextLaws.{rest-text, rest-none, rest-all, rest-turn, rest-room, thirds, put-none, put-text, put-then, put-room, put-length}
+use Rattle.texts.specs.Before.{PutBefore}
+use Rattle.texts.proofs.BeforeLaws.{put-none, put-text, put-then, put-room, put-length}
+use Rattle.motor_table.specs.Text.{recordsIn, recordText}
+use Rattle.motor_table.proofs.TextLaws.{rest-text, rest-none, rest-all, rest-turn, rest-room, thirds}
 use borrow.Author.Needs.{needs}
 use Rattle.motor_table.proofs.text.put_table.Statement.{statement}
 use Rattle.motor_table.proofs.text.put_table.Tie as tie
 
 abbrev Inv-loop : tie.InvT-loop
-Inv-loop table out₀ end k₀ at₀ out k at = (k ≤ recordsIn table) × Put out₀ end (rest-text table k) out at
+Inv-loop table out₀ end k₀ at₀ out k at = (k ≤ recordsIn table) × PutBefore out₀ end (rest-text table k) out at
 
 abbrev μ-loop : tie.MeasureT-loop
 μ-loop table out₀ end k₀ at₀ out k at = k

@@ -1,6 +1,6 @@
 -- `put_csv_end` meets its contract.
 use mathlib.Core.List.{[], _∷_}
-use Rattle.motor_table.specs.Rfc4180.{CR, LF}
+use Rattle.texts.specs.Ascii.{CR, LF}
 use Rattle.study_text.specs.Words.{definitionText}
 use Rattle.study_text.specs.Csv.{csvEnd}
 use Rattle.study_text.proofs.CsvLaws.{front-room, back-room, put-two}

@@ -2,8 +2,8 @@
 use mathlib.Core.Path.{ap, _∙_}
 use native.Mathlib.Omega.{arith}
 use lib.ListN.{length}
-use Rattle.catalogue.proofs.TextLaws.{put-text}
-use Rattle.study_text.specs.Words.{idText}
+use Rattle.texts.proofs.PutLaws.{put-text}
+use Rattle.catalogue.specs.Text.{idText}
 use Rattle.study_text.specs.Csv.{field, unitText, csvId}
 use Rattle.study_text.proofs.CsvLaws.{front-room, back-room, put-two, word-text, word-inside}
 use borrow.Author.Needs.{needs}

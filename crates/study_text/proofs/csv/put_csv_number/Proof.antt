@@ -1,34 +1,49 @@
 -- `put_csv_number` meets its contract.
 use mathlib.Core.Path.{ap, _∙_}
+use mathlib.Core.Bool.{false}
 use native.Mathlib.Omega.{arith}
 use lib.ListN.{length}
-use Rattle.catalogue.proofs.TextLaws.{put-text}
+use Rattle.texts.specs.Hex.{hexWord}
+use Rattle.texts.proofs.PutLaws.{put-text}
 use Rattle.study_text.specs.Number.{millionthsText}
 use Rattle.study_text.specs.Csv.{field, bitsText, csvNumber}
-use Rattle.study_text.proofs.CsvLaws.{front-room, back-room, put-two, word-text, word-inside}
+use Rattle.study_text.proofs.CsvLaws.{front-room, back-room, put-two}
 use borrow.Author.Needs.{needs}
 use Rattle.study_text.proofs.csv.put_csv_number.Statement.{statement}
 use Rattle.study_text.proofs.csv.put_csv_number.Tie as tie
 
-bits-word-requires : tie.Need-bits-word-requires
-bits-word-requires c κs = search needs
+to-bits-requires : tie.Need-to-bits-requires
+to-bits-requires c κs = search needs
 
-put-millionths-requires : tie.Need-put-millionths-requires
-unfolding csvNumber
-put-millionths-requires c κs = let a = c .before .before .before .args in front-room (a .out .now) (a .at) (field (millionthsText (a .x))) (field (bitsText (a .x))) (c .before .before .before .pre)
+hex-word-requires : tie.Need-hex-word-requires
+hex-word-requires c κs = search needs
 
-put-word-requires : tie.Need-put-word-requires
+put-number-field-requires : tie.Need-put-number-field-requires
 unfolding csvNumber
-put-word-requires c κs = let a = c .before .before .before .before .before .before .before .args in (word-inside (bitsText (a .x)) (c .before .before .before .before .before .bits-word .ensures), omega (arith, ap (λ t. length (field t)) (word-text (bitsText (a .x)) (c .before .before .before .before .before .bits-word .ensures)), back-room (a .out .now) (a .at) (field (millionthsText (a .x))) (field (bitsText (a .x))) (c .before .before .before .before .before .before .before .pre) _ _ (c .before .before .before .put-millionths .ensures)))
+put-number-field-requires c κs = let a = c .before .before .before .before .args in front-room (a .out .now) (a .at) (field (millionthsText (a .x))) (field (bitsText (a .x))) (c .before .before .before .before .pre)
+
+slice-aggregate-put-field : tie.Need-slice-aggregate-put-field
+slice-aggregate-put-field c = search needs
+
+put-field-requires : tie.Need-put-field-requires
+unfolding csvNumber
+put-field-requires c κs = let a = c .before .before .before .before .before .before .before .before .before .args in omega (arith, ap (λ t. length (field t)) (c .before .before .before .before .before .before .hex-word .ensures ∙ ap (hexWord false) (c .before .before .before .before .before .before .before .to-bits .ensures)), back-room (a .out .now) (a .at) (field (millionthsText (a .x))) (field (bitsText (a .x))) (c .before .before .before .before .before .before .before .before .before .pre) _ _ (c .before .before .before .before .put-number-field .ensures))
 
 same-length : tie.Need-same-length
 same-length c = search needs
 
 returns : tie.Need-returns
 unfolding csvNumber
-returns c = let a = c .before .before .before .before .before .before .before .before .before .before .args in put-two (a .out .now) (a .at) (field (millionthsText (a .x))) (field (bitsText (a .x))) (c .before .before .before .before .before .before .before .before .before .before .pre) _ _ (c .before .before .before .before .before .before .put-millionths .ensures) _ _ (put-text (ap field (word-text (bitsText (a .x)) (c .before .before .before .before .before .before .before .before .bits-word .ensures))) (c .before .before .put-word .ensures))
+returns c = let a = c .before .before .before .before .before .before .before .before .before .before .before .before .args in put-two (a .out .now) (a .at) (field (millionthsText (a .x))) (field (bitsText (a .x))) (c .before .before .before .before .before .before .before .before .before .before .before .before .pre) _ _ (c .before .before .before .before .before .before .before .put-number-field .ensures) _ _ (put-text (ap field (c .before .before .before .before .before .before .before .before .before .hex-word .ensures ∙ ap (hexWord false) (c .before .before .before .before .before .before .before .before .before .before .to-bits .ensures))) (c .before .before .put-field .ensures))
 
 pub put-csv-number-spec : {M : Type 1} → statement M
 put-csv-number-spec =
     tie.close
-    (tie.spec bits-word-requires put-millionths-requires put-word-requires same-length returns)
+    (tie.spec
+    to-bits-requires
+    hex-word-requires
+    put-number-field-requires
+    slice-aggregate-put-field
+    put-field-requires
+    same-length
+    returns)

@@ -2,7 +2,7 @@
 use mathlib.Core.Path.{ap, _∙_}
 use native.Mathlib.Omega.{arith}
 use lib.ListN.{length}
-use Rattle.catalogue.proofs.TextLaws.{put-text}
+use Rattle.texts.proofs.PutLaws.{put-text}
 use Rattle.study_text.specs.Words.{boundOf, numberOf, wordOf}
 use Rattle.study_text.specs.Csv.{field, atText, csvEnd, csvRule}
 use Rattle.study_text.proofs.CsvLaws.{word-text, word-inside}

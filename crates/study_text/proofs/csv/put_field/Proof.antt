@@ -1,6 +1,6 @@
 -- `put_field` meets its contract.
 use mathlib.Core.List.{[], _∷_}
-use Rattle.motor_table.specs.Rfc4180.{COMMA}
+use Rattle.texts.specs.Ascii.{COMMA}
 use Rattle.study_text.specs.Csv.{field}
 use Rattle.study_text.proofs.CsvLaws.{front-room, back-room, put-two}
 use borrow.Author.Needs.{needs}

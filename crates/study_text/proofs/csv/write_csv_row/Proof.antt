@@ -2,9 +2,8 @@
 use mathlib.Core.Path.{sym, ap, _∙_}
 use native.Mathlib.Omega.{arith}
 use lib.ListN.{length}
-use Rattle.catalogue.proofs.TextLaws.{empty-written}
-use Rattle.study_text.specs.Csv.{csvValues}
-use Rattle.study_text.proofs.CsvLaws.{values-short, kept-count, kept-inside, kept-prefix, no-csv, csv-length, csv-fits, csv-written, csv-left}
+use Rattle.texts.proofs.PutLaws.{empty-written, kept-count, kept-inside, kept-prefix}
+use Rattle.study_text.proofs.CsvLaws.{values-short, no-csv, csv-length, csv-fits, csv-written, csv-left}
 use Rattle.study_text.proofs.RowLaws.{names-short}
 use borrow.Author.Needs.{needs}
 use Rattle.study_text.proofs.csv.write_csv_row.Statement.{statement}
@@ -32,13 +31,13 @@ add-len-3 : tie.Need-add-len-3
 add-len-3 c = let a = c .before .before .before .before .before .before .before .before .before .before .args in let s = names-short (length (a .joint .now)) (length (a .body1 .now)) (length (a .body2 .now)) (sym (c .before .before .before .before .before .are-names .ensures) ∙ c .before .before .before .before .if1 .taken) in omega (arith, s .0, s .1, s .2)
 
 add-len-4 : tie.Need-add-len-4
-add-len-4 c = let a = c .before .before .before .before .before .before .before .before .before .before .args in let s = names-short (length (a .joint .now)) (length (a .body1 .now)) (length (a .body2 .now)) (sym (c .before .before .before .before .before .are-names .ensures) ∙ c .before .before .before .before .if1 .taken) in omega (arith, s .0, s .1, s .2, kept-count (csvValues (a .id) (c .before .before .before .rule-of .result) (a .impulse) (a .low) (a .high)) (values-short (a .id) (c .before .before .before .rule-of .result) (a .impulse) (a .low) (a .high)) _ _ (c .before .put-csv-values .ensures), values-short (a .id) (c .before .before .before .rule-of .result) (a .impulse) (a .low) (a .high))
+add-len-4 c = let a = c .before .before .before .before .before .before .before .before .before .before .args in let s = names-short (length (a .joint .now)) (length (a .body1 .now)) (length (a .body2 .now)) (sym (c .before .before .before .before .before .are-names .ensures) ∙ c .before .before .before .before .if1 .taken) in omega (arith, s .0, s .1, s .2, kept-count (values-short (a .id) (c .before .before .before .rule-of .result) (a .impulse) (a .low) (a .high)) (c .before .put-csv-values .ensures), values-short (a .id) (c .before .before .before .rule-of .result) (a .impulse) (a .low) (a .high))
 
 array-share-prefix-values : tie.Need-array-share-prefix-values
-array-share-prefix-values c = let a = c .before .before .before .before .before .before .before .before .before .before .before .before .args in kept-inside (csvValues (a .id) (c .before .before .before .before .before .rule-of .result) (a .impulse) (a .low) (a .high)) (values-short (a .id) (c .before .before .before .before .before .rule-of .result) (a .impulse) (a .low) (a .high)) _ _ (c .before .before .before .put-csv-values .ensures)
+array-share-prefix-values c = let a = c .before .before .before .before .before .before .before .before .before .before .before .before .args in kept-inside (values-short (a .id) (c .before .before .before .before .before .rule-of .result) (a .impulse) (a .low) (a .high)) (c .before .before .before .put-csv-values .ensures)
 
 slice-aggregate-put-csv-row : tie.Need-slice-aggregate-put-csv-row
-slice-aggregate-put-csv-row c = let a = c .before .before .before .before .before .before .before .before .before .before .before .before .before .args in kept-prefix (csvValues (a .id) (c .before .before .before .before .before .before .rule-of .result) (a .impulse) (a .low) (a .high)) (values-short (a .id) (c .before .before .before .before .before .before .rule-of .result) (a .impulse) (a .low) (a .high)) _ _ (c .before .before .before .before .put-csv-values .ensures)
+slice-aggregate-put-csv-row c = let a = c .before .before .before .before .before .before .before .before .before .before .before .before .before .args in kept-prefix (values-short (a .id) (c .before .before .before .before .before .before .rule-of .result) (a .impulse) (a .low) (a .high)) (c .before .before .before .before .put-csv-values .ensures)
 
 put-csv-row-requires : tie.Need-put-csv-row-requires
 put-csv-row-requires c κs = let a = c .before .before .before .before .before .before .before .before .before .before .before .before .before .args in csv-fits (a .joint .now) (a .body1 .now) (a .body2 .now) (a .id) (a .coupled) (a .impulse) (a .low) (a .high) (sym (c .before .before .before .before .before .before .before .before .are-names .ensures) ∙ c .before .before .before .before .before .before .before .if1 .taken) _ (c .before .before .before .before .before .before .rule-of .ensures) _ _ (c .before .before .before .before .put-csv-values .ensures) (a .out .now) (c .before .before .if2 .taken)

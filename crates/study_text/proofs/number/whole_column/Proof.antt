@@ -3,7 +3,7 @@ use mathlib.Core.Path.{sym, ap, _∙_}
 use native.Mathlib.Omega.{arith}
 use lib.ListN.{length}
 use Rattle.motor_table.specs.Text.{numberText}
-use Rattle.motor_table.proofs.TextLaws.{put-text}
+use Rattle.texts.proofs.BeforeLaws.{put-text}
 use Rattle.study_text.specs.Number.{signed}
 use Rattle.study_text.proofs.NumberLaws.{read, signed-short, column-put}
 use borrow.Author.Needs.{needs}

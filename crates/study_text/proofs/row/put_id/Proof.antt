@@ -2,8 +2,8 @@
 use mathlib.Core.Path.{ap, _∙_}
 use native.Mathlib.Omega.{arith}
 use lib.ListN.{length}
-use Rattle.catalogue.proofs.TextLaws.{put-text}
-use Rattle.study_text.specs.Words.{idText}
+use Rattle.texts.proofs.PutLaws.{put-text}
+use Rattle.catalogue.specs.Text.{idText}
 use Rattle.study_text.proofs.RowLaws.{word-bytes, prefix, taken, id-short, id-column}
 use borrow.Author.Needs.{needs}
 use Rattle.study_text.proofs.row.put_id.Statement.{statement}

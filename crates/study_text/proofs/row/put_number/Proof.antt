@@ -2,7 +2,7 @@
 use mathlib.Core.Path.{ap}
 use native.Mathlib.Omega.{arith}
 use lib.ListN.{length}
-use Rattle.catalogue.proofs.TextLaws.{put-text}
+use Rattle.texts.proofs.PutLaws.{put-text}
 use Rattle.study_text.proofs.RowLaws.{number-bytes}
 use borrow.Author.Needs.{needs}
 use Rattle.study_text.proofs.row.put_number.Statement.{statement}

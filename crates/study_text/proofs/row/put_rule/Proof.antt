@@ -1,6 +1,6 @@
 -- `put_rule` meets its contract: the rule, the definition, and LF.
 use mathlib.Core.List.{[], _∷_}
-use Rattle.catalogue.specs.Text.{LF}
+use Rattle.texts.specs.Ascii.{LF}
 use Rattle.study_text.specs.Words.{numberOf, definitionText}
 use Rattle.study_text.specs.Row.{column, ruleText}
 use Rattle.study_text.proofs.RowLaws.{first-room, second-room, third-room, put-three}

@@ -2,7 +2,7 @@
 use mathlib.Core.Path.{ap, _∙_}
 use native.Mathlib.Omega.{arith}
 use lib.ListN.{length}
-use Rattle.catalogue.proofs.TextLaws.{put-text}
+use Rattle.texts.proofs.PutLaws.{put-text}
 use Rattle.study_text.specs.Words.{numberOf}
 use Rattle.study_text.proofs.RowLaws.{word-bytes, prefix, taken, rule-short, rule-column}
 use borrow.Author.Needs.{needs}

@@ -1,5 +1,6 @@
 -- `put_values` meets its contract: the id, the numbers, and the bound.
-use Rattle.study_text.specs.Words.{idText, boundOf, boundText}
+use Rattle.catalogue.specs.Text.{idText}
+use Rattle.study_text.specs.Words.{boundOf, boundText}
 use Rattle.study_text.specs.Row.{column, numbersText, valuesText}
 use Rattle.study_text.proofs.RowLaws.{first-room, second-room, third-room, put-three}
 use borrow.Author.Needs.{needs}

@@ -2,7 +2,7 @@
 use mathlib.Core.Path.{sym, ap, _∙_}
 use native.Mathlib.Omega.{arith}
 use lib.ListN.{length}
-use Rattle.catalogue.proofs.TextLaws.{empty-written}
+use Rattle.texts.proofs.PutLaws.{empty-written}
 use Rattle.study_text.proofs.RowLaws.{names-short, no-row, row-length, line-fits, row-written, row-left}
 use borrow.Author.Needs.{needs}
 use Rattle.study_text.proofs.row.write_row.Statement.{statement}

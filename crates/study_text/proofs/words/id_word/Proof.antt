@@ -3,7 +3,8 @@ use Prim.Native.Nat.{ℕ}
 use mathlib.Core.Path.{sym, ap, _∙_}
 use mathlib.Core.List.{[], _∷_}
 use Rattle.rows.specs.declared.joint_velocity_constraint.WritebackId.{WritebackId}
-use Rattle.study_text.specs.Words.{idText, wordOf}
+use Rattle.catalogue.specs.Text.{idText}
+use Rattle.study_text.specs.Words.{wordOf}
 use borrow.Author.Needs.{needs}
 use Rattle.study_text.proofs.words.id_word.Statement.{statement}
 use Rattle.study_text.proofs.words.id_word.Tie as tie

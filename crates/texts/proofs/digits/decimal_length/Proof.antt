@@ -4,11 +4,10 @@ use Prim.Native.Nat.{ℕ, _+_, _≤_, _%_}
 use mathlib.Core.Path.{_≡_, refl, ap}
 use native.Mathlib.Omega.{arith}
 use lib.ListN.{length}
-use Rattle.motor_table.specs.Text.{digit}
-use Rattle.motor_table.proofs.TextLaws.{Digits, tenth, digits-start, digits-turn, digits-end}
-use borrow.Author.Needs.{needs}
-use Rattle.motor_table.proofs.text.decimal_length.Statement.{statement}
-use Rattle.motor_table.proofs.text.decimal_length.Tie as tie
+use Rattle.texts.specs.Digits.{digit}
+use Rattle.texts.proofs.DigitsLaws.{Digits, tenth, digits-start, digits-turn, digits-end}
+use Rattle.texts.proofs.digits.decimal_length.Statement.{statement}
+use Rattle.texts.proofs.digits.decimal_length.Tie as tie
 
 abbrev Inv-loop : tie.InvT-loop
 Inv-loop n left₀ count₀ left count = (text : List ℕ) × Digits n left text × (length text + 1 ≡ count) × (count + left ≤ n + 1)

@@ -3,14 +3,15 @@ use mathlib.Core.List.{List, [], _∷_}
 use Prim.Native.Nat.{ℕ, _%_}
 use native.Mathlib.Omega.{arith}
 use native.Mathlib.Nat.{mod-lt}
-use Rattle.motor_table.specs.Text.{digit, Put}
-use Rattle.motor_table.proofs.TextLaws.{Digits, tenth, digits-start, digits-turn, digits-end, digits-longer, put-none, put-then, put-length, digits-put}
-use borrow.Author.Needs.{needs}
-use Rattle.motor_table.proofs.text.put_digits.Statement.{statement}
-use Rattle.motor_table.proofs.text.put_digits.Tie as tie
+use Rattle.texts.specs.Before.{PutBefore}
+use Rattle.texts.specs.Digits.{digit}
+use Rattle.texts.proofs.BeforeLaws.{put-none, put-then, put-length}
+use Rattle.texts.proofs.DigitsLaws.{Digits, tenth, digits-start, digits-turn, digits-longer, digits-put}
+use Rattle.texts.proofs.digits.put_digits.Statement.{statement}
+use Rattle.texts.proofs.digits.put_digits.Tie as tie
 
 abbrev Inv-loop : tie.InvT-loop
-Inv-loop out₀ end n at₀ left₀ out at left = (text : List ℕ) × Digits n left text × Put out₀ end text out at
+Inv-loop out₀ end n at₀ left₀ out at left = (text : List ℕ) × Digits n left text × PutBefore out₀ end text out at
 
 abbrev μ-loop : tie.MeasureT-loop
 μ-loop out₀ end n at₀ left₀ out at left = left

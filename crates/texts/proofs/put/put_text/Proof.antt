@@ -5,9 +5,9 @@ use native.Mathlib.Omega.{arith}
 use borrow.Author.Needs.{needs}
 use lib.ListN.{length}
 use lib.Seq.{paste, paste-zero}
-use Rattle.catalogue.proofs.TextLaws.{bytes-length, bytes-turn, bytes-end}
-use Rattle.catalogue.proofs.text.put_text.Statement.{statement}
-use Rattle.catalogue.proofs.text.put_text.Tie as tie
+use Rattle.texts.proofs.PutLaws.{bytes-length, bytes-turn, bytes-end}
+use Rattle.texts.proofs.put.put_text.Statement.{statement}
+use Rattle.texts.proofs.put.put_text.Tie as tie
 
 abbrev Inv-loop : tie.InvT-loop
 Inv-loop out₀ at text k₀ out k = (k ≤ length text) × (out ≡ paste out₀ at text k)

@@ -1,8 +1,8 @@
 -- `put_byte` meets its contract: one store.
-use Rattle.motor_table.proofs.TextLaws.{put-one}
+use Rattle.texts.proofs.BeforeLaws.{put-one}
 use borrow.Author.Needs.{needs}
-use Rattle.motor_table.proofs.text.put_byte.Statement.{statement}
-use Rattle.motor_table.proofs.text.put_byte.Tie as tie
+use Rattle.texts.proofs.digits.put_byte.Statement.{statement}
+use Rattle.texts.proofs.digits.put_byte.Tie as tie
 
 sub-out : tie.Need-sub-out
 sub-out c = search needs

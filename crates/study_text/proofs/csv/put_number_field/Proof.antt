@@ -1,13 +1,13 @@
--- `put_millionths` meets its contract.
+-- `put_number_field` meets its contract.
 use mathlib.Core.Path.{ap}
 use native.Mathlib.Omega.{arith}
 use lib.ListN.{length}
-use Rattle.catalogue.proofs.TextLaws.{put-text}
+use Rattle.texts.proofs.PutLaws.{put-text}
 use Rattle.study_text.specs.Csv.{field}
 use Rattle.study_text.proofs.CsvLaws.{number-start, number-inside, number-part}
 use borrow.Author.Needs.{needs}
-use Rattle.study_text.proofs.csv.put_millionths.Statement.{statement}
-use Rattle.study_text.proofs.csv.put_millionths.Tie as tie
+use Rattle.study_text.proofs.csv.put_number_field.Statement.{statement}
+use Rattle.study_text.proofs.csv.put_number_field.Tie as tie
 
 number-column-requires : tie.Need-number-column-requires
 number-column-requires c κs = search needs
@@ -30,8 +30,8 @@ same-length c = search needs
 returns : tie.Need-returns
 returns c = put-text (ap field (number-part (c .before .before .before .before .before .before .before .before .before .args .x) (c .before .before .before .before .before .before .before .number-column .ensures))) (c .before .before .put-field .ensures)
 
-pub put-millionths-spec : {M : Type 1} → statement M
-put-millionths-spec =
+pub put-number-field-spec : {M : Type 1} → statement M
+put-number-field-spec =
     tie.close
     (tie.spec
     number-column-requires

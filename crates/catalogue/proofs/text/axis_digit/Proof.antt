@@ -1,7 +1,7 @@
 -- `axis_digit` meets its contract.
 use borrow.Author.Tests.{eq-eqb, ne-eqb}
-use Rattle.study_text.proofs.words.axis_digit.Statement.{statement}
-use Rattle.study_text.proofs.words.axis_digit.Tie as tie
+use Rattle.catalogue.proofs.text.axis_digit.Statement.{statement}
+use Rattle.catalogue.proofs.text.axis_digit.Tie as tie
 
 returns : tie.Need-returns
 returns c = simp (eq-eqb _ _ (c .if1 .taken))

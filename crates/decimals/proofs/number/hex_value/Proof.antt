@@ -1,8 +1,8 @@
--- `hex_digit` meets its contract, test by test.
+-- `hex_value` meets its contract, test by test.
 use Rattle.decimals.proofs.WordLaws.{hex-low, hex-decimal, hex-between, hex-upper, hex-between-cases, hex-lower, hex-high}
 use borrow.Author.Needs.{needs}
-use Rattle.decimals.proofs.number.hex_digit.Statement.{statement}
-use Rattle.decimals.proofs.number.hex_digit.Tie as tie
+use Rattle.decimals.proofs.number.hex_value.Statement.{statement}
+use Rattle.decimals.proofs.number.hex_value.Tie as tie
 
 returns : tie.Need-returns
 returns c = hex-low _ (c .if1 .taken)
@@ -34,8 +34,8 @@ returns-6 c = hex-lower _ (c .before .if5 .left) (c .if6 .taken)
 returns-7 : tie.Need-returns-7
 returns-7 c = hex-high _ (c .if6 .left)
 
-pub hex-digit-spec : {M : Type 1} → statement M
-hex-digit-spec =
+pub hex-value-spec : {M : Type 1} → statement M
+hex-value-spec =
     tie.close
     (tie.spec
     returns

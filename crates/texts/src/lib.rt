@@ -1,0 +1,4 @@
+// Texts in lent slices: bytes, decimal digits, bits in hexadecimal digits.
+pub mod digits;
+pub mod hex;
+pub mod put;
