@@ -4,3 +4,6 @@ pub mod Words
 pub mod Row
 pub mod Made
 pub mod Csv
+pub mod Heading
+pub mod Citations
+pub mod Velocity

@@ -1,6 +1,10 @@
-// The lines of a study's table: a row's joint, bodies and id, its impulse and bounds in millionths, the rule that it came from.
+// The lines of a study's table: its heading, a row's joint, bodies and id with its impulse and bounds in millionths and the rule that it came from, and
+// the rules in words; and the line of a body's velocity.
+pub mod citations;
 pub mod csv;
+pub mod heading;
 pub mod number;
 pub mod row;
 pub mod rules;
+pub mod velocity;
 pub mod words;

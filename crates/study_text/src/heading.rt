@@ -1,0 +1,25 @@
+// The first line of the table. Each function writes it to the front of `out` and answers its length; where `out` is shorter nothing is written,
+// and the length is answered all the same.
+ghost use mathlib.Core.Path.{_≡_};
+ghost use lib.ListN.{length};
+ghost use Rattle.texts.specs.Written.{written};
+ghost use Rattle.study_text.specs.Heading.{heading, csvHeading};
+use texts::put::write_text;
+
+pub fn write_heading(out: &mut [u8]) -> usize
+    ensures { λ r. ⌜ (r ≡ length heading) × (now (out .exit) ≡ written (now (out .entry)) heading) ⌝ }
+{
+    write_text(
+        &mut *out,
+        b"joint       body 1    body 2    row        impulse  lower bound upper bound at   rule\n",
+    )
+}
+
+pub fn write_csv_heading(out: &mut [u8]) -> usize
+    ensures { λ r. ⌜ (r ≡ length csvHeading) × (now (out .exit) ≡ written (now (out .entry)) csvHeading) ⌝ }
+{
+    write_text(
+        &mut *out,
+        b"joint,body1,body2,id,unit,impulse [1e-6 unit],impulse [f32 bits],lower bound [1e-6 unit],lower bound [f32 bits],upper bound [1e-6 unit],upper bound [f32 bits],at bound,rule,definition\r\n",
+    )
+}

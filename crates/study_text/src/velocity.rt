@@ -1,0 +1,56 @@
+// A body's velocity, as a velocity read prints it.
+ghost use mathlib.Core.Path.{_≡_};
+ghost use Prim.Native.Nat.{_+_, _≤_};
+ghost use lib.ListN.{length};
+ghost use Rattle.texts.specs.Written.{written, Put};
+ghost use Rattle.study_text.specs.Velocity.{movesText, turnsText, motionText, velocityText};
+use crate::number::put_millionths;
+use crate::row::LONGEST_NAME;
+use texts::put::put_text;
+
+fn put_moves(out: &mut [u8], at: usize, x: f32, y: f32) -> usize
+    requires { ⌜ at + length (movesText x y) ≤ length (now out) ⌝ }
+    ensures { λ r. ⌜ Put (now (out .entry)) at (movesText x y) (now (out .exit)) r ⌝ }
+{
+    let a = put_text(&mut *out, at, b" moves ");
+    let b = put_millionths(&mut *out, a, x);
+    let c = put_text(&mut *out, b, b" ");
+    let d = put_millionths(&mut *out, c, y);
+    put_text(&mut *out, d, b" millionths of m/s, turns ")
+}
+
+fn put_turns(out: &mut [u8], at: usize, angular: f32) -> usize
+    requires { ⌜ at + length (turnsText angular) ≤ length (now out) ⌝ }
+    ensures { λ r. ⌜ Put (now (out .entry)) at (turnsText angular) (now (out .exit)) r ⌝ }
+{
+    let a = put_millionths(&mut *out, at, angular);
+    put_text(&mut *out, a, b" millionths of rad/s\n")
+}
+
+fn put_motion(out: &mut [u8], at: usize, x: f32, y: f32, angular: f32) -> usize
+    requires { ⌜ at + length (motionText x y angular) ≤ length (now out) ⌝ }
+    ensures { λ r. ⌜ Put (now (out .entry)) at (motionText x y angular) (now (out .exit)) r ⌝ }
+{
+    let a = put_moves(&mut *out, at, x, y);
+    put_turns(&mut *out, a, angular)
+}
+
+// Writes the line to the front of `out` and answers its length. Where `out` is shorter nothing is written, and the length is answered all
+// the same. Where the name is longer than a study's can be there is no line: 0 is answered.
+pub fn write_velocity(out: &mut [u8], name: &[u8], x: f32, y: f32, angular: f32) -> usize
+    ensures { λ r. ⌜ (r ≡ length (velocityText (now (name .entry)) x y angular))
+        × (now (out .exit) ≡ written (now (out .entry)) (velocityText (now (name .entry)) x y angular)) ⌝ }
+{
+    if LONGEST_NAME < name.len() {
+        return 0;
+    }
+    let mut motion = [0u8; 128];
+    let n = put_motion(&mut motion, 0, x, y, angular);
+    let len = name.len() + n;
+    if len <= out.len() {
+        let a = put_text(&mut *out, 0, name);
+        put_text(&mut *out, a, &motion[..n]);
+        return len;
+    }
+    len
+}
