@@ -1,5 +1,5 @@
 /* A leg in C: thigh, shank and foot hang from the world by hip, knee and ankle. The hip has a motor, the straight knee rests at its stop, the ankle
- * has both. It prints what crates/leg prints: how many motors ran out of force, the impulse of every row and the velocity of every body, in millionths.
+ * has both. It prints how many motors ran out of force, the impulse of every row and the velocity of every body, in millionths.
  *
  *   cc -Iinclude examples/c/leg.c target/lib/libkatydidzinc.a -o target/leg && target/leg
  */

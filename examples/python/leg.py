@@ -1,5 +1,5 @@
 """A leg in Python: thigh, shank and foot hang from the world by hip, knee and ankle. The hip has a motor, the straight knee rests at its stop, the
-ankle has both. It prints what crates/leg prints: how many motors ran out of force, the impulse of every row and the velocity of every body, in millionths.
+ankle has both. It prints how many motors ran out of force, the impulse of every row and the velocity of every body, in millionths.
 
     tools/library && PYTHONPATH=python python3 examples/python/leg.py [--table | --csv | --plot FILE]
 """

@@ -1,5 +1,5 @@
 //! A leg in Rust: thigh, shank and foot hang from the world by hip, knee and ankle. The hip has a motor, the straight knee rests at its stop, the ankle has
-//! both. It prints what crates/leg prints: how many motors ran out of force, the impulse of every row and the velocity of every body, in millionths.
+//! both. It prints how many motors ran out of force, the impulse of every row and the velocity of every body, in millionths.
 //!
 //!     rustc --edition 2024 -O examples/rust/leg.rs -L target/lib -l static=katydidzinc -o target/leg && target/leg
 #![allow(dead_code)]

@@ -7,7 +7,7 @@
 //!                                   it, by the oracle
 //!   model answers                   a fixed list of calls with the oracle's answers
 //!   model replay < ANSWERS          the answers again, by each side that is there
-//!   model leg                       what the program leg must print, by the oracle
+//!   model leg                       what the leg in C, Rust and Python must print (examples/leg.expected), by the oracle
 //!   model study PROGRAM FILE...     what the program study prints for each file, against the second reading of it
 //!   model reading FILE...           what the second reading prints, the rules by their numbers alone
 //!   model damaged PROGRAM SEED COUNT FILE...   the same for damaged copies of the files

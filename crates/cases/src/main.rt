@@ -2,9 +2,13 @@
 // file `stdout` beside this folder. Numbers are bit patterns in hexadecimal, as document 01 has
 // them, and every NaN is 7fc00000.
 use crate::models::models;
+use crate::show::report;
+use crate::show::show;
+use crate::show::show_truth;
+use crate::show::show_vector;
+use crate::show::text;
 use floats::angle::angle;
 use floats::bits::from_bits;
-use floats::bits::to_bits;
 use floats::pose::Pose;
 use floats::rotation_ops::Rotation;
 use floats::scalar::Clamped;
@@ -19,42 +23,15 @@ use floats::utils::inv;
 use floats::utils::simd_inv;
 use floats::utils::smallest_abs_diff_between_angles;
 use floats::vector::Vector;
-use libc::STDOUT_FILENO;
-use print::millionths;
-use print::text;
 
 mod models;
+mod show;
 
 const NAN: u32 = 0x7fc0_0000;
 
 const INF: u32 = 0x7f80_0000;
 
 const NEG_ZERO: u32 = 0x8000_0000;
-
-fn show(name: &[u8], r: f32) {
-    text(name);
-    text(b" = ");
-    io::print_hex(STDOUT_FILENO, to_bits(r) as u64, 8);
-    text(b"\n");
-}
-
-fn show_truth(name: &[u8], r: bool) {
-    text(name);
-    if r {
-        text(b" = true\n");
-    } else {
-        text(b" = false\n");
-    }
-}
-
-fn show_vector(name: &[u8], v: Vector) {
-    text(name);
-    text(b" = (");
-    io::print_hex(STDOUT_FILENO, to_bits(v.x) as u64, 8);
-    text(b", ");
-    io::print_hex(STDOUT_FILENO, to_bits(v.y) as u64, 8);
-    text(b")\n");
-}
 
 fn show_rotation(name: &[u8], p: Rotation) {
     show_vector(name, Vector { x: p.re, y: p.im });
@@ -233,27 +210,19 @@ fn angles() {
     show(b"angle (1, nan)", angle(1.0, from_bits(NAN)));
 }
 
-fn report(name: &[u8], x: f32) {
-    text(b"report ");
-    text(name);
-    text(b" = ");
-    millionths(x);
-    text(b"\n");
-}
-
 fn reports() {
-    report(b"1/128", 0.0078125);
-    report(b"-1/128", -0.0078125);
-    report(b"3/128", 0.0234375);
-    report(b"3c000001", from_bits(0x3c00_0001));
-    report(b"3cbfffff", from_bits(0x3cbf_ffff));
-    report(b"-0", from_bits(NEG_ZERO));
-    report(b"1", 1.0);
-    report(b"450637bd", from_bits(0x4506_37bd));
-    report(b"450637be", from_bits(0x4506_37be));
-    report(b"c50637be", from_bits(0xc506_37be));
-    report(b"inf", from_bits(INF));
-    report(b"nan", from_bits(NAN));
+    report(b"report 1/128", 0.0078125);
+    report(b"report -1/128", -0.0078125);
+    report(b"report 3/128", 0.0234375);
+    report(b"report 3c000001", from_bits(0x3c00_0001));
+    report(b"report 3cbfffff", from_bits(0x3cbf_ffff));
+    report(b"report -0", from_bits(NEG_ZERO));
+    report(b"report 1", 1.0);
+    report(b"report 450637bd", from_bits(0x4506_37bd));
+    report(b"report 450637be", from_bits(0x4506_37be));
+    report(b"report c50637be", from_bits(0xc506_37be));
+    report(b"report inf", from_bits(INF));
+    report(b"report nan", from_bits(NAN));
 }
 
 fn main() {

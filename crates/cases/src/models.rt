@@ -1,11 +1,15 @@
 // Document 01's cases about models, and the edges of its rules: bodies 0 and 1, one apart along x, with a joint between them
 // that locks y and the angle and has a limit along x, of which both ends are 1; 127 joints more make no row.
+use crate::show::ended;
+use crate::show::number;
+use crate::show::show;
+use crate::show::show_truth;
+use crate::show::show_vector;
 use floats::bits::from_bits;
 use floats::bits::to_bits;
 use floats::pose::Pose;
 use floats::rotation_ops::Rotation;
 use floats::vector::Vector;
-use libc::STDOUT_FILENO;
 use model::calls::BuildAnswer;
 use model::calls::LoadAnswer;
 use model::calls::Plain;
@@ -22,9 +26,6 @@ use model::calls::warm_start;
 use model::calls::write_back;
 use model::header::Header;
 use model::layout::WORLD;
-use print::ended;
-use print::number;
-use print::text;
 use rows::integration_parameters::IntegrationParameters;
 use rows::joint_constraint_builder::Warmstart;
 use rows::joint_velocity_constraint::JointConstraint;
@@ -123,9 +124,17 @@ fn plain(name: &[u8], answer: Plain) {
     }
 }
 
+// A number of rows, of which a model has at most 768.
+fn row_number(n: usize) -> u32 {
+    if n <= 768 {
+        return n as u32;
+    }
+    769
+}
+
 fn built(name: &[u8], answer: BuildAnswer) {
     match answer {
-        BuildAnswer::Built(_, n) => number(name, n as u64),
+        BuildAnswer::Built(_, n) => number(name, row_number(n)),
         BuildAnswer::Refused(k) => ended(name, k),
     }
 }
@@ -441,7 +450,7 @@ fn without_rows(bodies: &[f32], words: &[u32], numbers: &[f32], rows: &mut [f32]
     let answer = asked.answer;
     let made = asked.rows;
     plain(b"a row read of a disabled joint", answer);
-    number(b"rows of a disabled joint", made.len as u64);
+    number(b"rows of a disabled joint", row_number(made.len));
 }
 
 fn still_checked(bodies: &[f32], words: &mut [u32], numbers: &[f32], rows: &[f32]) {
@@ -480,10 +489,7 @@ fn target(name: &[u8], numbers: &[f32]) {
     if numbers.len() < 18 {
         return;
     }
-    text(name);
-    text(b" = ");
-    io::print_hex(STDOUT_FILENO, to_bits(numbers[17]) as u64, 8);
-    text(b"\n");
+    show(name, numbers[17]);
 }
 
 fn targets(bodies: &[f32], words: &[u32], numbers: &mut [f32]) {
@@ -547,11 +553,13 @@ fn checksum(h: u32, s: &[f32]) -> u32 {
 }
 
 fn bounds(row: JointConstraint) {
-    text(b"bounds of a limit at both its ends = (");
-    io::print_hex(STDOUT_FILENO, to_bits(row.impulse_min) as u64, 8);
-    text(b", ");
-    io::print_hex(STDOUT_FILENO, to_bits(row.impulse_max) as u64, 8);
-    text(b")\n");
+    show_vector(
+        b"bounds of a limit at both its ends",
+        Vector {
+            x: row.impulse_min,
+            y: row.impulse_max,
+        },
+    );
 }
 
 fn limit(bodies: &[f32], words: &[u32], numbers: &[f32], rows: &[f32]) {
@@ -560,8 +568,8 @@ fn limit(bodies: &[f32], words: &[u32], numbers: &[f32], rows: &[f32]) {
     bounds(made.rows[2]);
 }
 
-fn wide(x: u8) -> u64 {
-    x as u64
+fn wide(x: u8) -> u32 {
+    x as u32
 }
 
 fn no_sweep(bodies: &mut [f32], words: &[u32], numbers: &[f32], rows: &mut [f32]) {
@@ -575,11 +583,7 @@ fn no_sweep(bodies: &mut [f32], words: &[u32], numbers: &[f32], rows: &mut [f32]
         wide(counts[0]),
     );
     let after = checksum(checksum(0, bodies), rows);
-    if before == after {
-        text(b"sweep 0 changes nothing = true\n");
-    } else {
-        text(b"sweep 0 changes nothing = false\n");
-    }
+    show_truth(b"sweep 0 changes nothing", before == after);
 }
 
 fn sweeps(bodies: &mut [f32], words: &[u32], numbers: &[f32], rows: &mut [f32]) {

@@ -1,4 +1,4 @@
-//! The leg of `crates/leg`, by the oracle: what that program must print.
+//! The leg of `examples`, by the oracle: what its programs in C, Rust and Python must print.
 
 use crate::model::{BODY, Call, JOINT, ROW, Study, WORDS, WORLD, call};
 use rapier2d::pipeline::leaves::micro_report;
