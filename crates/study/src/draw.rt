@@ -126,7 +126,7 @@ fn all_joints(draft: &[f32], words: &[u32], joints: u32, f: Frame) -> Frame {
 fn attribute(name: &[u8], x: f32) {
     out(name);
     out(b"=\"");
-    out_millionths(x, 0);
+    out_millionths(x);
     out(b"\" ");
 }
 
@@ -270,13 +270,13 @@ fn draw_bodies(text: &[u8], draft: &[f32], names: &[u32], bodies: u32, unit: f32
 
 fn begin(f: Frame, unit: f32) {
     out(b"<svg xmlns=\"http://www.w3.org/2000/svg\" viewBox=\"");
-    out_millionths(f.left - unit * 4.0, 0);
+    out_millionths(f.left - unit * 4.0);
     out(b" ");
-    out_millionths(-f.high - unit * 4.0, 0);
+    out_millionths(-f.high - unit * 4.0);
     out(b" ");
-    out_millionths(f.right - f.left + unit * 40.0, 0);
+    out_millionths(f.right - f.left + unit * 40.0);
     out(b" ");
-    out_millionths(f.high - f.low + unit * 8.0, 0);
+    out_millionths(f.high - f.low + unit * 8.0);
     out(b"\">\n");
 }
 

@@ -11,7 +11,6 @@ mod number;
 mod out;
 mod read;
 mod refusals;
-mod rules;
 mod run;
 mod table;
 mod warnings;

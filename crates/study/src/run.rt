@@ -21,8 +21,6 @@ use crate::keywords::call_keyword;
 use crate::names::body_name;
 use crate::out::err;
 use crate::out::err_number;
-use crate::out::out;
-use crate::out::out_millionths;
 use crate::out::out_part;
 use crate::refusals::Counts;
 use crate::refusals::say_rule;
@@ -56,6 +54,8 @@ use model::calls::warm_start;
 use model::calls::write_back;
 use model::header::Header;
 use rows::joint_constraint_builder::Warmstart;
+use rows::joint_velocity_constraint::SolverVel;
+use study_text::velocity::write_velocity;
 
 // A call's refusal, or 0, and the header after it.
 pub struct Done {
@@ -297,6 +297,27 @@ fn run_table(
     }
 }
 
+fn out_velocity(name: &[u8], v: SolverVel) {
+    let mut line = io::buffer();
+    let linear = v.linear;
+    let n = write_velocity(&mut line, name, linear.x, linear.y, v.angular);
+    out_part(&line, 0, n);
+}
+
+// A body's velocity, by its name.
+fn velocity_line(text: &[u8], names: &[u32], i: u32, v: SolverVel) {
+    let w = body_name(names, i);
+    let start = w.start;
+    let end = w.end;
+    if text.len() < end {
+        return;
+    }
+    if end < start {
+        return;
+    }
+    out_velocity(&text[start..end], v);
+}
+
 fn run_read_velocity(
     text: &[u8],
     names: &[u32],
@@ -308,16 +329,7 @@ fn run_read_velocity(
 ) -> Done {
     match read_velocity(header, bodies, words, numbers, i) {
         VelocityAnswer::Velocity(v) => {
-            let linear = v.linear;
-            let w = body_name(names, i);
-            out_part(text, w.start, w.end);
-            out(b" moves ");
-            out_millionths(linear.x, 0);
-            out(b" ");
-            out_millionths(linear.y, 0);
-            out(b" millionths of m/s, turns ");
-            out_millionths(v.angular, 0);
-            out(b" millionths of rad/s\n");
+            velocity_line(text, names, i, v);
             Done { header, refused: 0 }
         }
         VelocityAnswer::Refused(k) => Done { header, refused: k },

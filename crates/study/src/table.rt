@@ -1,10 +1,7 @@
 // The table of a built model: a line a row, and the rules that its rows came from.
 use crate::names::body_name;
 use crate::names::joint_name;
-use crate::out::out;
 use crate::out::out_part;
-use crate::rules::RULES;
-use crate::rules::out_rule;
 use model::calls::Plain;
 use model::calls::read_rows;
 use model::header::Header;
@@ -12,35 +9,20 @@ use model::layout::WORLD;
 use rows::joint_velocity_constraint::Rows;
 use rows::joint_velocity_constraint::WritebackId;
 use rows::row_ids::RowIds;
+use study_text::citations::write_rules;
 use study_text::csv::write_csv_row;
+use study_text::heading::write_csv_heading;
+use study_text::heading::write_heading;
 use study_text::row::write_row;
 use study_text::rules::rule_index;
 use study_text::rules::rule_of;
-
-fn out_axis(axis: usize) {
-    match axis {
-        0 => out(b"0"),
-        1 => out(b"1"),
-        _ => out(b"2"),
-    }
-}
+use study_text::words::id_word;
 
 // An id as document 01's cases write it.
 pub fn out_id(id: WritebackId) {
-    match id {
-        WritebackId::Motor(axis) => {
-            out(b"Motor");
-            out_axis(axis);
-        }
-        WritebackId::Dof(axis) => {
-            out(b"Dof");
-            out_axis(axis);
-        }
-        WritebackId::Limit(axis) => {
-            out(b"Limit");
-            out_axis(axis);
-        }
-    }
+    let word = id_word(id);
+    let bytes = word.bytes;
+    out_part(&bytes, 0, word.len);
 }
 
 // ---- one row, as text or as comma-separated values
@@ -266,27 +248,19 @@ pub fn joint_lines(
 }
 
 pub fn out_heading(csv: bool) {
+    let mut line = io::buffer();
     if csv {
-        out(
-            b"joint,body1,body2,id,unit,impulse [1e-6 unit],impulse [f32 bits],lower bound [1e-6 unit],lower bound [f32 bits],upper bound [1e-6 unit],upper bound [f32 bits],at bound,rule,definition\r\n",
-        );
+        let n = write_csv_heading(&mut line);
+        out_part(&line, 0, n);
         return;
     }
-    out(b"joint       body 1    body 2    row        impulse  lower bound upper bound at   rule\n");
+    let n = write_heading(&mut line);
+    out_part(&line, 0, n);
 }
 
 // The rules that were used, each once, in words.
 pub fn out_rules(used: u32) {
-    out(
-        b"impulses and bounds in millionths of N s (x, y) or N m s (angle); bounds of 2147 and more are over. rules:\n",
-    );
-    let mut rule: u32 = 0;
-    let mut left = used;
-    while rule < RULES {
-        if left % 2 == 1 {
-            out_rule(rule);
-        }
-        left = left / 2;
-        rule += 1;
-    }
+    let mut lines = [0u8; 4608];
+    let n = write_rules(&mut lines, used);
+    out_part(&lines, 0, n);
 }
