@@ -1,24 +1,24 @@
 // A picture of a study as it was read, in SVG: bodies as discs, joints as squares at their first frame, tied to their bodies, with names and row
 // ids. Coordinates are millionths of a metre, y upward.
-use crate::draft::NUMBERS;
-use crate::draft::body_base;
-use crate::draft::joint_base;
-use crate::draft::number_at;
-use crate::draft::word_at;
-use crate::draft::words_base;
-use crate::names::body_name;
-use crate::names::joint_name;
 use crate::out::out;
 use crate::out::out_millionths;
 use crate::out::out_part;
 use crate::table::out_id;
-use crate::words::Word;
 use floats::rotation_ops::Rotation;
 use floats::vector::Vector;
 use model::layout::WORLD;
 use rows::generic_joint::Masks;
 use rows::row_ids::RowIds;
 use rows::row_ids::row_ids;
+use study_reader::names::body_name;
+use study_reader::names::joint_name;
+use study_reader::storage::NUMBERS;
+use study_reader::storage::body_base;
+use study_reader::storage::joint_base;
+use study_reader::storage::number_at;
+use study_reader::storage::word_at;
+use study_reader::storage::words_base;
+use study_reader::words::Word;
 
 // The part of the plane that is drawn.
 pub struct Frame {

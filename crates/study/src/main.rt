@@ -1,26 +1,13 @@
 // Runs studies that are written as text. docs/STUDY.md describes them.
-mod calls;
-mod draft;
 mod draw;
 mod faults;
-mod fields;
 mod help;
-mod keywords;
-mod names;
-mod number;
 mod out;
-mod read;
 mod refusals;
 mod run;
 mod table;
 mod warnings;
-mod words;
 
-use draft::BODIES;
-use draft::JOINTS;
-use draft::MOST;
-use draft::State;
-use draft::number_at;
 use draw::draw;
 use faults::say;
 use help::help;
@@ -31,14 +18,21 @@ use out::err;
 use out::err_number;
 use out::err_part;
 use out::out;
-use read::read_study;
 use rows::integration_parameters::IntegrationParameters;
 use run::NO_FILE;
 use run::check_study;
 use run::run_study;
+use study_reader::draft::State;
+use study_reader::read::read_study;
+use study_reader::storage::BODIES;
+use study_reader::storage::JOINTS;
+use study_reader::storage::MOST;
+use study_reader::storage::number_at;
+use study_reader::words::Word;
+use study_reader::words::column_of;
+use study_reader::words::is;
+use study_reader::words::line_of;
 use warnings::warnings;
-use words::column_of;
-use words::line_of;
 
 // How a study ended: 0 granted, 1 refused, 2 not read.
 fn worse(a: u32, b: u32) -> u32 {
@@ -332,9 +326,9 @@ const MISSING: u32 = 6;
 const DRAW: u32 = 7;
 
 fn same(a: &[u8], b: &[u8]) -> bool {
-    words::is(
+    is(
         a,
-        words::Word {
+        Word {
             start: 0,
             end: a.len(),
         },

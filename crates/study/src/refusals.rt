@@ -1,18 +1,19 @@
 // A refused call: its rule in words, and the first setting, body or joint that broke it, with the line that gave it.
-use crate::draft::NUMBERS;
-use crate::draft::body_base;
-use crate::draft::joint_base;
-use crate::draft::number_at;
-use crate::draft::word_at;
-use crate::draft::words_base;
-use crate::names::body_name;
-use crate::names::joint_name;
 use crate::out::err;
 use crate::out::err_number;
 use crate::out::err_part;
-use crate::words::Word;
-use crate::words::line_of;
 use floats::scalar::is_finite;
+use study_reader::names::body_name;
+use study_reader::names::joint_name;
+use study_reader::storage::NUMBERS;
+use study_reader::storage::body_base;
+use study_reader::storage::joint_base;
+use study_reader::storage::kept;
+use study_reader::storage::number_at;
+use study_reader::storage::word_at;
+use study_reader::storage::words_base;
+use study_reader::words::Word;
+use study_reader::words::line_of;
 
 fn say_late_rule(k: u32) {
     match k {
@@ -67,13 +68,13 @@ fn say_name(text: &[u8], what: &[u8], w: Word) {
 fn say_last_body(text: &[u8], names: &[u32]) {
     let w = body_name(names, 128);
     say_name(text, b"body ", w);
-    say_line(text, crate::draft::kept(w.start));
+    say_line(text, kept(w.start));
 }
 
 fn say_last_joint(text: &[u8], names: &[u32]) {
     let w = joint_name(names, 128);
     say_name(text, b"joint ", w);
-    say_line(text, crate::draft::kept(w.start));
+    say_line(text, kept(w.start));
 }
 
 // ---- rules 3 and 5

@@ -1,24 +1,4 @@
 // The calls of a study, in order. The first refused call ends it.
-use crate::calls::Line;
-use crate::calls::read_call;
-use crate::draft::State;
-use crate::draft::word_at;
-use crate::draft::words_base;
-use crate::keywords::BUILD;
-use crate::keywords::END;
-use crate::keywords::LOAD;
-use crate::keywords::PLACE;
-use crate::keywords::READ_ROWS;
-use crate::keywords::READ_VELOCITY;
-use crate::keywords::REMOVE_BIAS;
-use crate::keywords::REPEAT;
-use crate::keywords::SET_TARGETS;
-use crate::keywords::SWEEP;
-use crate::keywords::TABLE;
-use crate::keywords::WARM_START;
-use crate::keywords::WRITE_BACK;
-use crate::keywords::call_keyword;
-use crate::names::body_name;
 use crate::out::err;
 use crate::out::err_number;
 use crate::out::out_part;
@@ -30,11 +10,6 @@ use crate::table::Printed;
 use crate::table::joint_lines;
 use crate::table::out_heading;
 use crate::table::out_rules;
-use crate::words::Word;
-use crate::words::is_empty;
-use crate::words::line_of;
-use crate::words::next_line;
-use crate::words::next_word;
 use floats::pose::Pose;
 use floats::rotation_ops::Rotation;
 use floats::vector::Vector;
@@ -55,6 +30,31 @@ use model::calls::write_back;
 use model::header::Header;
 use rows::joint_constraint_builder::Warmstart;
 use rows::joint_velocity_constraint::SolverVel;
+use study_reader::calls::Line;
+use study_reader::calls::read_call;
+use study_reader::draft::State;
+use study_reader::keywords::BUILD;
+use study_reader::keywords::END;
+use study_reader::keywords::LOAD;
+use study_reader::keywords::PLACE;
+use study_reader::keywords::READ_ROWS;
+use study_reader::keywords::READ_VELOCITY;
+use study_reader::keywords::REMOVE_BIAS;
+use study_reader::keywords::REPEAT;
+use study_reader::keywords::SET_TARGETS;
+use study_reader::keywords::SWEEP;
+use study_reader::keywords::TABLE;
+use study_reader::keywords::WARM_START;
+use study_reader::keywords::WRITE_BACK;
+use study_reader::keywords::call_keyword;
+use study_reader::names::body_name;
+use study_reader::storage::word_at;
+use study_reader::storage::words_base;
+use study_reader::words::Word;
+use study_reader::words::is_empty;
+use study_reader::words::line_of;
+use study_reader::words::next_line;
+use study_reader::words::next_word;
 use study_text::velocity::write_velocity;
 
 // A call's refusal, or 0, and the header after it.
@@ -593,7 +593,9 @@ fn turn_call(
     r: Run,
     w: Word,
 ) -> Run {
-    let l = read_call(text, names, opened(text, st, w), w);
+    // A `repeat` is read where none is open, an `end` where one is: the text was read before.
+    let open = call_keyword(text, w) == END;
+    let l = read_call(text, names, st.bodies, st.joints, open, w);
     let done = run_call(
         text,
         names,
@@ -702,11 +704,4 @@ fn begun(header: Header, at: usize) -> Run {
         over: false,
         refused: 0,
     }
-}
-
-// A `repeat` is read where none is open, an `end` where one is: the text was read before.
-fn opened(text: &[u8], st: State, w: Word) -> State {
-    let mut s = st;
-    s.repeats = call_keyword(text, w) == END;
-    s
 }

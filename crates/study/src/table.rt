@@ -1,6 +1,4 @@
 // The table of a built model: a line a row, and the rules that its rows came from.
-use crate::names::body_name;
-use crate::names::joint_name;
 use crate::out::out_part;
 use model::calls::Plain;
 use model::calls::read_rows;
@@ -9,6 +7,8 @@ use model::layout::WORLD;
 use rows::joint_velocity_constraint::Rows;
 use rows::joint_velocity_constraint::WritebackId;
 use rows::row_ids::RowIds;
+use study_reader::names::body_name;
+use study_reader::names::joint_name;
 use study_text::citations::write_rules;
 use study_text::csv::write_csv_row;
 use study_text::heading::write_csv_heading;

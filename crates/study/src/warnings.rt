@@ -1,17 +1,17 @@
 // What document 01 lets through and a person wants to hear about. Warnings go to standard error and change nothing.
-use crate::draft::NUMBERS;
-use crate::draft::body_base;
-use crate::draft::joint_base;
-use crate::draft::number_at;
-use crate::draft::word_at;
-use crate::draft::words_base;
-use crate::names::body_name;
-use crate::names::joint_name;
 use crate::out::err;
 use crate::out::err_number;
 use crate::out::err_part;
-use crate::words::Word;
-use crate::words::line_of;
+use study_reader::names::body_name;
+use study_reader::names::joint_name;
+use study_reader::storage::NUMBERS;
+use study_reader::storage::body_base;
+use study_reader::storage::joint_base;
+use study_reader::storage::number_at;
+use study_reader::storage::word_at;
+use study_reader::storage::words_base;
+use study_reader::words::Word;
+use study_reader::words::line_of;
 
 fn warn(text: &[u8], what: &[u8], w: Word, message: &[u8]) {
     err(b"study: line ");

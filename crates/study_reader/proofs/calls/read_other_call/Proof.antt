@@ -1,0 +1,83 @@
+-- `read_other_call` meets its contract, keyword by keyword.
+use mathlib.Core.Path.{_∙_}
+use borrow.Author.Tests.{eq-eqb, ne-eqb}
+use Rattle.study_reader.specs.Calls.{otherArguments}
+use Rattle.study_reader.proofs.CallLaws.{true-is, false-is}
+use borrow.Author.Needs.{needs}
+use Rattle.study_reader.proofs.calls.read_other_call.Statement.{statement}
+use Rattle.study_reader.proofs.calls.read_other_call.Tie as tie
+
+read-joint-requires : tie.Need-read-joint-requires
+read-joint-requires c κs = search needs
+
+returns : tie.Need-returns
+unfolding otherArguments
+returns c = c .read-joint .ensures ∙ true-is _ _ _ (eq-eqb _ _ (c .before .if1 .taken))
+
+read-body-requires : tie.Need-read-body-requires
+read-body-requires c κs = search needs
+
+returns-2 : tie.Need-returns-2
+unfolding otherArguments
+returns-2 c = c .read-body .ensures ∙ true-is _ _ _ (eq-eqb _ _ (c .before .if2 .taken)) ∙ false-is _ _ _ (ne-eqb _ _ (c .before .before .if1 .left))
+
+read-file-requires : tie.Need-read-file-requires
+read-file-requires c κs = search needs
+
+returns-3 : tie.Need-returns-3
+unfolding otherArguments
+returns-3 c = c .read-file .ensures ∙ true-is _ _ _ (eq-eqb _ _ (c .before .if3 .taken)) ∙ false-is _ _ _ (ne-eqb _ _ (c .before .before .if2 .left)) ∙ false-is _ _ _ (ne-eqb _ _ (c .before .before .before .if1 .left))
+
+read-repeat-requires : tie.Need-read-repeat-requires
+read-repeat-requires c κs = search needs
+
+returns-4 : tie.Need-returns-4
+unfolding otherArguments
+returns-4 c =
+    let s3 = c .before .before .before in
+    c .read-repeat .ensures ∙ true-is _ _ _ (eq-eqb _ _ (c .before .if4 .taken)) ∙ false-is _ _ _ (ne-eqb _ _ (c .before .before .if3 .left)) ∙ false-is _ _ _ (ne-eqb _ _ (s3 .if2 .left)) ∙ false-is _ _ _ (ne-eqb _ _ (s3 .before .if1 .left))
+
+read-end-requires : tie.Need-read-end-requires
+read-end-requires c κs = search needs
+
+returns-5 : tie.Need-returns-5
+unfolding otherArguments
+returns-5 c =
+    let s3 = c .before .before .before in
+    let s5 = s3 .before .before in
+    c .read-end .ensures ∙ true-is _ _ _ (eq-eqb _ _ (c .before .if5 .taken)) ∙ false-is _ _ _ (ne-eqb _ _ (c .before .before .if4 .left)) ∙ false-is _ _ _ (ne-eqb _ _ (s3 .if3 .left)) ∙ false-is _ _ _ (ne-eqb _ _ (s3 .before .if2 .left)) ∙ false-is _ _ _ (ne-eqb _ _ (s5 .if1 .left))
+
+read-csv-requires : tie.Need-read-csv-requires
+read-csv-requires c κs = search needs
+
+returns-6 : tie.Need-returns-6
+unfolding otherArguments
+returns-6 c =
+    let s3 = c .before .before .before in
+    let s5 = s3 .before .before in
+    c .read-csv .ensures ∙ true-is _ _ _ (eq-eqb _ _ (c .before .if6 .taken)) ∙ false-is _ _ _ (ne-eqb _ _ (c .before .before .if5 .left)) ∙ false-is _ _ _ (ne-eqb _ _ (s3 .if4 .left)) ∙ false-is _ _ _ (ne-eqb _ _ (s3 .before .if3 .left)) ∙ false-is _ _ _ (ne-eqb _ _ (s5 .if2 .left)) ∙ false-is _ _ _ (ne-eqb _ _ (s5 .before .if1 .left))
+
+returns-7 : tie.Need-returns-7
+unfolding otherArguments
+returns-7 c =
+    let s3 = c .before .before .before in
+    let s5 = s3 .before .before in
+    false-is _ _ _ (ne-eqb _ _ (c .if6 .left)) ∙ false-is _ _ _ (ne-eqb _ _ (c .before .if5 .left)) ∙ false-is _ _ _ (ne-eqb _ _ (c .before .before .if4 .left)) ∙ false-is _ _ _ (ne-eqb _ _ (s3 .if3 .left)) ∙ false-is _ _ _ (ne-eqb _ _ (s3 .before .if2 .left)) ∙ false-is _ _ _ (ne-eqb _ _ (s5 .if1 .left))
+
+pub read-other-call-spec : {M : Type 1} → statement M
+read-other-call-spec =
+    tie.close
+    (tie.spec
+    read-joint-requires
+    returns
+    read-body-requires
+    returns-2
+    read-file-requires
+    returns-3
+    read-repeat-requires
+    returns-4
+    read-end-requires
+    returns-5
+    read-csv-requires
+    returns-6
+    returns-7)

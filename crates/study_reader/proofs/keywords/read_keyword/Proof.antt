@@ -1,0 +1,111 @@
+-- `read_keyword` meets its contract, word by word.
+use mathlib.Core.Path.{refl, sym, _∙_}
+use Rattle.study_reader.proofs.KeywordLaws.{found, later, no-line}
+use borrow.Author.Needs.{needs}
+use Rattle.study_reader.proofs.keywords.read_keyword.Statement.{statement}
+use Rattle.study_reader.proofs.keywords.read_keyword.Tie as tie
+
+slice-aggregate-is : tie.Need-slice-aggregate-is
+slice-aggregate-is c = search needs
+
+is-requires : tie.Need-is-requires
+is-requires c κs = search needs
+
+returns : tie.Need-returns
+returns c = found _ _ _ _ _ _ (sym (c .before .is .ensures) ∙ c .if1 .taken) refl
+
+slice-aggregate-is-2 : tie.Need-slice-aggregate-is-2
+slice-aggregate-is-2 c = search needs
+
+is-requires-2 : tie.Need-is-requires-2
+is-requires-2 c κs = search needs
+
+returns-2 : tie.Need-returns-2
+returns-2 c = later _ _ _ _ _ _ (sym (c .before .before .before .before .is .ensures) ∙ c .before .before .before .if1 .left) (found _ _ _ _ _ _ (sym (c .before .is2 .ensures) ∙ c .if2 .taken) refl)
+
+slice-aggregate-is-3 : tie.Need-slice-aggregate-is-3
+slice-aggregate-is-3 c = search needs
+
+is-requires-3 : tie.Need-is-requires-3
+is-requires-3 c κs = search needs
+
+returns-3 : tie.Need-returns-3
+returns-3 c =
+    let s3 = c .before .before .before in
+    let s6 = s3 .before .before .before in
+    later _ _ _ _ _ _ (sym (s6 .before .is .ensures) ∙ s6 .if1 .left) (later _ _ _ _ _ _ (sym (s3 .before .is2 .ensures) ∙ s3 .if2 .left) (found _ _ _ _ _ _ (sym (c .before .is3 .ensures) ∙ c .if3 .taken) refl))
+
+slice-aggregate-is-4 : tie.Need-slice-aggregate-is-4
+slice-aggregate-is-4 c = search needs
+
+is-requires-4 : tie.Need-is-requires-4
+is-requires-4 c κs = search needs
+
+returns-4 : tie.Need-returns-4
+returns-4 c =
+    let s3 = c .before .before .before in
+    let s6 = s3 .before .before .before in
+    let s9 = s6 .before .before .before in
+    later _ _ _ _ _ _ (sym (s9 .before .is .ensures) ∙ s9 .if1 .left) (later _ _ _ _ _ _ (sym (s6 .before .is2 .ensures) ∙ s6 .if2 .left) (later _ _ _ _ _ _ (sym (s3 .before .is3 .ensures) ∙ s3 .if3 .left) (found _ _ _ _ _ _ (sym (c .before .is4 .ensures) ∙ c .if4 .taken) refl)))
+
+slice-aggregate-is-5 : tie.Need-slice-aggregate-is-5
+slice-aggregate-is-5 c = search needs
+
+is-requires-5 : tie.Need-is-requires-5
+is-requires-5 c κs = search needs
+
+returns-5 : tie.Need-returns-5
+returns-5 c =
+    let s3 = c .before .before .before in
+    let s6 = s3 .before .before .before in
+    let s9 = s6 .before .before .before in
+    let s12 = s9 .before .before .before in
+    later _ _ _ _ _ _ (sym (s12 .before .is .ensures) ∙ s12 .if1 .left) (later _ _ _ _ _ _ (sym (s9 .before .is2 .ensures) ∙ s9 .if2 .left) (later _ _ _ _ _ _ (sym (s6 .before .is3 .ensures) ∙ s6 .if3 .left) (later _ _ _ _ _ _ (sym (s3 .before .is4 .ensures) ∙ s3 .if4 .left) (found _ _ _ _ _ _ (sym (c .before .is5 .ensures) ∙ c .if5 .taken) refl))))
+
+slice-aggregate-is-6 : tie.Need-slice-aggregate-is-6
+slice-aggregate-is-6 c = search needs
+
+is-requires-6 : tie.Need-is-requires-6
+is-requires-6 c κs = search needs
+
+returns-6 : tie.Need-returns-6
+returns-6 c =
+    let s3 = c .before .before .before in
+    let s6 = s3 .before .before .before in
+    let s9 = s6 .before .before .before in
+    let s12 = s9 .before .before .before in
+    let s15 = s12 .before .before .before in
+    later _ _ _ _ _ _ (sym (s15 .before .is .ensures) ∙ s15 .if1 .left) (later _ _ _ _ _ _ (sym (s12 .before .is2 .ensures) ∙ s12 .if2 .left) (later _ _ _ _ _ _ (sym (s9 .before .is3 .ensures) ∙ s9 .if3 .left) (later _ _ _ _ _ _ (sym (s6 .before .is4 .ensures) ∙ s6 .if4 .left) (later _ _ _ _ _ _ (sym (s3 .before .is5 .ensures) ∙ s3 .if5 .left) (found _ _ _ _ _ _ (sym (c .before .is6 .ensures) ∙ c .if6 .taken) refl)))))
+
+returns-7 : tie.Need-returns-7
+returns-7 c =
+    let s3 = c .before .before .before in
+    let s6 = s3 .before .before .before in
+    let s9 = s6 .before .before .before in
+    let s12 = s9 .before .before .before in
+    let s15 = s12 .before .before .before in
+    later _ _ _ _ _ _ (sym (s15 .before .is .ensures) ∙ s15 .if1 .left) (later _ _ _ _ _ _ (sym (s12 .before .is2 .ensures) ∙ s12 .if2 .left) (later _ _ _ _ _ _ (sym (s9 .before .is3 .ensures) ∙ s9 .if3 .left) (later _ _ _ _ _ _ (sym (s6 .before .is4 .ensures) ∙ s6 .if4 .left) (later _ _ _ _ _ _ (sym (s3 .before .is5 .ensures) ∙ s3 .if5 .left) (later _ _ _ _ _ _ (sym (c .before .is6 .ensures) ∙ c .if6 .left) (no-line _ _ _ refl))))))
+
+pub read-keyword-spec : {M : Type 1} → statement M
+read-keyword-spec =
+    tie.close
+    (tie.spec
+    slice-aggregate-is
+    is-requires
+    returns
+    slice-aggregate-is-2
+    is-requires-2
+    returns-2
+    slice-aggregate-is-3
+    is-requires-3
+    returns-3
+    slice-aggregate-is-4
+    is-requires-4
+    returns-4
+    slice-aggregate-is-5
+    is-requires-5
+    returns-5
+    slice-aggregate-is-6
+    is-requires-6
+    returns-6
+    returns-7)

@@ -1,0 +1,11 @@
+pub mod Words
+pub mod Faults
+pub mod Numbers
+pub mod Storage
+pub mod Names
+pub mod Keywords
+pub mod Calls
+pub mod Draft
+pub mod Items
+pub mod Study
+pub mod Laws
