@@ -11,10 +11,6 @@ pub fn err(s: &[u8]) {
     io::write_all(STDERR_FILENO, s);
 }
 
-pub fn out_number(n: u64) {
-    io::print_decimal(STDOUT_FILENO, n);
-}
-
 pub fn err_number(n: u64) {
     io::print_decimal(STDERR_FILENO, n);
 }
