@@ -1,0 +1,373 @@
+-- The lines of the settings, of a body and of a joint are read, one after the other.
+use mathlib.Core.Path.{_≡_, refl, ap, _∙_}
+use mathlib.Core.Bool.{Bool, true, false, cond, _||_}
+use mathlib.Core.List.{List, [], _∷_, _++_}
+use Prim.Native.Nat.{ℕ, _+_, _*_, _-_, _≤_, _<_}
+use native.Mathlib.Omega.{arith}
+use lib.Dec.{eqb, ltb}
+use lib.Ieee.{Float}
+use lib.ListN.{length, getD}
+use Rattle.motor_table.specs.Text.{decimal}
+use Rattle.model.specs.Layout.{bodyWidth, wordsWidth, numbersWidth}
+use Rattle.model.specs.Records.{num, word}
+use Rattle.model.specs.Store.{world}
+use Rattle.model.specs.Model.{Model}
+use Rattle.study_reader.specs.Ascii.{ascii}
+use Rattle.study_reader.specs.Keywords.{meaning, axisWords}
+use Rattle.study_reader.specs.Draft.{Draft}
+use Rattle.study_reader.specs.Study.{lineRead}
+use Rattle.study_reader.specs.declared.draft.State.{State}
+use Rattle.study_writer.specs.Text.{Line, linesText, numberWord, one, two, settingsLines, bodyWord, bodyLines, jointWord, endWord, modelWord, enabledWord, centerLine, jointHead, frameLines, limitsLines, motorLines, softnessLines, jointLines}
+use Rattle.study_writer.specs.ReadBack.{IsF32, AllF32}
+use Rattle.study_writer.proofs.Lexical.{proper, properLine}
+use Rattle.study_writer.proofs.Spelling.{number-proper, decimal-proper, body-proper, joint-proper}
+use Rattle.study_writer.proofs.NumberLines.{FieldWord, JointKeyword, one-line, two-line, one-axis-line, two-axis-line, center-line, angle-line}
+use Rattle.study_writer.proofs.WordLines.{Worded, mask-line, model-line, enabled-line, settings-line}
+use Rattle.study_writer.proofs.NameLines.{end-proper, body-line, joint-line}
+use Rattle.study_writer.proofs.Steps.{here, settings-moves}
+use Rattle.study_writer.proofs.Kept.{setting, bodyNumber, jointNumber, canonical, kept-same-as}
+use Rattle.study_writer.proofs.Ons.{On, on-setting, on-body1, on-body2, on-joint1, on-joint2, on-word, on-center, on-angle, on-open-body, on-open-joint}
+use Rattle.study_writer.proofs.WordFacts.{item-settings, item-body, item-joint, axis-x, axis-y, axis-angle, field-dt, field-length-unit, field-normalized-max-corrective-velocity, field-rotation, field-position, field-inverse-inertia, field-inverse-masses, field-velocity, field-angular-velocity, field-frame1-rotation, field-frame1, field-frame2-rotation, field-frame2, field-limits, field-limit-impulse, field-target-velocity, field-target-position, field-stiffness, field-damping, field-max-force, field-motor-impulse, field-natural-frequency, field-damping-ratio, field-impulse, word-center-angle, word-lock, word-limit, word-motor, word-couple, word-motor-model, word-enabled, word-disabled-by-attached-body, word-disabled, word-center}
+
+-- ---- so many lines
+
+unfoldable pub readAll : List ℕ → List Line → Draft → Draft
+readAll text [] d = d
+readAll text (l ∷ ls) d = readAll text ls (lineRead text d)
+
+-- ---- printed lines are lines of words
+
+pub proper-one : (kw : List ℕ) (x : Float) → proper kw ≡ true → properLine (kw ∷ numberWord x ∷ []) ≡ true
+proper-one kw x h = simp (h, number-proper x)
+
+pub proper-two : (kw : List ℕ) (x y : Float) → proper kw ≡ true → properLine (kw ∷ numberWord x ∷ numberWord y ∷ []) ≡ true
+proper-two kw x y h = simp (h, number-proper x, number-proper y)
+
+pub model-proper : (v : ℕ) → proper (modelWord v) ≡ true
+unfolding modelWord
+model-proper v = go (eqb v 0)
+  where
+    go : (t : Bool) → proper (cond t (ascii "acceleration") (ascii "force")) ≡ true
+    go true = refl
+    go false = refl
+
+-- ---- settings
+
+module _ (text : List ℕ) (m : Model) (f32 : AllF32 m) where
+  settings-one : {k : ℕ} {kw : List ℕ} {ls : List Line} {d : Draft} → FieldWord kw 1 k 1 0
+      → On text m 1 0 0 0 k 0 0 0 0 ((kw ∷ numberWord (setting m k) ∷ []) ∷ ls) d → k < 3 → IsF32 (setting m k)
+      → On text m 1 0 0 0 (k + 1) 0 0 0 0 ls (lineRead text d)
+  settings-one {k} {kw} {ls} {d} f o r x =
+      let l = kw ∷ numberWord (setting m k) ∷ [] in
+      let p = proper-one kw (setting m k) (f .is-proper) in
+      on-setting text m k l ls d o p r
+      (one-line text (d .names) (d .state) kw (linesText ls) 1 k (setting m k) (here text d 1 0 0 0 l ls (o .here) p) f
+      (ap (λ (s : State). s .kind) (o .here .state)) x)
+
+  settings-open : {ls : List Line} {d : Draft} → On text m 0 0 0 0 0 0 0 0 0 ((ascii "settings" ∷ []) ∷ ls) d → On text m 1 0 0 0 0 0 0 0 0 ls (lineRead text d)
+  settings-open {ls} {d} o =
+      let l = ascii "settings" ∷ [] in
+      let e = settings-moves text d 0 0 0 0 l ls (o .here) refl
+      (settings-line text (d .names) (d .state) (ascii "settings") (linesText ls) (here text d 0 0 0 0 l ls (o .here) refl) (item-settings .is-proper)
+      (item-settings .no-call) (item-settings .means) (ap (λ (s : State). eqb (s .kind) 4) (o .here .state))) in
+      record { here = e .0; kept = kept-same-as text m 0 0 0 0 0 0 0 d (lineRead text d) (o .kept) (record { numbers≡ = e .1; origins≡ = e .2; words≡ = e .3; names≡ = e .4 }) }
+
+  pub settings-read : {ls : List Line} {d : Draft} → On text m 0 0 0 0 0 0 0 0 0 (settingsLines (m .params) ++ ls) d
+      → On text m 1 0 0 0 3 0 0 0 0 ls (readAll text (settingsLines (m .params)) d)
+  unfolding settingsLines readAll
+  settings-read {ls} {d} o =
+      settings-one field-normalized-max-corrective-velocity
+      (settings-one field-length-unit (settings-one field-dt (settings-open o) (omega arith) (f32 .dt)) (omega arith) (f32 .length-unit)) (omega arith)
+      (f32 .max-velocity)
+
+-- ---- bodies
+
+module _ (text : List ℕ) (small : length text < 4294967295) (m : Model) (f32 : AllF32 m) (i : ℕ) (few : i < 128) where
+  body-one : {kw : List ℕ} {k : ℕ} {ls : List Line} {d : Draft} → FieldWord kw 2 k 1 0
+      → On text m 2 i (i + 1) 0 3 (i * 10 + k) 0 0 0 ((kw ∷ numberWord (bodyNumber m (i * 10 + k)) ∷ []) ∷ ls) d → k < 10
+      → On text m 2 i (i + 1) 0 3 (i * 10 + (k + 1)) 0 0 0 ls (lineRead text d)
+  body-one {kw} {k} {ls} {d} f o r =
+      let x = bodyNumber m (i * 10 + k) in
+      let l = kw ∷ numberWord x ∷ [] in
+      let p = proper-one kw x (f .is-proper) in
+      on-body1 text m i k l ls d o p few r
+      (one-line text (d .names) (d .state) kw (linesText ls) 2 k x (here text d 2 i (i + 1) 0 l ls (o .here) p) f
+      (ap (λ (s : State). s .kind) (o .here .state)) (f32 .bodies (i * 10 + k)))
+
+  body-two : {kw : List ℕ} {k : ℕ} {ls : List Line} {d : Draft} → FieldWord kw 2 k 2 0
+      → On text m 2 i (i + 1) 0 3 (i * 10 + k) 0 0 0 ((kw ∷ numberWord (bodyNumber m (i * 10 + k)) ∷ numberWord (bodyNumber m (i * 10 + (k + 1))) ∷ []) ∷ ls) d → k < 9
+      → On text m 2 i (i + 1) 0 3 (i * 10 + (k + 2)) 0 0 0 ls (lineRead text d)
+  body-two {kw} {k} {ls} {d} f o r =
+      let x = bodyNumber m (i * 10 + k) in
+      let y = bodyNumber m (i * 10 + (k + 1)) in
+      let l = kw ∷ numberWord x ∷ numberWord y ∷ [] in
+      let p = proper-two kw x y (f .is-proper) in
+      on-body2 text m i k l ls d o p few r
+      (two-line text (d .names) (d .state) kw (linesText ls) 2 k x y (here text d 2 i (i + 1) 0 l ls (o .here) p) f
+      (ap (λ (s : State). s .kind) (o .here .state)) (f32 .bodies (i * 10 + k)) (f32 .bodies (i * 10 + (k + 1))))
+
+  body-open : {kind item : ℕ} {ls : List Line} {d : Draft} → eqb kind 4 ≡ false
+      → On text m kind item i 0 3 (i * 10) 0 0 0 ((ascii "body" ∷ bodyWord i ∷ []) ∷ ls) d → On text m 2 i (i + 1) 0 3 (i * 10 + 0) 0 0 0 ls (lineRead text d)
+  body-open {kind} {item} {ls} {d} c o =
+      let l = ascii "body" ∷ bodyWord i ∷ [] in
+      let p : properLine l ≡ true = simp (body-proper i) in
+      on-open-body text small m kind item i l ls d p o few
+      (body-line text (d .names) (d .state) (ascii "body") (linesText ls) i (here text d kind item i 0 l ls (o .here) p) (item-body .is-proper) (item-body .no-call)
+      (item-body .means) (ap (λ (s : State). eqb (s .kind) 4) (o .here .state) ∙ c) (ap (λ (s : State). s .bodies) (o .here .state))
+      (ap (λ (s : State). s .joints) (o .here .state)) few (o .kept .bodyNames))
+
+  pub body-read : {kind item : ℕ} {ls : List Line} {d : Draft} → eqb kind 4 ≡ false
+      → On text m kind item i 0 3 (i * 10) 0 0 0 (bodyLines i (num bodyWidth (m .bodies) i) ++ ls) d
+      → On text m 2 i (i + 1) 0 3 (i * 10 + 10) 0 0 0 ls (readAll text (bodyLines i (num bodyWidth (m .bodies) i)) d)
+  unfolding bodyLines readAll
+  body-read {kind} {item} {ls} {d} c o =
+      let o0 = body-open c o in
+      let o1 = body-two field-rotation o0 (omega arith) in
+      let o2 = body-two field-position o1 (omega arith) in
+      let o3 = body-one field-inverse-inertia o2 (omega arith) in
+      let o4 = body-two field-inverse-masses o3 (omega arith) in
+      let o5 = body-two field-velocity o4 (omega arith) in
+      body-one field-angular-velocity o5 (omega arith)
+
+-- ---- joints
+
+module _ (text : List ℕ) (small : length text < 4294967295) (m : Model) (f32 : AllF32 m) (nb : ℕ) (fb : nb ≤ 128) (j : ℕ) (few : j < 128) where
+  -- joint j is open, with so many of its numbers and words
+  abbrev Joint : ℕ → ℕ → List Line → Draft → Type 0
+  Joint k w ls d = On text m 3 j nb (j + 1) 3 (nb * 10) (j * 42 + k) (j * 11 + w) j ls d
+
+  abbrev x : ℕ → Float
+  x k = jointNumber m (j * 42 + k)
+
+  abbrev g : ℕ → ℕ
+  g k = getD (m .words) (j * 11 + k) 0
+
+  joint-one : {kw : List ℕ} {k : ℕ} {ls : List Line} {d : Draft} → FieldWord kw 3 k 1 0 → Joint k 10 ((kw ∷ numberWord (x k) ∷ []) ∷ ls) d → k < 42
+      → Joint (k + 1) 10 ls (lineRead text d)
+  joint-one {kw} {k} {ls} {d} f o r =
+      let l = kw ∷ numberWord (x k) ∷ [] in
+      let p = proper-one kw (x k) (f .is-proper) in
+      on-joint1 text m j nb k (j * 11 + 10) j l ls d o p few fb r
+      (one-line text (d .names) (d .state) kw (linesText ls) 3 k (x k) (here text d 3 j nb (j + 1) l ls (o .here) p) f
+      (ap (λ (s : State). s .kind) (o .here .state)) (f32 .numbers (j * 42 + k)))
+
+  joint-two : {kw : List ℕ} {k : ℕ} {ls : List Line} {d : Draft} → FieldWord kw 3 k 2 0
+      → Joint k 10 ((kw ∷ numberWord (x k) ∷ numberWord (x (k + 1)) ∷ []) ∷ ls) d → k < 41 → Joint (k + 2) 10 ls (lineRead text d)
+  joint-two {kw} {k} {ls} {d} f o r =
+      let l = kw ∷ numberWord (x k) ∷ numberWord (x (k + 1)) ∷ [] in
+      let p = proper-two kw (x k) (x (k + 1)) (f .is-proper) in
+      on-joint2 text m j nb k (j * 11 + 10) j l ls d o p few fb r
+      (two-line text (d .names) (d .state) kw (linesText ls) 3 k (x k) (x (k + 1)) (here text d 3 j nb (j + 1) l ls (o .here) p) f
+      (ap (λ (s : State). s .kind) (o .here .state)) (f32 .numbers (j * 42 + k)) (f32 .numbers (j * 42 + (k + 1))))
+
+  -- the same of an axis
+  module _ (a : ℕ) (aw : List ℕ) (pa : proper aw ≡ true) (am : meaning axisWords 3 aw ≡ a) (r : a < 3) where
+    axis-one : {kw : List ℕ} {k t : ℕ} {ls : List Line} {d : Draft} → FieldWord kw 3 k 1 t → eqb t 0 ≡ false
+        → Joint (k + a * t) 10 ((kw ∷ aw ∷ numberWord (x (k + a * t)) ∷ []) ∷ ls) d → k + a * t < 42 → Joint (k + a * t + 1) 10 ls (lineRead text d)
+    axis-one {kw} {k} {t} {ls} {d} f z o u =
+        let n = k + a * t in
+        let l = kw ∷ aw ∷ numberWord (x n) ∷ [] in
+        let p : properLine l ≡ true = simp (f .is-proper, pa, number-proper (x n)) in
+        on-joint1 text m j nb n (j * 11 + 10) j l ls d o p few fb u
+        (one-axis-line text (d .names) (d .state) kw (linesText ls) a aw pa am r 3 k t (x n) (here text d 3 j nb (j + 1) l ls (o .here) p) f z
+        (ap (λ (s : State). s .kind) (o .here .state)) (f32 .numbers (j * 42 + n)))
+
+    axis-two : {kw : List ℕ} {k t : ℕ} {ls : List Line} {d : Draft} → FieldWord kw 3 k 2 t → eqb t 0 ≡ false
+        → Joint (k + a * t) 10 ((kw ∷ aw ∷ numberWord (x (k + a * t)) ∷ numberWord (x (k + a * t + 1)) ∷ []) ∷ ls) d → k + a * t < 41
+        → Joint (k + a * t + 2) 10 ls (lineRead text d)
+    axis-two {kw} {k} {t} {ls} {d} f z o u =
+        let n = k + a * t in
+        let l = kw ∷ aw ∷ numberWord (x n) ∷ numberWord (x (n + 1)) ∷ [] in
+        let p : properLine l ≡ true = simp (f .is-proper, pa, number-proper (x n), number-proper (x (n + 1))) in
+        on-joint2 text m j nb n (j * 11 + 10) j l ls d o p few fb u
+        (two-axis-line text (d .names) (d .state) kw (linesText ls) a aw pa am r 3 k t (x n) (x (n + 1)) (here text d 3 j nb (j + 1) l ls (o .here) p) f z
+        (ap (λ (s : State). s .kind) (o .here .state)) (f32 .numbers (j * 42 + n)) (f32 .numbers (j * 42 + (n + 1))))
+
+    -- a motor's model
+    axis-model : {ls : List Line} {d : Draft} → Joint 0 (6 + a) ((ascii "motor_model" ∷ aw ∷ modelWord (g (6 + a)) ∷ []) ∷ ls) d
+        → canonical (6 + a) (g (6 + a)) ≡ cond (eqb (g (6 + a)) 0) 0 1 → Joint 0 (6 + a + 1) ls (lineRead text d)
+    axis-model {ls} {d} o e =
+        let l = ascii "motor_model" ∷ aw ∷ modelWord (g (6 + a)) ∷ [] in
+        let p : properLine l ≡ true = simp (pa, model-proper (g (6 + a))) in
+        let h = model-line text (d .names) (d .state) (ascii "motor_model") (linesText ls) a aw pa am r (g (6 + a)) (here text d 3 j nb (j + 1) l ls (o .here) p)
+        word-motor-model (ap (λ (s : State). s .kind) (o .here .state)) in
+        on-word text m j nb (6 + a) (j * 42 + 0) j l ls d o p few (omega arith) (omega arith) (rw e h)
+
+  joint-mask : (c : ℕ) {kw : List ℕ} {ls : List Line} {d : Draft} → JointKeyword kw (8 + c) → Joint 0 (2 + c) ((kw ∷ decimal (g (2 + c)) ∷ []) ∷ ls) d → c < 4
+      → g (2 + c) ≤ 7 → canonical (2 + c) (g (2 + c)) ≡ g (2 + c) → Joint 0 (2 + c + 1) ls (lineRead text d)
+  joint-mask c {kw} {ls} {d} f o r u e =
+      let l = kw ∷ decimal (g (2 + c)) ∷ [] in
+      let p : properLine l ≡ true = simp (f .is-proper, decimal-proper (g (2 + c))) in
+      let h = mask-line text (d .names) (d .state) kw (linesText ls) (8 + c) (g (2 + c)) (here text d 3 j nb (j + 1) l ls (o .here) p) f (omega arith) (omega arith)
+      (ap (λ (s : State). s .kind) (o .here .state)) (omega arith) in
+      let q : 2 + (8 + c - 8) ≡ 2 + c = omega arith in
+      let h′ : Worded text (d .names) (d .state) (2 + c) (g (2 + c)) = rw q at h in
+      on-word text m j nb (2 + c) (j * 42 + 0) j l ls d o p few (omega arith) (omega arith) (rw e h′)
+
+  joint-kind : (c : ℕ) {kw : List ℕ} {ls : List Line} {d : Draft} → JointKeyword kw (13 + c) → Joint 0 9 ((kw ∷ []) ∷ ls) d → c < 3
+      → canonical 9 (g 9) ≡ c → Joint 0 10 ls (lineRead text d)
+  joint-kind c {kw} {ls} {d} f o r e =
+      let l = kw ∷ [] in
+      let p : properLine l ≡ true = simp (f .is-proper) in
+      let h = enabled-line text (d .names) (d .state) kw (linesText ls) (13 + c) (here text d 3 j nb (j + 1) l ls (o .here) p) f (omega arith) (omega arith)
+      (ap (λ (s : State). s .kind) (o .here .state)) in
+      let q : 13 + c - 13 ≡ c = omega arith in
+      let h′ : Worded text (d .names) (d .state) 9 c = rw q at h in
+      on-word text m j nb 9 (j * 42 + 0) j l ls d o p few (omega arith) (omega arith) (rw e h′)
+
+  enabled-cases : {ls : List Line} {d : Draft} (s t : Bool) → eqb (g 9) 0 ≡ s → eqb (g 9) 1 ≡ t
+      → Joint 0 9 ((cond s (ascii "enabled") (cond t (ascii "disabled_by_attached_body") (ascii "disabled")) ∷ []) ∷ ls) d → Joint 0 10 ls (lineRead text d)
+  unfolding canonical
+  enabled-cases true t e f o = joint-kind 0 word-enabled o (omega arith) (simp e)
+  enabled-cases false true e f o = joint-kind 1 word-disabled-by-attached-body o (omega arith) (simp (e, f))
+  enabled-cases false false e f o = joint-kind 2 word-disabled o (omega arith) (simp (e, f))
+
+  joint-enabled : {ls : List Line} {d : Draft} → Joint 0 9 ((enabledWord (g 9) ∷ []) ∷ ls) d → Joint 0 10 ls (lineRead text d)
+  unfolding enabledWord
+  joint-enabled o = enabled-cases (eqb (g 9) 0) (eqb (g 9) 1) refl refl o
+
+  -- the joint with its centre, so with all
+  center-cases : {ls : List Line} {d : Draft} (t : Bool) → eqb (g 10) 0 ≡ t → Joint 40 10 (cond t (two "center" (x 40) (x 41)) (one "center_angle" (x 40)) ∷ ls) d
+      → On text m 3 j nb (j + 1) 3 (nb * 10) (j * 42 + 42) (j * 11 + 11) (j + 1) ls (lineRead text d)
+  center-cases {ls} {d} true e o =
+      let l = two "center" (x 40) (x 41) in
+      let p = proper-two (ascii "center") (x 40) (x 41) refl in
+      on-center text m j nb l ls d o p few fb e
+      (center-line text (d .names) (d .state) (ascii "center") (linesText ls) (x 40) (x 41) (here text d 3 j nb (j + 1) l ls (o .here) p) word-center
+      (ap (λ (s : State). s .kind) (o .here .state)) (f32 .numbers (j * 42 + 40)) (f32 .numbers (j * 42 + 41)))
+  center-cases {ls} {d} false e o =
+      let l = one "center_angle" (x 40) in
+      let p = proper-one (ascii "center_angle") (x 40) refl in
+      on-angle text m j nb l ls d o p few fb e
+      (angle-line text (d .names) (d .state) (ascii "center_angle") (linesText ls) (x 40) (here text d 3 j nb (j + 1) l ls (o .here) p) word-center-angle
+      (ap (λ (s : State). s .kind) (o .here .state)) (f32 .numbers (j * 42 + 40)))
+
+  joint-center : {ls : List Line} {d : Draft} → Joint 40 10 (centerLine (g 10) (x 40) (x 41) ∷ ls) d
+      → On text m 3 j nb (j + 1) 3 (nb * 10) (j * 42 + 42) (j * 11 + 11) (j + 1) ls (lineRead text d)
+  unfolding centerLine
+  joint-center o = center-cases (eqb (g 10) 0) refl o
+
+  joint-open : {kind item : ℕ} {ls : List Line} {d : Draft} → eqb kind 4 ≡ false → (eqb (g 0) world || ltb (g 0) nb) ≡ true → (eqb (g 1) world || ltb (g 1) nb) ≡ true
+      → On text m kind item nb j 3 (nb * 10) (j * 42) (j * 11) j ((ascii "joint" ∷ jointWord j ∷ endWord (g 0) ∷ endWord (g 1) ∷ []) ∷ ls) d
+      → Joint 0 2 ls (lineRead text d)
+  joint-open {kind} {item} {ls} {d} c p1 p2 o =
+      let l = ascii "joint" ∷ jointWord j ∷ endWord (g 0) ∷ endWord (g 1) ∷ [] in
+      let p : properLine l ≡ true = simp (joint-proper j, end-proper (g 0), end-proper (g 1)) in
+      on-open-joint text small m kind item nb j l ls d p o fb few
+      (joint-line text (d .names) (d .state) (ascii "joint") (linesText ls) j nb (g 0) (g 1) (here text d kind item nb j l ls (o .here) p) (item-joint .is-proper)
+      (item-joint .no-call) (item-joint .means) (ap (λ (s : State). eqb (s .kind) 4) (o .here .state) ∙ c) (ap (λ (s : State). s .bodies) (o .here .state))
+      (ap (λ (s : State). s .joints) (o .here .state)) few fb (o .kept .bodyNames) (o .kept .jointNames) p1 p2)
+
+  -- ---- the parts of a joint's lines
+
+  pub head-read : {kind item : ℕ} {ls : List Line} {d : Draft} → eqb kind 4 ≡ false → (eqb (g 0) world || ltb (g 0) nb) ≡ true → (eqb (g 1) world || ltb (g 1) nb) ≡ true
+      → g 2 ≤ 7 → g 3 ≤ 7 → g 4 ≤ 7 → g 5 ≤ 7
+      → On text m kind item nb j 3 (nb * 10) (j * 42) (j * 11) j (jointHead j (word wordsWidth (m .words) j) ++ ls) d
+      → Joint 0 10 ls (readAll text (jointHead j (word wordsWidth (m .words) j)) d)
+  unfolding readAll canonical
+  head-read {kind} {item} {ls} {d} c p1 p2 u2 u3 u4 u5 o =
+      let o0 = joint-open c p1 p2 o in
+      let o1 = joint-mask 0 word-lock o0 (omega arith) u2 refl in
+      let o2 = joint-mask 1 word-limit o1 (omega arith) u3 refl in
+      let o3 = joint-mask 2 word-motor o2 (omega arith) u4 refl in
+      let o4 = joint-mask 3 word-couple o3 (omega arith) u5 refl in
+      let o5 = axis-model 0 (ascii "x") refl axis-x (omega arith) o4 refl in
+      let o6 = axis-model 1 (ascii "y") refl axis-y (omega arith) o5 refl in
+      let o7 = axis-model 2 (ascii "angle") refl axis-angle (omega arith) o6 refl in
+      joint-enabled o7
+
+  pub frames-read : {ls : List Line} {d : Draft} → Joint 0 10 (frameLines (num numbersWidth (m .numbers) j) ++ ls) d
+      → Joint 8 10 ls (readAll text (frameLines (num numbersWidth (m .numbers) j)) d)
+  unfolding readAll
+  frames-read {ls} {d} o =
+      let o1 = joint-two field-frame1-rotation o (omega arith) in
+      let o2 = joint-two field-frame1 o1 (omega arith) in
+      let o3 = joint-two field-frame2-rotation o2 (omega arith) in
+      joint-two field-frame2 o3 (omega arith)
+
+  abbrev f : ℕ → Float
+  f = num numbersWidth (m .numbers) j
+
+  limits-x : {ls : List Line} {d : Draft} → Joint 8 10 (limitsLines "x" f 8 ++ ls) d → Joint 11 10 ls (readAll text (limitsLines "x" f 8) d)
+  unfolding readAll
+  limits-x {ls} {d} o =
+      let o1 = axis-two 0 (ascii "x") refl axis-x (omega arith) field-limits refl o (omega arith) in
+      axis-one 0 (ascii "x") refl axis-x (omega arith) field-limit-impulse refl o1 (omega arith)
+
+  motor-x : {ls : List Line} {d : Draft} → Joint 17 10 (motorLines "x" f 17 ++ ls) d → Joint 23 10 ls (readAll text (motorLines "x" f 17) d)
+  unfolding readAll
+  motor-x {ls} {d} o =
+      let o1 = axis-one 0 (ascii "x") refl axis-x (omega arith) field-target-velocity refl o (omega arith) in
+      let o2 = axis-one 0 (ascii "x") refl axis-x (omega arith) field-target-position refl o1 (omega arith) in
+      let o3 = axis-one 0 (ascii "x") refl axis-x (omega arith) field-stiffness refl o2 (omega arith) in
+      let o4 = axis-one 0 (ascii "x") refl axis-x (omega arith) field-damping refl o3 (omega arith) in
+      let o5 = axis-one 0 (ascii "x") refl axis-x (omega arith) field-max-force refl o4 (omega arith) in
+      axis-one 0 (ascii "x") refl axis-x (omega arith) field-motor-impulse refl o5 (omega arith)
+
+  limits-y : {ls : List Line} {d : Draft} → Joint 11 10 (limitsLines "y" f 11 ++ ls) d → Joint 14 10 ls (readAll text (limitsLines "y" f 11) d)
+  unfolding readAll
+  limits-y {ls} {d} o =
+      let o1 = axis-two 1 (ascii "y") refl axis-y (omega arith) field-limits refl o (omega arith) in
+      axis-one 1 (ascii "y") refl axis-y (omega arith) field-limit-impulse refl o1 (omega arith)
+
+  motor-y : {ls : List Line} {d : Draft} → Joint 23 10 (motorLines "y" f 23 ++ ls) d → Joint 29 10 ls (readAll text (motorLines "y" f 23) d)
+  unfolding readAll
+  motor-y {ls} {d} o =
+      let o1 = axis-one 1 (ascii "y") refl axis-y (omega arith) field-target-velocity refl o (omega arith) in
+      let o2 = axis-one 1 (ascii "y") refl axis-y (omega arith) field-target-position refl o1 (omega arith) in
+      let o3 = axis-one 1 (ascii "y") refl axis-y (omega arith) field-stiffness refl o2 (omega arith) in
+      let o4 = axis-one 1 (ascii "y") refl axis-y (omega arith) field-damping refl o3 (omega arith) in
+      let o5 = axis-one 1 (ascii "y") refl axis-y (omega arith) field-max-force refl o4 (omega arith) in
+      axis-one 1 (ascii "y") refl axis-y (omega arith) field-motor-impulse refl o5 (omega arith)
+
+  limits-angle : {ls : List Line} {d : Draft} → Joint 14 10 (limitsLines "angle" f 14 ++ ls) d → Joint 17 10 ls (readAll text (limitsLines "angle" f 14) d)
+  unfolding readAll
+  limits-angle {ls} {d} o =
+      let o1 = axis-two 2 (ascii "angle") refl axis-angle (omega arith) field-limits refl o (omega arith) in
+      axis-one 2 (ascii "angle") refl axis-angle (omega arith) field-limit-impulse refl o1 (omega arith)
+
+  motor-angle : {ls : List Line} {d : Draft} → Joint 29 10 (motorLines "angle" f 29 ++ ls) d → Joint 35 10 ls (readAll text (motorLines "angle" f 29) d)
+  unfolding readAll
+  motor-angle {ls} {d} o =
+      let o1 = axis-one 2 (ascii "angle") refl axis-angle (omega arith) field-target-velocity refl o (omega arith) in
+      let o2 = axis-one 2 (ascii "angle") refl axis-angle (omega arith) field-target-position refl o1 (omega arith) in
+      let o3 = axis-one 2 (ascii "angle") refl axis-angle (omega arith) field-stiffness refl o2 (omega arith) in
+      let o4 = axis-one 2 (ascii "angle") refl axis-angle (omega arith) field-damping refl o3 (omega arith) in
+      let o5 = axis-one 2 (ascii "angle") refl axis-angle (omega arith) field-max-force refl o4 (omega arith) in
+      axis-one 2 (ascii "angle") refl axis-angle (omega arith) field-motor-impulse refl o5 (omega arith)
+
+  softness-read : {ls : List Line} {d : Draft} → Joint 35 10 (softnessLines f (g 10) ++ ls) d
+      → On text m 3 j nb (j + 1) 3 (nb * 10) (j * 42 + 42) (j * 11 + 11) (j + 1) ls (readAll text (softnessLines f (g 10)) d)
+  unfolding readAll
+  softness-read {ls} {d} o =
+      let o1 = joint-one field-natural-frequency o (omega arith) in
+      let o2 = joint-one field-damping-ratio o1 (omega arith) in
+      let o3 = axis-one 0 (ascii "x") refl axis-x (omega arith) field-impulse refl o2 (omega arith) in
+      let o4 = axis-one 1 (ascii "y") refl axis-y (omega arith) field-impulse refl o3 (omega arith) in
+      let o5 = axis-one 2 (ascii "angle") refl axis-angle (omega arith) field-impulse refl o4 (omega arith) in
+      joint-center o5
+
+  -- all lines of a joint
+  pub joint-read : {kind item : ℕ} {ls : List Line} {d : Draft} → eqb kind 4 ≡ false → (eqb (g 0) world || ltb (g 0) nb) ≡ true → (eqb (g 1) world || ltb (g 1) nb) ≡ true
+      → g 2 ≤ 7 → g 3 ≤ 7 → g 4 ≤ 7 → g 5 ≤ 7
+      → On text m kind item nb j 3 (nb * 10) (j * 42) (j * 11) j (jointLines j (word wordsWidth (m .words) j) f ++ ls) d
+      → On text m 3 j nb (j + 1) 3 (nb * 10) (j * 42 + 42) (j * 11 + 11) (j + 1) ls (readAll text (jointLines j (word wordsWidth (m .words) j) f) d)
+  unfolding jointLines readAll
+  joint-read {kind} {item} {ls} {d} c p1 p2 u2 u3 u4 u5 o =
+      let s8 = softnessLines f (g 10) in
+      let s7 = motorLines "angle" f 29 ++ s8 in
+      let s6 = motorLines "y" f 23 ++ s7 in
+      let s5 = motorLines "x" f 17 ++ s6 in
+      let s4 = limitsLines "angle" f 14 ++ s5 in
+      let s3 = limitsLines "y" f 11 ++ s4 in
+      let s2 = limitsLines "x" f 8 ++ s3 in
+      let s1 = frameLines f ++ s2 in
+      let o0 = head-read {ls = s1 ++ ls} c p1 p2 u2 u3 u4 u5 o in
+      let o1 = frames-read {ls = s2 ++ ls} o0 in
+      let o2 = limits-x {ls = s3 ++ ls} o1 in
+      let o3 = limits-y {ls = s4 ++ ls} o2 in
+      let o4 = limits-angle {ls = s5 ++ ls} o3 in
+      let o5 = motor-x {ls = s6 ++ ls} o4 in
+      let o6 = motor-y {ls = s7 ++ ls} o5 in
+      let o7 = motor-angle {ls = s8 ++ ls} o6 in
+      softness-read {ls = ls} o7

@@ -1,0 +1,17 @@
+pub mod Lexical
+pub mod Spelling
+pub mod NumberLines
+pub mod WordLines
+pub mod NameLines
+pub mod Held
+pub mod Steps
+pub mod Kept
+pub mod Opened
+pub mod Ons
+pub mod WordFacts
+pub mod ItemLaws
+pub mod Sizes
+pub mod Decoded
+pub mod ReadBackLaws
+pub mod SinkLaws
+pub mod WriteLaws

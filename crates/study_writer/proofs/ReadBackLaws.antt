@@ -1,0 +1,387 @@
+-- Print, then read: `read-back`, the theorem of specs/ReadBack.antt.
+use mathlib.Core.Path.{_≡_, refl, sym, ap, subst, _∙_}
+use mathlib.Core.Bool.{Bool, true, false, cond, not, _||_, _&&_}
+use mathlib.Core.List.{List, [], _∷_, _++_, append-assoc, append-nil}
+use Prim.Native.Nat.{ℕ, zero, suc, _+_, _*_, _-_, _/_, _≤_, _<_}
+use native.Mathlib.Omega.{arith}
+use borrow.Author.Tests.{le-leb, ltb-false, ne-eqb, lt-ltb, not-true}
+use lib.Dec.{leb, ltb, eqb}
+use lib.Ieee.{Float, nan}
+use lib.ListN.{length, getD, drop, length-drop, replicate, length-replicate}
+use Rattle.floats.specs.Operators.{bits}
+use lib.Seq.{getD-drop}
+use Rattle.model.specs.Layout.{bodyWidth, wordsWidth, numbersWidth}
+use Rattle.model.specs.Records.{num, word}
+use Rattle.model.specs.Store.{world, jointAt, centerAt, body1At, body2At}
+use Rattle.model.specs.Model.{Model, bodyCount, jointCount}
+use Rattle.model.specs.Refusals.{all, masksFit, presentOrWorld, bodiesPresent}
+use Rattle.study_reader.specs.Storage.{jointBase}
+use Rattle.study_reader.specs.Draft.{Draft, draft, withState, start, puts, settingsDefaults}
+use Rattle.study_reader.specs.Study.{lineRead, linesRead, ended, isLeftOut, centerJoint, centerJoints, readStudy, studyOf}
+use Rattle.study_reader.specs.declared.draft.State.{State}
+use Rattle.study_writer.specs.Text.{Line, linesText, settingsLines, bodyLines, bodiesFrom, jointLines, jointsFrom, studyLines, studyText}
+use Rattle.study_writer.specs.ReadBack.{AllF32, Printable, Room, settingsRead, bodiesRead, jointsRead, IsRead, ReadsBack, StudyBack}
+use Rattle.study_writer.proofs.Lexical.{both}
+use Rattle.study_writer.proofs.Steps.{on}
+use Rattle.study_writer.proofs.Kept.{canonical, Kept, kept-cast}
+use Rattle.study_writer.proofs.Opened.{puts-length}
+use Rattle.study_writer.proofs.Ons.{On, canonical-at}
+use Rattle.study_writer.proofs.ItemLaws.{readAll, settings-read, body-read, joint-read}
+use Rattle.study_writer.proofs.Sizes.{Fine, fine-small, study-size}
+use Rattle.study_writer.proofs.Decoded.{center-same, joint-same}
+
+-- ---- line after line
+
+all-append : (text : List ℕ) (a b : List Line) (d : Draft) → readAll text (a ++ b) d ≡ readAll text b (readAll text a d)
+unfolding readAll
+all-append text [] b d = refl
+all-append text (l ∷ ls) b d = all-append text ls b (lineRead text d)
+
+-- so many lines, and then more
+all-lines : (text : List ℕ) (ls : List Line) (n : ℕ) (d : Draft) → linesRead text (length ls + n) d ≡ linesRead text n (readAll text ls d)
+unfolding readAll linesRead
+all-lines text [] n d = let e : 0 + n ≡ n = omega arith in ap (λ (k : ℕ). linesRead text k d) e
+all-lines text (l ∷ ls) n d =
+    let e : suc (length ls) + n ≡ suc (length ls + n) = omega arith in
+    ap (λ (k : ℕ). linesRead text k d) e ∙ all-lines text ls n (lineRead text d)
+
+-- at the end of the text nothing more is read
+idle : (text : List ℕ) (d : Draft) → d .state .fault ≡ 0 → drop (d .state .at) text ≡ [] → lineRead text d ≡ d
+unfolding lineRead
+idle text d f h =
+    let a = length-drop (d .state .at) text in
+    let b = ap length h in
+    let c : leb (length text) (d .state .at) ≡ true = le-leb (length text) (d .state .at) (omega arith) in
+    simp (f, c)
+
+at-end : (text : List ℕ) (d : Draft) → d .state .fault ≡ 0 → drop (d .state .at) text ≡ [] → (n : ℕ) → linesRead text n d ≡ d
+unfolding linesRead
+at-end text d f h zero = refl
+at-end text d f h (suc n) = ap (linesRead text n) (idle text d f h) ∙ at-end text d f h n
+
+-- ---- all bodies, all joints
+
+-- between two items
+record Between (text : List ℕ) (m : Model) (nb nj low high done : ℕ) (ls : List Line) (d : Draft) : Type 0 where
+  kind : ℕ
+  item : ℕ
+  no-call : eqb kind 4 ≡ false
+  on′ : On text m kind item nb nj 3 low high done nj ls d
+
+module _ (text : List ℕ) (small : length text < 4294967295) (m : Model) (f32 : AllF32 m) where
+  abbrev body : ℕ → List Line
+  body i = bodyLines i (num bodyWidth (m .bodies) i)
+
+  abbrev joint : ℕ → List Line
+  joint j = jointLines j (word wordsWidth (m .words) j) (num numbersWidth (m .numbers) j)
+
+  -- one body, and the others
+  next-body : (i : ℕ) (ls : List Line) (d : Draft) → i < 128 → Between text m i 0 (i * 10) 0 0 (body i ++ ls) d
+      → Between text m (i + 1) 0 ((i + 1) * 10) 0 0 ls (readAll text (body i) d)
+  next-body i ls d h b =
+      let r = body-read text small m f32 i h {ls = ls} {d = d} (b .no-call) (b .on′) in
+      record {
+        kind = 2;
+        item = i;
+        no-call = refl;
+        on′ = record { here = r .here; kept = kept-cast text m 3 (i * 10 + 10) 0 0 (i + 1) 0 0 ((i + 1) * 10) 0 0 (readAll text (body i) d) (r .kept) (omega arith) refl refl };
+      }
+
+  first-body : (n i : ℕ) (ls : List Line) (d : Draft) → Between text m i 0 (i * 10) 0 0 (bodiesFrom (m .bodies) i (suc n) ++ ls) d
+      → Between text m i 0 (i * 10) 0 0 (body i ++ (bodiesFrom (m .bodies) (i + 1) n ++ ls)) d
+  unfolding bodiesFrom
+  first-body n i ls d b = rw append-assoc at b
+
+  more-bodies : (n i : ℕ) (ls : List Line) (d : Draft)
+      → Between text m (i + 1 + n) 0 ((i + 1 + n) * 10) 0 0 ls (readAll text (bodiesFrom (m .bodies) (i + 1) n) (readAll text (body i) d))
+      → Between text m (i + suc n) 0 ((i + suc n) * 10) 0 0 ls (readAll text (bodiesFrom (m .bodies) i (suc n)) d)
+  unfolding bodiesFrom
+  more-bodies n i ls d b =
+      let e : i + suc n ≡ i + 1 + n = omega arith in
+      rw (all-append text (body i) (bodiesFrom (m .bodies) (i + 1) n) d, e) b
+
+  no-bodies : (i : ℕ) (ls : List Line) (d : Draft) → Between text m i 0 (i * 10) 0 0 (bodiesFrom (m .bodies) i 0 ++ ls) d
+      → Between text m (i + 0) 0 ((i + 0) * 10) 0 0 ls (readAll text (bodiesFrom (m .bodies) i 0) d)
+  unfolding bodiesFrom readAll
+  no-bodies i ls d b = let e : i + 0 ≡ i = omega arith in rw e b
+
+  bodies-read : (n i : ℕ) (ls : List Line) (d : Draft) → i + n ≤ 128 → Between text m i 0 (i * 10) 0 0 (bodiesFrom (m .bodies) i n ++ ls) d
+      → Between text m (i + n) 0 ((i + n) * 10) 0 0 ls (readAll text (bodiesFrom (m .bodies) i n) d)
+  bodies-read zero i ls d h b = no-bodies i ls d b
+  bodies-read (suc n) i ls d h b =
+      more-bodies n i ls d
+      (bodies-read n (i + 1) ls (readAll text (body i) d) (omega arith)
+      (next-body i (bodiesFrom (m .bodies) (i + 1) n ++ ls) d (omega arith) (first-body n i ls d b)))
+
+  -- one joint, and the others
+  module _ (nb : ℕ) (fb : nb ≤ 128) where
+    abbrev Joints : ℕ → List Line → Draft → Type 0
+    Joints j ls d = Between text m nb j (nb * 10) (j * 42) (j * 11) ls d
+
+    next-joint : (j : ℕ) (ls : List Line) (d : Draft) → j < 128 → Fine m nb j → Joints j (joint j ++ ls) d → Joints (j + 1) ls (readAll text (joint j) d)
+    next-joint j ls d h w b =
+        let r = joint-read text small m f32 nb fb j h {ls = ls} {d = d} (b .no-call) (w .first) (w .second) (w .mask2) (w .mask3) (w .mask4) (w .mask5) (b .on′) in
+        record {
+          kind = 3;
+          item = j;
+          no-call = refl;
+          on′ =
+              record {
+                here = r .here;
+                kept =
+                    kept-cast text m 3 (nb * 10) (j * 42 + 42) (j * 11 + 11) nb (j + 1) (j + 1) (nb * 10) ((j + 1) * 42) ((j + 1) * 11) (readAll text (joint j) d) (r .kept) refl
+                    (omega arith) (omega arith);
+              };
+        }
+
+    first-joint : (n j : ℕ) (ls : List Line) (d : Draft) → Joints j (jointsFrom (m .words) (m .numbers) j (suc n) ++ ls) d
+        → Joints j (joint j ++ (jointsFrom (m .words) (m .numbers) (j + 1) n ++ ls)) d
+    unfolding jointsFrom
+    first-joint n j ls d b = rw append-assoc at b
+
+    more-joints : (n j : ℕ) (ls : List Line) (d : Draft)
+        → Joints (j + 1 + n) ls (readAll text (jointsFrom (m .words) (m .numbers) (j + 1) n) (readAll text (joint j) d))
+        → Joints (j + suc n) ls (readAll text (jointsFrom (m .words) (m .numbers) j (suc n)) d)
+    unfolding jointsFrom
+    more-joints n j ls d b =
+        let e : j + suc n ≡ j + 1 + n = omega arith in
+        rw (all-append text (joint j) (jointsFrom (m .words) (m .numbers) (j + 1) n) d, e) b
+
+    no-joints : (j : ℕ) (ls : List Line) (d : Draft) → Joints j (jointsFrom (m .words) (m .numbers) j 0 ++ ls) d
+        → Joints (j + 0) ls (readAll text (jointsFrom (m .words) (m .numbers) j 0) d)
+    unfolding jointsFrom readAll
+    no-joints j ls d b = let e : j + 0 ≡ j = omega arith in rw e b
+
+    joints-read : (n j : ℕ) (ls : List Line) (d : Draft) → j + n ≤ 128 → ((k : ℕ) → k < j + n → Fine m nb k)
+        → Joints j (jointsFrom (m .words) (m .numbers) j n ++ ls) d → Joints (j + n) ls (readAll text (jointsFrom (m .words) (m .numbers) j n) d)
+    joints-read zero j ls d h f b = no-joints j ls d b
+    joints-read (suc n) j ls d h f b =
+        more-joints n j ls d
+        (joints-read n (j + 1) ls (readAll text (joint j) d) (omega arith) (λ k l. f k (omega arith))
+        (next-joint j (jointsFrom (m .words) (m .numbers) (j + 1) n ++ ls) d (omega arith) (f j (omega arith)) (first-joint n j ls d b)))
+
+-- ---- the centres are given, so none is left out
+
+module _ (text : List ℕ) (m : Model) (s low high done nb nj cs : ℕ) (d : Draft) (k : Kept text m s low high done nb nj cs d) (few : cs ≤ 128) where
+  no-center : (j : ℕ) → j < cs → centerJoint j d ≡ d
+  unfolding centerJoint isLeftOut jointBase
+  no-center j l =
+      let b : jointBase j + 40 ≡ 1333 + 42 * j = ap (λ (t : Bool). cond t (1293 + 42 * j) 6711 + 40) (lt-ltb j 129 (omega arith)) ∙ omega arith in
+      let g = k .centers j l in
+      let e : eqb (getD (d .origins) (jointBase j + 40) 0) 0 ≡ false =
+      ap (λ (n : ℕ). eqb (getD (d .origins) n 0) 0) b ∙ ne-eqb (getD (d .origins) (1333 + 42 * j) 0) 0 (λ q. omega arith) in
+      simp e
+
+  no-centers : (n j : ℕ) → j + n ≤ cs → centerJoints j n d ≡ d
+  unfolding centerJoints
+  no-centers zero j l = refl
+  no-centers (suc n) j l = ap (centerJoints (j + 1) n) (no-center j (omega arith)) ∙ no-centers n (j + 1) (omega arith)
+
+-- ---- what rules 3 and 4 say of a joint's words
+
+fine : (m : Model) (j : ℕ) → masksFit (m .words) j ≡ true → bodiesPresent (m .bodies) (m .words) j ≡ true → Fine m (bodyCount (m .bodies)) j
+unfolding masksFit all bodiesPresent presentOrWorld body1At body2At
+fine m j h p =
+    let w : ℕ → ℕ = word wordsWidth (m .words) j in
+    let a = both (not (ltb 7 (w 2))) (not (ltb 7 (w 3)) && (not (ltb 7 (w 4)) && (not (ltb 7 (w 5)) && true))) h in
+    let b = both (not (ltb 7 (w 3))) (not (ltb 7 (w 4)) && (not (ltb 7 (w 5)) && true)) (a .1) in
+    let c = both (not (ltb 7 (w 4))) (not (ltb 7 (w 5)) && true) (b .1) in
+    let d = both (not (ltb 7 (w 5))) true (c .1) in
+    let e = both (eqb (w 0) world || ltb (w 0) (bodyCount (m .bodies))) (eqb (w 1) world || ltb (w 1) (bodyCount (m .bodies))) p in
+    record {
+      first = e .0;
+      second = e .1;
+      mask2 = ltb-false 7 (w 2) (not-true (ltb 7 (w 2)) (a .0));
+      mask3 = ltb-false 7 (w 3) (not-true (ltb 7 (w 3)) (b .0));
+      mask4 = ltb-false 7 (w 4) (not-true (ltb 7 (w 4)) (c .0));
+      mask5 = ltb-false 7 (w 5) (not-true (ltb 7 (w 5)) (d .0));
+    }
+
+-- ---- the storage holds the model
+
+module _ (text : List ℕ) (m : Model) (nb nj : ℕ) (d : Draft) (k : Kept text m 3 (nb * 10) (nj * 42) (nj * 11) nb nj nj d) where
+  settings-held : settingsRead d ≡ m .params
+  settings-held = simp (k .settings 0 (omega arith) tt, k .settings 1 (omega arith) tt, k .settings 2 (omega arith) tt)
+
+  body-held : (i c : ℕ) → i < nb → c < 10 → num bodyWidth (bodiesRead d) i c ≡ num bodyWidth (m .bodies) i c
+  body-held i c l r = getD-drop 3 (d .numbers) (i * 10 + c) nan ∙ k .bodies (i * 10 + c) (omega arith) tt
+
+  module _ (j : ℕ) (l : j < nj) where
+    number-held : (c : ℕ) → c < 41 → num numbersWidth (jointsRead d) j c ≡ num numbersWidth (m .numbers) j c
+    number-held c r = getD-drop 1293 (d .numbers) (j * 42 + c) nan ∙ k .joints (j * 42 + c) (omega arith) (λ q. absurd (let z : ⊥ = omega arith in z))
+
+    last-held : eqb (word wordsWidth (m .words) j 10) 0 ≡ true → num numbersWidth (jointsRead d) j 41 ≡ num numbersWidth (m .numbers) j 41
+    last-held e =
+        let s : (j * 42 + 41) / 42 ≡ j = omega arith in
+        getD-drop 1293 (d .numbers) (j * 42 + 41) nan
+        ∙ k .joints (j * 42 + 41) (omega arith) (λ q. ap (λ (n : ℕ). eqb (getD (m .words) (n * 11 + 10) 0) 0) s ∙ e)
+
+    word-held : (c : ℕ) → c < 11 → word wordsWidth (d .words) j c ≡ canonical c (word wordsWidth (m .words) j c)
+    word-held c r =
+        let s : j * 11 + c ≡ 0 + (j * 11 + c) = omega arith in
+        ap (λ (n : ℕ). getD (d .words) n 0) s ∙ k .words (j * 11 + c) (omega arith) tt ∙ canonical-at m j c r
+
+    joint-held : jointAt (d .words) (jointsRead d) j ≡ jointAt (m .words) (m .numbers) j
+    unfolding jointAt canonical
+    joint-held =
+        joint-same (num numbersWidth (jointsRead d) j) (num numbersWidth (m .numbers) j) (word wordsWidth (d .words) j) (word wordsWidth (m .words) j) number-held last-held
+        (word-held 2 (omega arith)) (word-held 3 (omega arith)) (word-held 4 (omega arith)) (word-held 5 (omega arith)) (word-held 6 (omega arith)) (word-held 7 (omega arith))
+        (word-held 8 (omega arith)) (word-held 9 (omega arith)) (word-held 10 (omega arith))
+
+    center-held : centerAt (d .words) (jointsRead d) j ≡ centerAt (m .words) (m .numbers) j
+    unfolding centerAt canonical
+    center-held =
+        center-same (num numbersWidth (jointsRead d) j) (num numbersWidth (m .numbers) j) (word wordsWidth (d .words) j) (word wordsWidth (m .words) j) number-held last-held
+        (word-held 2 (omega arith)) (word-held 3 (omega arith)) (word-held 4 (omega arith)) (word-held 5 (omega arith)) (word-held 6 (omega arith)) (word-held 7 (omega arith))
+        (word-held 8 (omega arith)) (word-held 9 (omega arith)) (word-held 10 (omega arith))
+
+    body1-held : body1At (d .words) j ≡ body1At (m .words) j
+    unfolding body1At canonical
+    body1-held = word-held 0 (omega arith)
+
+    body2-held : body2At (d .words) j ≡ body2At (m .words) j
+    unfolding body2At canonical
+    body2-held = word-held 1 (omega arith)
+
+-- ---- from the first line to the last
+
+module _ (m : Model) (p : Printable m) (numbers : List Float) (origins words names : List ℕ) (r : Room numbers origins words names) where
+  abbrev text : List ℕ
+  text = studyText m
+
+  abbrev nb : ℕ
+  nb = bodyCount (m .bodies)
+
+  abbrev nj : ℕ
+  nj = jointCount (m .words) (m .numbers)
+
+  abbrev first : Draft
+  first = draft start (puts 0 settingsDefaults numbers) origins words names
+
+  abbrev last : Draft
+  last = readAll text (studyLines m) first
+
+  joint-fine : (k : ℕ) → k < nj → Fine m nb k
+  joint-fine k l = fine m k (p .masks k l) (p .present k l)
+
+  sizes : (length (studyText m) < 4294967295) × (length (studyLines m) ≤ length (studyText m))
+  sizes = study-size m (p .few-bodies) (p .few-joints) (λ k l. fine-small m nb k (p .few-bodies) (joint-fine k l))
+
+  -- before the first line nothing is held
+  start-on : (ls : List Line) → text ≡ linesText ls → On text m 0 0 0 0 0 0 0 0 0 ls first
+  start-on ls e =
+      record {
+        here = record { at = 0; state = refl; left = e };
+        kept =
+            record {
+              numbersRoom = rw (puts-length 0 settingsDefaults numbers) (r .numbers-room);
+              originsRoom = r .origins-room;
+              wordsRoom = r .words-room;
+              namesRoom = r .names-room;
+              settings = λ c q u. absurd (let z : ⊥ = omega arith in z);
+              bodies = λ c q u. absurd (let z : ⊥ = omega arith in z);
+              joints = λ c q u. absurd (let z : ⊥ = omega arith in z);
+              words = λ c q u. absurd (let z : ⊥ = omega arith in z);
+              bodyNames = λ c q. absurd (let z : ⊥ = omega arith in z);
+              jointNames = λ c q. absurd (let z : ⊥ = omega arith in z);
+              centers = λ c q. absurd (let z : ⊥ = omega arith in z);
+            };
+      }
+
+  abbrev bodyPart : List Line
+  bodyPart = bodiesFrom (m .bodies) 0 nb
+
+  abbrev jointPart : List Line
+  jointPart = jointsFrom (m .words) (m .numbers) 0 nj
+
+  abbrev d1 : Draft
+  d1 = readAll text (settingsLines (m .params)) first
+
+  after-settings : Between text m 0 0 0 0 0 (bodyPart ++ (jointPart ++ [])) d1
+  unfolding studyText studyLines
+  after-settings =
+      record {
+        kind = 1;
+        item = 0;
+        no-call = refl;
+        on′ =
+            settings-read (studyText m) m (p .f32) {ls = bodyPart ++ (jointPart ++ [])} {d = first}
+            (start-on (settingsLines (m .params) ++ (bodyPart ++ (jointPart ++ []))) (ap (λ (l : List Line). linesText (settingsLines (m .params) ++ (bodyPart ++ l))) (sym (append-nil jointPart))));
+      }
+
+  after-bodies : Between text m nb 0 (nb * 10) 0 0 (jointPart ++ []) (readAll text bodyPart d1)
+  after-bodies =
+      let e : 0 + nb ≡ nb = omega arith in
+      let b = bodies-read text (sizes .0) m (p .f32) nb 0 (jointPart ++ []) d1 (omega (arith, p .few-bodies)) after-settings in
+      subst (λ (n : ℕ). Between text m n 0 (n * 10) 0 0 (jointPart ++ []) (readAll text bodyPart d1)) e b
+
+  after-joints : Between text m nb nj (nb * 10) (nj * 42) (nj * 11) [] (readAll text jointPart (readAll text bodyPart d1))
+  after-joints =
+      let e : 0 + nj ≡ nj = omega arith in
+      let b = joints-read text (sizes .0) m (p .f32) nb (p .few-bodies) nj 0 [] (readAll text bodyPart d1) (omega (arith, p .few-joints)) (λ k l. joint-fine k (omega arith)) after-bodies in
+      subst (λ (n : ℕ). Between text m nb n (nb * 10) (n * 42) (n * 11) [] (readAll text jointPart (readAll text bodyPart d1))) e b
+
+  last-parts : last ≡ readAll text jointPart (readAll text bodyPart d1)
+  unfolding studyLines
+  last-parts = all-append text (settingsLines (m .params)) (bodyPart ++ jointPart) first ∙ all-append text bodyPart jointPart d1
+
+  after-all : Between text m nb nj (nb * 10) (nj * 42) (nj * 11) [] last
+  after-all = subst (λ (d : Draft). Between text m nb nj (nb * 10) (nj * 42) (nj * 11) [] d) (sym last-parts) after-joints
+
+  abbrev state′ : State
+  state′ = last .state
+
+  at-state : state′ ≡ on (after-all .on′ .here .at) (after-all .kind) (after-all .item) nb nj
+  at-state = after-all .on′ .here .state
+
+  all-read : linesRead text (length text) first ≡ last
+  unfolding linesText
+  all-read =
+      let n = length text - length (studyLines m) in
+      let e : length text ≡ length (studyLines m) + n = omega (arith, sizes .1) in
+      ap (λ (c : ℕ). linesRead text c first) e
+      ∙ all-lines text (studyLines m) n first
+      ∙ at-end text last (ap (λ (s : State). s .fault) at-state) (after-all .on′ .here .left) n
+
+  -- no `repeat` is open
+  no-repeat : ended state′ ≡ state′
+  unfolding ended
+  no-repeat = ap ended at-state ∙ sym at-state
+
+  read-is : readStudy text numbers origins words names ≡ last
+  unfolding readStudy
+  read-is =
+      let j : state′ .joints ≡ nj = ap (λ (s : State). s .joints) at-state in
+      ap (λ (d : Draft). centerJoints 0 (ended (d .state) .joints) (withState d (ended (d .state)))) all-read
+      ∙ ap (λ (s : State). centerJoints 0 (s .joints) (withState last s)) no-repeat
+      ∙ no-centers text m 3 (nb * 10) (nj * 42) (nj * 11) nb nj nj last (after-all .on′ .kept) (p .few-joints) (state′ .joints) 0 (omega arith)
+
+  last-read : IsRead m last
+  last-read =
+      let k = after-all .on′ .kept in
+      record {
+        no-fault = ap (λ (s : State). s .fault) at-state;
+        body-count = ap (λ (s : State). s .bodies) at-state;
+        joint-count = ap (λ (s : State). s .joints) at-state;
+        settings = settings-held text m nb nj last k;
+        bodies = body-held text m nb nj last k;
+        joints = joint-held text m nb nj last k;
+        centers = center-held text m nb nj last k;
+        bodies1 = body1-held text m nb nj last k;
+        bodies2 = body2-held text m nb nj last k;
+      }
+
+pub read-back : ReadsBack
+read-back m p numbers origins words names r = subst (IsRead m) (sym (read-is m p numbers origins words names r)) (last-read m p numbers origins words names r)
+
+-- in storage of its full size, with nothing in it before
+pub study-back : StudyBack
+unfolding studyOf
+study-back m p =
+    read-back m p (replicate 6711 (bits 0)) (replicate 8130 0) (replicate 1419 0) (replicate 516 0)
+    (record {
+      numbers-room = rw length-replicate (omega arith);
+      origins-room = rw length-replicate (omega arith);
+      words-room = rw length-replicate (omega arith);
+      names-room = rw length-replicate (omega arith);
+    })

@@ -1,0 +1,83 @@
+-- What the printed lines of a joint's masks and words say, and the line of the settings.
+use mathlib.Core.Path.{_≡_, refl, _∙_}
+use mathlib.Core.Bool.{Bool, true, false, cond}
+use mathlib.Core.List.{List, [], _∷_}
+use Prim.Native.Nat.{ℕ, _+_, _-_, _≤_, _<_}
+use native.Mathlib.Omega.{arith}
+use borrow.Author.Tests.{ne-eqb, lt-ltb, le-ltb}
+use lib.Dec.{eqb}
+use lib.ListN.{drop}
+use Rattle.motor_table.specs.Text.{decimal}
+use Rattle.study_reader.specs.Ascii.{ascii}
+use Rattle.study_reader.specs.Words.{nextWord, sameBytes, isWord}
+use Rattle.study_reader.specs.Keywords.{meaning, axisWords}
+use Rattle.study_reader.specs.Items.{whole, maskLine, modelLine, wordLine, openLine, itemLine, lineOf}
+use Rattle.study_reader.specs.declared.draft.State.{State}
+use Rattle.study_reader.specs.declared.items.Change.the-variants.{JointWord, OpenSettings}
+use Rattle.study_writer.specs.Text.{lineOnto, modelWord}
+use Rattle.study_writer.proofs.Lexical.{proper, first-word, further-word, no-word}
+use Rattle.study_writer.proofs.Spelling.{decimal-proper, whole-read}
+use Rattle.study_writer.proofs.NumberLines.{itemTable, callTable, JointKeyword, item-line, keyword-line}
+
+abbrev pub Worded : List ℕ → List ℕ → State → ℕ → ℕ → Type 0
+Worded text names st place value = (a : ℕ) × (lineOf text names st ≡ JointWord place value a)
+
+module _ (text names : List ℕ) (st : State) (kw rest : List ℕ) where
+  abbrev w₁ : ℕ
+  w₁ = nextWord text (st .at) .end
+
+  pub mask-line : (k m : ℕ) → drop (st .at) text ≡ lineOnto (kw ∷ decimal m ∷ []) rest → JointKeyword kw k → 8 ≤ k → k < 12 → st .kind ≡ 3
+      → m ≤ 4294967289 → Worded text names st (2 + (k - 8)) m
+  unfolding wordLine maskLine whole
+  mask-line k m h f l u e small =
+      let s = first-word text (st .at) kw (decimal m ∷ []) rest h (f .is-proper) in
+      let v = further-word text w₁ (decimal m) [] rest (s .after) (decimal-proper m) in (
+        nextWord text w₁ .start,
+        keyword-line text names st kw (decimal m ∷ []) rest h k f (omega arith) (omega arith) e
+            ∙ simp (le-ltb k 8 l, lt-ltb k 12 u, v .bytes, whole-read m small, no-word text (nextWord text w₁ .end) rest (v .after)),
+      )
+
+  module _ (axis : ℕ) (aw : List ℕ) (pa : proper aw ≡ true) (am : meaning axisWords 3 aw ≡ axis) (small : axis < 3) where
+    model-cases : (t : Bool) → drop (st .at) text ≡ lineOnto (kw ∷ aw ∷ cond t (ascii "acceleration") (ascii "force") ∷ []) rest → JointKeyword kw 12
+        → st .kind ≡ 3 → Worded text names st (6 + axis) (cond t 0 1)
+    unfolding wordLine modelLine whole isWord sameBytes
+    model-cases true h f e =
+        let s = first-word text (st .at) kw (aw ∷ ascii "acceleration" ∷ []) rest h (f .is-proper) in
+        let r = further-word text w₁ aw (ascii "acceleration" ∷ []) rest (s .after) pa in
+        let at = nextWord text w₁ .end in
+        let v = further-word text at (ascii "acceleration") [] rest (r .after) refl in (
+          nextWord text at .start,
+          keyword-line text names st kw (aw ∷ ascii "acceleration" ∷ []) rest h 12 f (omega arith) (omega arith) e
+              ∙ simp (r .bytes, am, le-ltb 2 axis (omega arith), v .bytes, no-word text (nextWord text at .end) rest (v .after)),
+        )
+    model-cases false h f e =
+        let s = first-word text (st .at) kw (aw ∷ ascii "force" ∷ []) rest h (f .is-proper) in
+        let r = further-word text w₁ aw (ascii "force" ∷ []) rest (s .after) pa in
+        let at = nextWord text w₁ .end in
+        let v = further-word text at (ascii "force") [] rest (r .after) refl in (
+          nextWord text at .start,
+          keyword-line text names st kw (aw ∷ ascii "force" ∷ []) rest h 12 f (omega arith) (omega arith) e
+              ∙ simp (r .bytes, am, le-ltb 2 axis (omega arith), v .bytes, no-word text (nextWord text at .end) rest (v .after)),
+        )
+
+    pub model-line : (m : ℕ) → drop (st .at) text ≡ lineOnto (kw ∷ aw ∷ modelWord m ∷ []) rest → JointKeyword kw 12 → st .kind ≡ 3
+        → Worded text names st (6 + axis) (cond (eqb m 0) 0 1)
+    unfolding modelWord
+    model-line m h f e = model-cases (eqb m 0) h f e
+
+  pub enabled-line : (k : ℕ) → drop (st .at) text ≡ lineOnto (kw ∷ []) rest → JointKeyword kw k → 13 ≤ k → k < 16 → st .kind ≡ 3
+      → Worded text names st 9 (k - 13)
+  unfolding wordLine whole
+  enabled-line k h f l u e =
+      let s = first-word text (st .at) kw [] rest h (f .is-proper) in (
+        nextWord text (st .at) .start,
+        keyword-line text names st kw [] rest h k f (omega arith) (omega arith) e
+            ∙ simp (le-ltb k 8 (omega arith), le-ltb k 12 (omega arith), ne-eqb k 12 (λ q. omega arith), ne-eqb k 16 (λ q. omega arith), no-word text w₁ rest (s .after)),
+      )
+
+  pub settings-line : drop (st .at) text ≡ lineOnto (kw ∷ []) rest → proper kw ≡ true → callTable kw ≡ 0 → itemTable kw ≡ 20 → eqb (st .kind) 4 ≡ false
+      → lineOf text names st ≡ OpenSettings
+  unfolding itemLine openLine whole
+  settings-line h p c i k =
+      let s = first-word text (st .at) kw [] rest h p in
+      item-line text names st kw [] rest h p c ∙ simp (s .bytes, i, k, no-word text w₁ rest (s .after))

@@ -1,0 +1,12 @@
+-- `body_count` meets its contract.
+use Rattle.model.specs.Model.{bodyCount}
+use borrow.Author.Needs.{needs}
+use Rattle.study_writer.proofs.study.body_count.Statement.{statement}
+use Rattle.study_writer.proofs.study.body_count.Tie as tie
+
+returns : tie.Need-returns
+unfolding bodyCount
+returns c = search needs
+
+pub body-count-spec : {M : Type 1} → statement M
+body-count-spec = tie.close (tie.spec returns)

@@ -1,0 +1,81 @@
+-- Print, then read: the text of a model that rules 1 to 4 let through is read with no fault, and what is read is the model. It is stated over the model as the
+-- rows decode it (jointAt of crates/model/specs/Store.antt): of words that mean the same, such as a motor model of 7 for 1, one spelling is printed, and the
+-- number beside a typed angle, which is nobody's, is not printed.
+use Prim.Native.Nat.{ℕ, _≤_, _<_}
+use mathlib.Core.Path.{_≡_}
+use mathlib.Core.Bool.{true}
+use mathlib.Core.List.{List}
+use lib.Dec.{T}
+use lib.Ieee.{Float, nan, binary32, fits}
+use lib.ListN.{length, getD, drop}
+use Rattle.rows.specs.declared.integration_parameters.IntegrationParameters.{IntegrationParameters}
+use Rattle.model.specs.Layout.{bodyWidth}
+use Rattle.model.specs.Records.{num}
+use Rattle.model.specs.Store.{jointAt, centerAt, body1At, body2At}
+use Rattle.model.specs.Model.{Model, mostBodies, mostJoints, bodyCount, jointCount}
+use Rattle.model.specs.Refusals.{masksFit, bodiesPresent}
+use Rattle.study_reader.specs.Storage.{numbersSize, wordsSize}
+use Rattle.study_reader.specs.Draft.{Draft}
+use Rattle.study_reader.specs.Study.{readStudy, studyOf}
+use Rattle.study_writer.specs.Text.{studyText}
+
+-- every number is an f32, as the slices that hold them have it
+abbrev pub IsF32 : Float → Type 0
+IsF32 x = T (fits binary32 x)
+
+pub record AllF32 (m : Model) : Type 0 where
+  pub dt : IsF32 (m .params .dt)
+  pub length-unit : IsF32 (m .params .«length_unit»)
+  pub max-velocity : IsF32 (m .params .«normalized_max_corrective_velocity»)
+  pub bodies : (c : ℕ) → IsF32 (getD (m .bodies) c nan)
+  pub numbers : (c : ℕ) → IsF32 (getD (m .numbers) c nan)
+
+-- rules 1 to 4: few enough bodies and joints, masks of the three axes, and each joint's bodies present or the world
+pub record Printable (m : Model) : Type 0 where
+  pub f32 : AllF32 m
+  pub few-bodies : bodyCount (m .bodies) ≤ mostBodies
+  pub few-joints : jointCount (m .words) (m .numbers) ≤ mostJoints
+  pub masks : (j : ℕ) → j < jointCount (m .words) (m .numbers) → masksFit (m .words) j ≡ true
+  pub present : (j : ℕ) → j < jointCount (m .words) (m .numbers) → bodiesPresent (m .bodies) (m .words) j ≡ true
+
+-- the storage that the reading is lent; what it holds does not matter
+pub record Room (numbers : List Float) (origins words names : List ℕ) : Type 0 where
+  pub numbers-room : numbersSize ≤ length numbers
+  pub origins-room : numbersSize ≤ length origins
+  pub words-room : wordsSize ≤ length words
+  pub names-room : 516 ≤ length names
+
+-- where the bodies and the joints start in what is read (Storage.antt of study_reader)
+abbrev pub bodiesRead : Draft → List Float
+bodiesRead d = drop 3 (d .numbers)
+
+abbrev pub jointsRead : Draft → List Float
+jointsRead d = drop 1293 (d .numbers)
+
+abbrev pub settingsRead : Draft → IntegrationParameters
+settingsRead d = record {
+  dt = getD (d .numbers) 0 nan;
+  «length_unit» = getD (d .numbers) 1 nan;
+  «normalized_max_corrective_velocity» = getD (d .numbers) 2 nan;
+}
+
+-- what was read is the model, and no fault
+pub record IsRead (m : Model) (d : Draft) : Type 0 where
+  pub no-fault : d .state .fault ≡ 0
+  pub body-count : d .state .bodies ≡ bodyCount (m .bodies)
+  pub joint-count : d .state .joints ≡ jointCount (m .words) (m .numbers)
+  pub settings : settingsRead d ≡ m .params
+  pub bodies : (i k : ℕ) → i < bodyCount (m .bodies) → k < bodyWidth → num bodyWidth (bodiesRead d) i k ≡ num bodyWidth (m .bodies) i k
+  pub joints : (j : ℕ) → j < jointCount (m .words) (m .numbers) → jointAt (d .words) (jointsRead d) j ≡ jointAt (m .words) (m .numbers) j
+  pub centers : (j : ℕ) → j < jointCount (m .words) (m .numbers) → centerAt (d .words) (jointsRead d) j ≡ centerAt (m .words) (m .numbers) j
+  pub bodies1 : (j : ℕ) → j < jointCount (m .words) (m .numbers) → body1At (d .words) j ≡ body1At (m .words) j
+  pub bodies2 : (j : ℕ) → j < jointCount (m .words) (m .numbers) → body2At (d .words) j ≡ body2At (m .words) j
+
+-- The theorem, proved in proofs/ReadBackLaws.antt: `read-back`, into any storage that is large enough; `study-back`, as the study that the text describes.
+abbrev pub ReadsBack : Type 0
+ReadsBack =
+    (m : Model) → Printable m → (numbers : List Float) (origins words names : List ℕ) → Room numbers origins words names
+    → IsRead m (readStudy (studyText m) numbers origins words names)
+
+abbrev pub StudyBack : Type 0
+StudyBack = (m : Model) → Printable m → IsRead m (studyOf (studyText m))

@@ -1,0 +1,167 @@
+// Lines of words and numbers. Numbers and words are read from a slice: number k of the record that starts at place o.
+ghost use mathlib.Core.List.{[], _∷_};
+ghost use Prim.Native.Nat.{_+_, _≤_};
+ghost use lib.ListN.{length, getD};
+ghost use lib.Ieee.{nan};
+ghost use Rattle.motor_table.specs.Text.{decimal};
+ghost use Rattle.study_reader.specs.Ascii.{ascii};
+ghost use Rattle.study_writer.specs.Text.{BLANK, linesText, numberWord, bodyWord, jointWord, endWord, modelWord, enabledWord, centerLine};
+ghost use Rattle.study_writer.specs.Sink.{Sunk};
+use crate::sink::put_byte;
+use crate::sink::put_decimal;
+use crate::sink::put_number;
+use crate::sink::put_text;
+use crate::sink::put_word;
+
+// ---- numbers
+
+pub fn put_one(out: &mut [u8], at: usize, name: &[u8], s: &[f32], o: usize, k: usize) -> usize
+    requires { ⌜ o + (k + 1) ≤ length (now s) ⌝ }
+    ensures { λ r. ⌜ Sunk (now (out .entry)) at (linesText ((now (name .entry) ∷ numberWord (getD (now (s .entry)) (o + k) nan) ∷ []) ∷ [])) (now (out .exit)) r ⌝ }
+{
+    let a = put_text(&mut *out, at, name);
+    let b = put_number(&mut *out, a, s[o + k]);
+    put_byte(&mut *out, b, b'\n')
+}
+
+pub fn put_two(out: &mut [u8], at: usize, name: &[u8], s: &[f32], o: usize, k: usize) -> usize
+    requires { ⌜ o + (k + 2) ≤ length (now s) ⌝ }
+    ensures { λ r. ⌜ Sunk (now (out .entry)) at (linesText ((now (name .entry) ∷ numberWord (getD (now (s .entry)) (o + k) nan) ∷ numberWord (getD (now (s .entry)) (o + (k + 1)) nan) ∷ []) ∷ [])) (now (out .exit)) r ⌝ }
+{
+    let a = put_text(&mut *out, at, name);
+    let b = put_number(&mut *out, a, s[o + k]);
+    let c = put_number(&mut *out, b, s[o + (k + 1)]);
+    put_byte(&mut *out, c, b'\n')
+}
+
+pub fn put_one_of(
+    out: &mut [u8],
+    at: usize,
+    name: &[u8],
+    axis: &[u8],
+    s: &[f32],
+    o: usize,
+    k: usize,
+) -> usize
+    requires { ⌜ o + (k + 1) ≤ length (now s) ⌝ }
+    ensures { λ r. ⌜ Sunk (now (out .entry)) at (linesText ((now (name .entry) ∷ now (axis .entry) ∷ numberWord (getD (now (s .entry)) (o + k) nan) ∷ []) ∷ [])) (now (out .exit)) r ⌝ }
+{
+    let a = put_text(&mut *out, at, name);
+    let b = put_word(&mut *out, a, axis);
+    let c = put_number(&mut *out, b, s[o + k]);
+    put_byte(&mut *out, c, b'\n')
+}
+
+pub fn put_two_of(
+    out: &mut [u8],
+    at: usize,
+    name: &[u8],
+    axis: &[u8],
+    s: &[f32],
+    o: usize,
+    k: usize,
+) -> usize
+    requires { ⌜ o + (k + 2) ≤ length (now s) ⌝ }
+    ensures { λ r. ⌜ Sunk (now (out .entry)) at (linesText ((now (name .entry) ∷ now (axis .entry) ∷ numberWord (getD (now (s .entry)) (o + k) nan) ∷ numberWord (getD (now (s .entry)) (o + (k + 1)) nan) ∷ []) ∷ [])) (now (out .exit)) r ⌝ }
+{
+    let a = put_text(&mut *out, at, name);
+    let b = put_word(&mut *out, a, axis);
+    let c = put_number(&mut *out, b, s[o + k]);
+    let d = put_number(&mut *out, c, s[o + (k + 1)]);
+    put_byte(&mut *out, d, b'\n')
+}
+
+// ---- names
+
+fn put_body_word(out: &mut [u8], at: usize, i: u32) -> usize
+    ensures { λ r. ⌜ Sunk (now (out .entry)) at (BLANK ∷ bodyWord i) (now (out .exit)) r ⌝ }
+{
+    let a = put_text(&mut *out, at, b" b");
+    put_decimal(&mut *out, a, i)
+}
+
+fn put_joint_word(out: &mut [u8], at: usize, j: u32) -> usize
+    ensures { λ r. ⌜ Sunk (now (out .entry)) at (BLANK ∷ jointWord j) (now (out .exit)) r ⌝ }
+{
+    let a = put_text(&mut *out, at, b" j");
+    put_decimal(&mut *out, a, j)
+}
+
+// A joint's body: a body's name, or the world's.
+fn put_end(out: &mut [u8], at: usize, i: u32) -> usize
+    ensures { λ r. ⌜ Sunk (now (out .entry)) at (BLANK ∷ endWord i) (now (out .exit)) r ⌝ }
+{
+    if i == 4294967295 {
+        return put_text(&mut *out, at, b" world");
+    }
+    put_body_word(&mut *out, at, i)
+}
+
+pub fn put_body_line(out: &mut [u8], at: usize, i: u32) -> usize
+    ensures { λ r. ⌜ Sunk (now (out .entry)) at (linesText ((ascii "body" ∷ bodyWord i ∷ []) ∷ [])) (now (out .exit)) r ⌝ }
+{
+    let a = put_text(&mut *out, at, b"body");
+    let b = put_body_word(&mut *out, a, i);
+    put_byte(&mut *out, b, b'\n')
+}
+
+pub fn put_joint_line(out: &mut [u8], at: usize, j: u32, body1: u32, body2: u32) -> usize
+    ensures { λ r. ⌜ Sunk (now (out .entry)) at (linesText ((ascii "joint" ∷ jointWord j ∷ endWord body1 ∷ endWord body2 ∷ []) ∷ [])) (now (out .exit)) r ⌝ }
+{
+    let a = put_text(&mut *out, at, b"joint");
+    let b = put_joint_word(&mut *out, a, j);
+    let c = put_end(&mut *out, b, body1);
+    let d = put_end(&mut *out, c, body2);
+    put_byte(&mut *out, d, b'\n')
+}
+
+// ---- words
+
+pub fn put_mask(out: &mut [u8], at: usize, name: &[u8], mask: u32) -> usize
+    ensures { λ r. ⌜ Sunk (now (out .entry)) at (linesText ((now (name .entry) ∷ decimal mask ∷ []) ∷ [])) (now (out .exit)) r ⌝ }
+{
+    let a = put_text(&mut *out, at, name);
+    let b = put_byte(&mut *out, a, b' ');
+    let c = put_decimal(&mut *out, b, mask);
+    put_byte(&mut *out, c, b'\n')
+}
+
+fn put_model_word(out: &mut [u8], at: usize, m: u32) -> usize
+    ensures { λ r. ⌜ Sunk (now (out .entry)) at (BLANK ∷ modelWord m) (now (out .exit)) r ⌝ }
+{
+    if m == 0 {
+        return put_text(&mut *out, at, b" acceleration");
+    }
+    put_text(&mut *out, at, b" force")
+}
+
+pub fn put_model(out: &mut [u8], at: usize, axis: &[u8], m: u32) -> usize
+    ensures { λ r. ⌜ Sunk (now (out .entry)) at (linesText ((ascii "motor_model" ∷ now (axis .entry) ∷ modelWord m ∷ []) ∷ [])) (now (out .exit)) r ⌝ }
+{
+    let a = put_text(&mut *out, at, b"motor_model");
+    let b = put_word(&mut *out, a, axis);
+    let c = put_model_word(&mut *out, b, m);
+    put_byte(&mut *out, c, b'\n')
+}
+
+pub fn put_enabled(out: &mut [u8], at: usize, e: u32) -> usize
+    ensures { λ r. ⌜ Sunk (now (out .entry)) at (linesText ((enabledWord e ∷ []) ∷ [])) (now (out .exit)) r ⌝ }
+{
+    if e == 0 {
+        return put_text(&mut *out, at, b"enabled\n");
+    }
+    if e == 1 {
+        return put_text(&mut *out, at, b"disabled_by_attached_body\n");
+    }
+    put_text(&mut *out, at, b"disabled\n")
+}
+
+pub fn put_center(out: &mut [u8], at: usize, choice: u32, s: &[f32], o: usize) -> usize
+    requires { ⌜ o + 42 ≤ length (now s) ⌝ }
+    ensures { λ r. ⌜ Sunk (now (out .entry)) at (linesText (centerLine choice (getD (now (s .entry)) (o + 40) nan) (getD (now (s .entry)) (o + 41) nan) ∷ [])) (now (out .exit)) r ⌝ }
+{
+    if choice == 0 {
+        return put_two(&mut *out, at, b"center", s, o, 40);
+    }
+    put_one(&mut *out, at, b"center_angle", s, o, 40)
+}

@@ -1,0 +1,318 @@
+// The text of a model, written.
+ghost use mathlib.Core.Path.{_≡_};
+ghost use mathlib.Core.List.{[], _∷_, _++_};
+ghost use Prim.Native.Nat.{_+_, _*_, _≤_};
+ghost use lib.ListN.{length, getD, take, drop};
+ghost use lib.Ieee.{nan};
+ghost use Rattle.catalogue.specs.Text.{written};
+ghost use Rattle.model.specs.Layout.{bodyWidth, wordsWidth, numbersWidth};
+ghost use Rattle.model.specs.Records.{num, word};
+ghost use Rattle.model.specs.Model.{modelOf, bodyCount, jointCount};
+ghost use Rattle.motor_table.specs.Text.{decimal};
+ghost use Rattle.study_reader.specs.Ascii.{ascii};
+ghost use Rattle.study_writer.specs.Text.{linesText, numberWord, modelWord, settingsLines, bodyLines, bodiesFrom, jointHead, frameLines, allLimitsLines, allMotorsLines, softnessLines, jointLines, jointsFrom};
+ghost use Rattle.study_writer.specs.Sink.{Sunk, printedText};
+use crate::lines::put_body_line;
+use crate::lines::put_center;
+use crate::lines::put_enabled;
+use crate::lines::put_joint_line;
+use crate::lines::put_mask;
+use crate::lines::put_model;
+use crate::lines::put_one;
+use crate::lines::put_one_of;
+use crate::lines::put_two;
+use crate::lines::put_two_of;
+use crate::sink::put_text;
+use model::header::Header;
+use rows::integration_parameters::IntegrationParameters;
+
+fn put_settings(out: &mut [u8], at: usize, params: IntegrationParameters) -> usize
+    ensures { λ r. ⌜ Sunk (now (out .entry)) at (linesText (settingsLines params)) (now (out .exit)) r ⌝ }
+{
+    let s = [
+        params.dt,
+        params.length_unit,
+        params.normalized_max_corrective_velocity,
+    ];
+    let a = put_text(&mut *out, at, b"settings\n");
+    let b = put_one(&mut *out, a, b"dt", &s, 0, 0);
+    let c = put_one(&mut *out, b, b"length_unit", &s, 0, 1);
+    put_one(
+        &mut *out,
+        c,
+        b"normalized_max_corrective_velocity",
+        &s,
+        0,
+        2,
+    )
+}
+
+// ---- bodies
+
+fn put_pose(out: &mut [u8], at: usize, i: u32, s: &[f32]) -> usize
+    requires { ⌜ i * 10 + 10 ≤ length (now s) ⌝ }
+    ensures { λ r. ⌜ Sunk (now (out .entry)) at (linesText (take 3 (bodyLines i (num bodyWidth (now (s .entry)) i)))) (now (out .exit)) r ⌝ }
+{
+    let o = i as usize * 10;
+    let a = put_body_line(&mut *out, at, i);
+    let b = put_two(&mut *out, a, b"rotation", s, o, 0);
+    put_two(&mut *out, b, b"position", s, o, 2)
+}
+
+fn put_masses(out: &mut [u8], at: usize, i: u32, s: &[f32]) -> usize
+    requires { ⌜ i * 10 + 10 ≤ length (now s) ⌝ }
+    ensures { λ r. ⌜ Sunk (now (out .entry)) at (linesText (drop 3 (bodyLines i (num bodyWidth (now (s .entry)) i)))) (now (out .exit)) r ⌝ }
+{
+    let o = i as usize * 10;
+    let a = put_one(&mut *out, at, b"inverse_inertia", s, o, 4);
+    let b = put_two(&mut *out, a, b"inverse_masses", s, o, 5);
+    let c = put_two(&mut *out, b, b"velocity", s, o, 7);
+    put_one(&mut *out, c, b"angular_velocity", s, o, 9)
+}
+
+fn put_body(out: &mut [u8], at: usize, i: u32, bodies: &[f32]) -> usize
+    requires { ⌜ i * 10 + 10 ≤ length (now bodies) ⌝ }
+    ensures { λ r. ⌜ Sunk (now (out .entry)) at (linesText (bodyLines i (num bodyWidth (now (bodies .entry)) i))) (now (out .exit)) r ⌝ }
+{
+    let a = put_pose(&mut *out, at, i, bodies);
+    put_masses(&mut *out, a, i, bodies)
+}
+
+fn put_bodies(out: &mut [u8], at: usize, n: u32, bodies: &[f32]) -> usize
+    requires { ⌜ n * 10 ≤ length (now bodies) ⌝ }
+    ensures { λ r. ⌜ Sunk (now (out .entry)) at (linesText (bodiesFrom (now (bodies .entry)) 0 n)) (now (out .exit)) r ⌝ }
+{
+    let mut end = at;
+    let mut i: u32 = 0;
+    while i < n {
+        end = put_body(&mut *out, end, i, bodies);
+        i += 1;
+    }
+    end
+}
+
+// ---- joints
+
+fn put_masks(out: &mut [u8], at: usize, words: &[u32], o: usize) -> usize
+    requires { ⌜ o + 11 ≤ length (now words) ⌝ }
+    ensures { λ r. ⌜ Sunk (now (out .entry)) at (linesText ((ascii "lock" ∷ decimal (getD (now (words .entry)) (o + 2) 0) ∷ []) ∷ (ascii "limit" ∷ decimal (getD (now (words .entry)) (o + 3) 0) ∷ []) ∷ (ascii "motor" ∷ decimal (getD (now (words .entry)) (o + 4) 0) ∷ []) ∷ (ascii "couple" ∷ decimal (getD (now (words .entry)) (o + 5) 0) ∷ []) ∷ [])) (now (out .exit)) r ⌝ }
+{
+    let a = put_mask(&mut *out, at, b"lock", words[o + 2]);
+    let b = put_mask(&mut *out, a, b"limit", words[o + 3]);
+    let c = put_mask(&mut *out, b, b"motor", words[o + 4]);
+    put_mask(&mut *out, c, b"couple", words[o + 5])
+}
+
+fn put_models(out: &mut [u8], at: usize, words: &[u32], o: usize) -> usize
+    requires { ⌜ o + 11 ≤ length (now words) ⌝ }
+    ensures { λ r. ⌜ Sunk (now (out .entry)) at (linesText ((ascii "motor_model" ∷ ascii "x" ∷ modelWord (getD (now (words .entry)) (o + 6) 0) ∷ []) ∷ (ascii "motor_model" ∷ ascii "y" ∷ modelWord (getD (now (words .entry)) (o + 7) 0) ∷ []) ∷ (ascii "motor_model" ∷ ascii "angle" ∷ modelWord (getD (now (words .entry)) (o + 8) 0) ∷ []) ∷ [])) (now (out .exit)) r ⌝ }
+{
+    let a = put_model(&mut *out, at, b"x", words[o + 6]);
+    let b = put_model(&mut *out, a, b"y", words[o + 7]);
+    put_model(&mut *out, b, b"angle", words[o + 8])
+}
+
+fn put_head(out: &mut [u8], at: usize, j: u32, words: &[u32]) -> usize
+    requires { ⌜ j * 11 + 11 ≤ length (now words) ⌝ }
+    ensures { λ r. ⌜ Sunk (now (out .entry)) at (linesText (jointHead j (word wordsWidth (now (words .entry)) j))) (now (out .exit)) r ⌝ }
+{
+    let o = j as usize * 11;
+    let a = put_joint_line(&mut *out, at, j, words[o], words[o + 1]);
+    let b = put_masks(&mut *out, a, words, o);
+    let c = put_models(&mut *out, b, words, o);
+    put_enabled(&mut *out, c, words[o + 9])
+}
+
+fn put_frames(out: &mut [u8], at: usize, s: &[f32], o: usize) -> usize
+    requires { ⌜ o + 42 ≤ length (now s) ⌝ }
+    ensures { λ r. ⌜ Sunk (now (out .entry)) at (linesText (frameLines (λ k. getD (now (s .entry)) (o + k) nan))) (now (out .exit)) r ⌝ }
+{
+    let a = put_two(&mut *out, at, b"frame1_rotation", s, o, 0);
+    let b = put_two(&mut *out, a, b"frame1", s, o, 2);
+    let c = put_two(&mut *out, b, b"frame2_rotation", s, o, 4);
+    put_two(&mut *out, c, b"frame2", s, o, 6)
+}
+
+fn put_limits(out: &mut [u8], at: usize, axis: &[u8], s: &[f32], o: usize, k: usize) -> usize
+    requires { ⌜ o + (k + 3) ≤ length (now s) ⌝ }
+    ensures { λ r. ⌜ Sunk (now (out .entry)) at (linesText ((ascii "limits" ∷ now (axis .entry) ∷ numberWord (getD (now (s .entry)) (o + k) nan) ∷ numberWord (getD (now (s .entry)) (o + (k + 1)) nan) ∷ []) ∷ (ascii "limit_impulse" ∷ now (axis .entry) ∷ numberWord (getD (now (s .entry)) (o + (k + 2)) nan) ∷ []) ∷ [])) (now (out .exit)) r ⌝ }
+{
+    let a = put_two_of(&mut *out, at, b"limits", axis, s, o, k);
+    put_one_of(&mut *out, a, b"limit_impulse", axis, s, o, k + 2)
+}
+
+fn put_drive(out: &mut [u8], at: usize, axis: &[u8], s: &[f32], o: usize, k: usize) -> usize
+    requires { ⌜ o + (k + 6) ≤ length (now s) ⌝ }
+    ensures { λ r. ⌜ Sunk (now (out .entry)) at (linesText ((ascii "target_velocity" ∷ now (axis .entry) ∷ numberWord (getD (now (s .entry)) (o + k) nan) ∷ []) ∷ (ascii "target_position" ∷ now (axis .entry) ∷ numberWord (getD (now (s .entry)) (o + (k + 1)) nan) ∷ []) ∷ (ascii "stiffness" ∷ now (axis .entry) ∷ numberWord (getD (now (s .entry)) (o + (k + 2)) nan) ∷ []) ∷ [])) (now (out .exit)) r ⌝ }
+{
+    let a = put_one_of(&mut *out, at, b"target_velocity", axis, s, o, k);
+    let b = put_one_of(&mut *out, a, b"target_position", axis, s, o, k + 1);
+    put_one_of(&mut *out, b, b"stiffness", axis, s, o, k + 2)
+}
+
+fn put_force(out: &mut [u8], at: usize, axis: &[u8], s: &[f32], o: usize, k: usize) -> usize
+    requires { ⌜ o + (k + 6) ≤ length (now s) ⌝ }
+    ensures { λ r. ⌜ Sunk (now (out .entry)) at (linesText ((ascii "damping" ∷ now (axis .entry) ∷ numberWord (getD (now (s .entry)) (o + (k + 3)) nan) ∷ []) ∷ (ascii "max_force" ∷ now (axis .entry) ∷ numberWord (getD (now (s .entry)) (o + (k + 4)) nan) ∷ []) ∷ (ascii "motor_impulse" ∷ now (axis .entry) ∷ numberWord (getD (now (s .entry)) (o + (k + 5)) nan) ∷ []) ∷ [])) (now (out .exit)) r ⌝ }
+{
+    let a = put_one_of(&mut *out, at, b"damping", axis, s, o, k + 3);
+    let b = put_one_of(&mut *out, a, b"max_force", axis, s, o, k + 4);
+    put_one_of(&mut *out, b, b"motor_impulse", axis, s, o, k + 5)
+}
+
+fn put_motor(out: &mut [u8], at: usize, axis: &[u8], s: &[f32], o: usize, k: usize) -> usize
+    requires { ⌜ o + (k + 6) ≤ length (now s) ⌝ }
+    ensures { λ r. ⌜ Sunk (now (out .entry)) at (linesText ((ascii "target_velocity" ∷ now (axis .entry) ∷ numberWord (getD (now (s .entry)) (o + k) nan) ∷ []) ∷ (ascii "target_position" ∷ now (axis .entry) ∷ numberWord (getD (now (s .entry)) (o + (k + 1)) nan) ∷ []) ∷ (ascii "stiffness" ∷ now (axis .entry) ∷ numberWord (getD (now (s .entry)) (o + (k + 2)) nan) ∷ []) ∷ (ascii "damping" ∷ now (axis .entry) ∷ numberWord (getD (now (s .entry)) (o + (k + 3)) nan) ∷ []) ∷ (ascii "max_force" ∷ now (axis .entry) ∷ numberWord (getD (now (s .entry)) (o + (k + 4)) nan) ∷ []) ∷ (ascii "motor_impulse" ∷ now (axis .entry) ∷ numberWord (getD (now (s .entry)) (o + (k + 5)) nan) ∷ []) ∷ [])) (now (out .exit)) r ⌝ }
+{
+    let a = put_drive(&mut *out, at, axis, s, o, k);
+    put_force(&mut *out, a, axis, s, o, k)
+}
+
+fn put_all_limits(out: &mut [u8], at: usize, s: &[f32], o: usize) -> usize
+    requires { ⌜ o + 42 ≤ length (now s) ⌝ }
+    ensures { λ r. ⌜ Sunk (now (out .entry)) at (linesText (allLimitsLines (λ k. getD (now (s .entry)) (o + k) nan))) (now (out .exit)) r ⌝ }
+{
+    let a = put_limits(&mut *out, at, b"x", s, o, 8);
+    let b = put_limits(&mut *out, a, b"y", s, o, 11);
+    put_limits(&mut *out, b, b"angle", s, o, 14)
+}
+
+fn put_all_motors(out: &mut [u8], at: usize, s: &[f32], o: usize) -> usize
+    requires { ⌜ o + 42 ≤ length (now s) ⌝ }
+    ensures { λ r. ⌜ Sunk (now (out .entry)) at (linesText (allMotorsLines (λ k. getD (now (s .entry)) (o + k) nan))) (now (out .exit)) r ⌝ }
+{
+    let a = put_motor(&mut *out, at, b"x", s, o, 17);
+    let b = put_motor(&mut *out, a, b"y", s, o, 23);
+    put_motor(&mut *out, b, b"angle", s, o, 29)
+}
+
+fn put_spring(out: &mut [u8], at: usize, s: &[f32], o: usize) -> usize
+    requires { ⌜ o + 42 ≤ length (now s) ⌝ }
+    ensures { λ r. ⌜ Sunk (now (out .entry)) at (linesText (take 2 (softnessLines (λ k. getD (now (s .entry)) (o + k) nan) 0))) (now (out .exit)) r ⌝ }
+{
+    let a = put_one(&mut *out, at, b"natural_frequency", s, o, 35);
+    put_one(&mut *out, a, b"damping_ratio", s, o, 36)
+}
+
+fn put_impulses(out: &mut [u8], at: usize, s: &[f32], o: usize) -> usize
+    requires { ⌜ o + 42 ≤ length (now s) ⌝ }
+    ensures { λ r. ⌜ Sunk (now (out .entry)) at (linesText (take 3 (drop 2 (softnessLines (λ k. getD (now (s .entry)) (o + k) nan) 0)))) (now (out .exit)) r ⌝ }
+{
+    let a = put_one_of(&mut *out, at, b"impulse", b"x", s, o, 37);
+    let b = put_one_of(&mut *out, a, b"impulse", b"y", s, o, 38);
+    put_one_of(&mut *out, b, b"impulse", b"angle", s, o, 39)
+}
+
+fn put_softness(out: &mut [u8], at: usize, choice: u32, s: &[f32], o: usize) -> usize
+    requires { ⌜ o + 42 ≤ length (now s) ⌝ }
+    ensures { λ r. ⌜ Sunk (now (out .entry)) at (linesText (softnessLines (λ k. getD (now (s .entry)) (o + k) nan) choice)) (now (out .exit)) r ⌝ }
+{
+    let a = put_spring(&mut *out, at, s, o);
+    let b = put_impulses(&mut *out, a, s, o);
+    put_center(&mut *out, b, choice, s, o)
+}
+
+fn put_joint(out: &mut [u8], at: usize, j: u32, words: &[u32], s: &[f32]) -> usize
+    requires { ⌜ (j * 11 + 11 ≤ length (now words)) × (j * 42 + 42 ≤ length (now s)) ⌝ }
+    ensures { λ r. ⌜ Sunk (now (out .entry)) at (linesText (jointLines j (word wordsWidth (now (words .entry)) j) (num numbersWidth (now (s .entry)) j))) (now (out .exit)) r ⌝ }
+{
+    let o = j as usize * 42;
+    let p = j as usize * 11;
+    let a = put_head(&mut *out, at, j, words);
+    let b = put_frames(&mut *out, a, s, o);
+    let c = put_all_limits(&mut *out, b, s, o);
+    let d = put_all_motors(&mut *out, c, s, o);
+    put_softness(&mut *out, d, words[p + 10], s, o)
+}
+
+fn put_joints(out: &mut [u8], at: usize, n: u32, words: &[u32], s: &[f32]) -> usize
+    requires { ⌜ (n * 11 ≤ length (now words)) × (n * 42 ≤ length (now s)) ⌝ }
+    ensures { λ r. ⌜ Sunk (now (out .entry)) at (linesText (jointsFrom (now (words .entry)) (now (s .entry)) 0 n)) (now (out .exit)) r ⌝ }
+{
+    let mut end = at;
+    let mut j: u32 = 0;
+    while j < n {
+        end = put_joint(&mut *out, end, j, words, s);
+        j += 1;
+    }
+    end
+}
+
+// ---- the whole text
+
+fn body_count(bodies: &[f32]) -> usize
+    ensures { λ r. ⌜ r ≡ bodyCount (now (bodies .entry)) ⌝ }
+{
+    bodies.len() / 10
+}
+
+fn joint_count(words: &[u32], numbers: &[f32]) -> usize
+    ensures { λ r. ⌜ r ≡ jointCount (now (words .entry)) (now (numbers .entry)) ⌝ }
+{
+    let a = words.len() / 11;
+    let b = numbers.len() / 42;
+    if a < b {
+        return a;
+    }
+    b
+}
+
+fn put_study(
+    out: &mut [u8],
+    params: IntegrationParameters,
+    bodies: &[f32],
+    words: &[u32],
+    numbers: &[f32],
+    nb: u32,
+    nj: u32,
+) -> usize
+    requires { ⌜ (nb * 10 ≤ length (now bodies)) × (nj * 11 ≤ length (now words)) × (nj * 42 ≤ length (now numbers)) ⌝ }
+    ensures { λ r. ⌜ Sunk (now (out .entry)) 0 (linesText (settingsLines params ++ (bodiesFrom (now (bodies .entry)) 0 nb ++ jointsFrom (now (words .entry)) (now (numbers .entry)) 0 nj))) (now (out .exit)) r ⌝ }
+{
+    let a = put_settings(&mut *out, 0, params);
+    let b = put_bodies(&mut *out, a, nb, bodies);
+    put_joints(&mut *out, b, nj, words, numbers)
+}
+
+// Writes the text of a model to the front of `out` and answers its length. Where `out` is shorter nothing is written, and the length is answered all
+// the same. A model with more than 128 bodies or 128 joints has no text: 0 is answered.
+pub fn write_study(
+    out: &mut [u8],
+    header: Header,
+    bodies: &[f32],
+    words: &[u32],
+    numbers: &[f32],
+) -> usize
+    ensures { λ r. ⌜ (r ≡ length (printedText (modelOf header (now (bodies .entry)) (now (words .entry)) (now (numbers .entry))))) × (now (out .exit) ≡ written (now (out .entry)) (printedText (modelOf header (now (bodies .entry)) (now (words .entry)) (now (numbers .entry))))) ⌝ }
+{
+    let nb = body_count(bodies);
+    if 128 < nb {
+        return 0;
+    }
+    let nj = joint_count(words, numbers);
+    if 128 < nj {
+        return 0;
+    }
+    let params = header.params;
+    let mut none = [0u8; 1];
+    let len = put_study(
+        &mut none,
+        params,
+        bodies,
+        words,
+        numbers,
+        nb as u32,
+        nj as u32,
+    );
+    if len <= out.len() {
+        return put_study(
+            &mut *out,
+            params,
+            bodies,
+            words,
+            numbers,
+            nb as u32,
+            nj as u32,
+        );
+    }
+    len
+}
