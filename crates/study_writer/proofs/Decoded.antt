@@ -7,11 +7,11 @@ use lib.Dec.{eqb}
 use lib.Ieee.{Float}
 use Rattle.rows.specs.declared.motor_model.MotorModel.the-variants.{AccelerationBased, ForceBased}
 use Rattle.rows.specs.declared.generic_joint.JointEnabled.the-variants.{Enabled, DisabledByAttachedBody, Disabled}
-use Rattle.model.specs.Store.{modelOf, enabledOf, dataOf, centerOf, rotationOf, jointOf}
+use Rattle.model.specs.Store.{motorModelOf, enabledOf, dataOf, centerOf, rotationOf, jointOf}
 use Rattle.model.specs.declared.store.LimitCenter.the-variants.{CosineSine, Angle}
 use Rattle.study_writer.proofs.Kept.{binary, ternary}
 
-model-same : (v : ℕ) → modelOf (binary v) ≡ modelOf v
+model-same : (v : ℕ) → motorModelOf (binary v) ≡ motorModelOf v
 model-same v = go (eqb v 0)
   where
     go : (t : Bool) → cond (eqb (cond t 0 1) 0) AccelerationBased ForceBased ≡ cond t AccelerationBased ForceBased
@@ -81,9 +81,9 @@ module _ (f′ f : ℕ → Float) (g′ g : ℕ → ℕ) (h : (c : ℕ) → c < 
         w3,
         w4,
         w5,
-        ap modelOf w6 ∙ model-same (g 6),
-        ap modelOf w7 ∙ model-same (g 7),
-        ap modelOf w8 ∙ model-same (g 8),
+        ap motorModelOf w6 ∙ model-same (g 6),
+        ap motorModelOf w7 ∙ model-same (g 7),
+        ap motorModelOf w8 ∙ model-same (g 8),
         ap enabledOf w9 ∙ enabled-same (g 9),
       )
 

@@ -7,12 +7,12 @@ use native.Mathlib.Omega.{arith}
 use lib.Dec.{eqb, ltb}
 use lib.Ieee.{Float}
 use lib.ListN.{length, getD}
-use Rattle.motor_table.specs.Text.{decimal}
+use Rattle.texts.specs.Digits.{decimal}
 use Rattle.model.specs.Layout.{bodyWidth, wordsWidth, numbersWidth}
 use Rattle.model.specs.Records.{num, word}
 use Rattle.model.specs.Store.{world}
 use Rattle.model.specs.Model.{Model}
-use Rattle.study_reader.specs.Ascii.{ascii}
+use Rattle.texts.specs.Ascii.{ascii}
 use Rattle.study_reader.specs.Keywords.{meaning, axisWords}
 use Rattle.study_reader.specs.Draft.{Draft}
 use Rattle.study_reader.specs.Study.{lineRead}

@@ -8,9 +8,10 @@ use borrow.Author.Tests.{le-leb, lt-leb, leb-true, ne-eqb}
 use lib.Dec.{leb, eqb}
 use lib.ListN.{length, drop, length-append, length-drop}
 use lib.Seq.{take-append-seam, drop-append-seam, drop-append-add, drop-drop}
-use Rattle.study_reader.specs.Words.{LF, has, isBlank, endsWord, runOf, lineCount, nextWord, isEmpty, nextLine, bytesOf}
+use Rattle.texts.specs.Ascii.{LF, SPACE}
+use Rattle.study_reader.specs.Words.{has, isBlank, endsWord, runOf, lineCount, nextWord, isEmpty, nextLine, bytesOf}
 use Rattle.study_reader.specs.declared.words.Word.{Word}
-use Rattle.study_writer.specs.Text.{Line, BLANK, wordsOnto, lineOnto}
+use Rattle.study_writer.specs.Text.{Line, wordsOnto, lineOnto}
 
 -- ---- bytes of words: from the digit 0 on, so no blank, no end of a word, no comma and no quote
 
@@ -58,7 +59,7 @@ plain-blanks : (b : ℕ) (rest : List ℕ) → 0x30 ≤ b → blanksCount (b ∷
 unfolding runOf
 plain-blanks b rest h = ap (λ (t : Bool). cond t (suc (blanksCount rest)) 0) (no-blank b h)
 
-one-blank : (b : ℕ) (rest : List ℕ) → 0x30 ≤ b → blanksCount (BLANK ∷ b ∷ rest) ≡ 1
+one-blank : (b : ℕ) (rest : List ℕ) → 0x30 ≤ b → blanksCount (SPACE ∷ b ∷ rest) ≡ 1
 unfolding runOf isBlank has
 one-blank b rest h = ap suc (plain-blanks b rest h)
 
@@ -140,7 +141,7 @@ word-here text at (b ∷ bs) c rest h p e =
     (ap (λ (n : ℕ). drop n text) z ∙ h) p (omega arith) e
 
 -- from the blank before a word
-word-after : (text : List ℕ) (at : ℕ) (w : List ℕ) (c : ℕ) (rest : List ℕ) → drop at text ≡ BLANK ∷ (w ++ (c ∷ rest)) → proper w ≡ true → endsWord c ≡ true
+word-after : (text : List ℕ) (at : ℕ) (w : List ℕ) (c : ℕ) (rest : List ℕ) → drop at text ≡ SPACE ∷ (w ++ (c ∷ rest)) → proper w ≡ true → endsWord c ≡ true
     → Spelled text at w (c ∷ rest)
 word-after text at [] c rest h p e = let z : false ≡ true = p in let y : _≡_ {A = ℕ} 0 1 = cc in absurd (let n : ⊥ = omega arith in n)
 word-after text at (b ∷ bs) c rest h p e =
@@ -153,13 +154,13 @@ pub first-word : (text : List ℕ) (at : ℕ) (w : List ℕ) (ws : Line) (rest :
     → Spelled text at w (wordsOnto ws rest)
 unfolding lineOnto wordsOnto endsWord isBlank has
 first-word text at w [] rest h p = word-here text at w LF rest h p refl
-first-word text at w (v ∷ vs) rest h p = word-here text at w BLANK (v ++ wordsOnto vs rest) h p refl
+first-word text at w (v ∷ vs) rest h p = word-here text at w SPACE (v ++ wordsOnto vs rest) h p refl
 
 pub further-word : (text : List ℕ) (at : ℕ) (w : List ℕ) (ws : Line) (rest : List ℕ) → drop at text ≡ wordsOnto (w ∷ ws) rest → proper w ≡ true
     → Spelled text at w (wordsOnto ws rest)
 unfolding wordsOnto endsWord isBlank has
 further-word text at w [] rest h p = word-after text at w LF rest h p refl
-further-word text at w (v ∷ vs) rest h p = word-after text at w BLANK (v ++ wordsOnto vs rest) h p refl
+further-word text at w (v ∷ vs) rest h p = word-after text at w SPACE (v ++ wordsOnto vs rest) h p refl
 
 -- the end of a line holds no word
 pub no-word : (text : List ℕ) (at : ℕ) (rest : List ℕ) → drop at text ≡ wordsOnto [] rest → isEmpty (nextWord text at) ≡ true
@@ -213,7 +214,7 @@ unfolding wordsOnto wordsSize
 words-drop [] rest = refl
 words-drop (w ∷ ws) rest =
     let e : 1 + (length w + wordsSize ws) ≡ suc (length w + wordsSize ws) = omega arith in
-    ap (λ (n : ℕ). drop n (BLANK ∷ (w ++ wordsOnto ws rest))) e ∙ drop-append-add w (wordsOnto ws rest) (wordsSize ws) ∙ words-drop ws rest
+    ap (λ (n : ℕ). drop n (SPACE ∷ (w ++ wordsOnto ws rest))) e ∙ drop-append-add w (wordsOnto ws rest) (wordsSize ws) ∙ words-drop ws rest
 
 pub line-drop : (l : Line) (rest : List ℕ) → drop (lineSize l) (lineOnto l rest) ≡ rest
 unfolding lineOnto lineSize
@@ -234,4 +235,4 @@ pub line-some : (l : Line) (rest : List ℕ) → 0 < length (lineOnto l rest)
 unfolding lineOnto wordsOnto
 line-some [] rest = omega arith
 line-some (w ∷ []) rest = omega (arith, length-append w (LF ∷ rest))
-line-some (w ∷ v ∷ vs) rest = omega (arith, length-append w (BLANK ∷ (v ++ wordsOnto vs rest)))
+line-some (w ∷ v ∷ vs) rest = omega (arith, length-append w (SPACE ∷ (v ++ wordsOnto vs rest)))

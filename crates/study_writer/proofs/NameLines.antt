@@ -8,7 +8,7 @@ use borrow.Author.Tests.{ne-eqb, eqb-true, eqb-false, lt-ltb, le-ltb, ltb-true}
 use lib.Dec.{eqb, ltb}
 use lib.ListN.{length, drop}
 use Rattle.model.specs.Store.{world}
-use Rattle.study_reader.specs.Ascii.{ascii}
+use Rattle.texts.specs.Ascii.{ascii}
 use Rattle.study_reader.specs.Words.{nextWord, bytesOf, sameBytes, isWord, sameWords, holdsByte}
 use Rattle.study_reader.specs.Names.{ABSENT, WORLD, bodyName, jointName, firstFrom, findBody, findJoint, findEnd}
 use Rattle.study_reader.specs.Items.{orFault, whole, nameFault, bodyLine, ends, endsLine, jointLine, openLine, itemLine, lineOf}

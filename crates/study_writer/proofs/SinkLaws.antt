@@ -10,12 +10,11 @@ use lib.Dec.{ltb, eqb}
 use lib.Ieee.{Float}
 use lib.ListN.{length, take, drop, set, getD, length-set, take-append-drop}
 use lib.Seq.{take-suc, take-all, take-suc-set, drop-set-lt}
-use Rattle.motor_table.specs.Text.{digit, decimalOnto, decimal}
-use Rattle.study_reader.specs.Ascii.{ascii}
+use Rattle.texts.specs.Digits.{digit, decimalOnto, decimal}
+use Rattle.texts.specs.Ascii.{ascii, LF, SPACE}
 use Rattle.model.specs.Layout.{bodyWidth, wordsWidth, numbersWidth}
 use Rattle.model.specs.Records.{num, word}
-use Rattle.study_reader.specs.Words.{LF}
-use Rattle.study_writer.specs.Text.{Line, BLANK, lineOnto, wordsOnto, linesText, one, two, bodyWord, jointWord, endWord, modelWord, enabledWord, centerLine, bodyLines, bodiesFrom, jointLines, jointsFrom}
+use Rattle.study_writer.specs.Text.{Line, lineOnto, wordsOnto, linesText, one, two, bodyWord, jointWord, endWord, modelWord, enabledWord, centerLine, bodyLines, bodiesFrom, jointLines, jointsFrom}
 use Rattle.study_writer.specs.Sink.{largestPlace, placeAfter, putFrom, endFrom, Sunk}
 
 put-append : (out : List ℕ) (at : ℕ) (a b : List ℕ) → putFrom out at (a ++ b) ≡ putFrom (putFrom out at a) (endFrom at a) b
@@ -124,21 +123,21 @@ decimal-more n h = sym (onto-more n n h (omega arith))
 
 -- ---- words that depend on a number
 
-pub end-world : (i : ℕ) → i ≡ 4294967295 → ascii " world" ≡ BLANK ∷ endWord i
+pub end-world : (i : ℕ) → i ≡ 4294967295 → ascii " world" ≡ SPACE ∷ endWord i
 unfolding endWord
-end-world i e = sym (ap (λ (t : Bool). BLANK ∷ cond t (ascii "world") (bodyWord i)) (eq-eqb i 4294967295 e))
+end-world i e = sym (ap (λ (t : Bool). SPACE ∷ cond t (ascii "world") (bodyWord i)) (eq-eqb i 4294967295 e))
 
-pub end-body : (i : ℕ) → (i ≡ 4294967295 → ⊥) → BLANK ∷ bodyWord i ≡ BLANK ∷ endWord i
+pub end-body : (i : ℕ) → (i ≡ 4294967295 → ⊥) → SPACE ∷ bodyWord i ≡ SPACE ∷ endWord i
 unfolding endWord
-end-body i e = sym (ap (λ (t : Bool). BLANK ∷ cond t (ascii "world") (bodyWord i)) (ne-eqb i 4294967295 e))
+end-body i e = sym (ap (λ (t : Bool). SPACE ∷ cond t (ascii "world") (bodyWord i)) (ne-eqb i 4294967295 e))
 
-pub model-acceleration : (v : ℕ) → v ≡ 0 → ascii " acceleration" ≡ BLANK ∷ modelWord v
+pub model-acceleration : (v : ℕ) → v ≡ 0 → ascii " acceleration" ≡ SPACE ∷ modelWord v
 unfolding modelWord
-model-acceleration v e = sym (ap (λ (t : Bool). BLANK ∷ cond t (ascii "acceleration") (ascii "force")) (eq-eqb v 0 e))
+model-acceleration v e = sym (ap (λ (t : Bool). SPACE ∷ cond t (ascii "acceleration") (ascii "force")) (eq-eqb v 0 e))
 
-pub model-force : (v : ℕ) → (v ≡ 0 → ⊥) → ascii " force" ≡ BLANK ∷ modelWord v
+pub model-force : (v : ℕ) → (v ≡ 0 → ⊥) → ascii " force" ≡ SPACE ∷ modelWord v
 unfolding modelWord
-model-force v e = sym (ap (λ (t : Bool). BLANK ∷ cond t (ascii "acceleration") (ascii "force")) (ne-eqb v 0 e))
+model-force v e = sym (ap (λ (t : Bool). SPACE ∷ cond t (ascii "acceleration") (ascii "force")) (ne-eqb v 0 e))
 
 enabled-text : Bool → Bool → List ℕ
 enabled-text s t = cond s (ascii "enabled") (cond t (ascii "disabled_by_attached_body") (ascii "disabled")) ++ (LF ∷ [])

@@ -9,12 +9,12 @@ use lib.Dec.{leb, ltb, eqb}
 use lib.Ieee.{Float}
 use lib.ListN.{length, getD, length-append}
 use Rattle.decimals.specs.Text.{bitsText}
-use Rattle.motor_table.specs.Text.{digit, decimalOnto, decimal}
+use Rattle.texts.specs.Digits.{digit, decimalOnto, decimal}
 use Rattle.model.specs.Layout.{bodyWidth, wordsWidth, numbersWidth}
 use Rattle.model.specs.Records.{num, word}
 use Rattle.model.specs.Store.{world}
 use Rattle.model.specs.Model.{Model, bodyCount, jointCount}
-use Rattle.study_reader.specs.Ascii.{ascii}
+use Rattle.texts.specs.Ascii.{ascii}
 use Rattle.study_writer.specs.Text.{Line, wordsOnto, lineOnto, linesText, numberWord, two, one, settingsLines, bodyWord, bodyLines, bodiesFrom, jointWord, endWord, modelWord, enabledWord, centerLine, jointLines, jointsFrom, studyLines, studyText}
 use Rattle.study_writer.proofs.Lexical.{both}
 

@@ -12,12 +12,14 @@ use lib.Dec.{T, leb, ltb, eqb}
 use lib.Ieee.{Float, binary32, fits}
 use lib.ListN.{length}
 use Rattle.decimals.specs.Words.{readingOf}
-use Rattle.decimals.specs.Text.{hexLetter, bitsText}
+use Rattle.texts.specs.Hex.{hexDigit, hexWord}
+use Rattle.decimals.specs.Text.{bitsText}
 use Rattle.decimals.specs.declared.number.Reading.the-variants.{Number}
 use Rattle.decimals.proofs.TextLaws.{number-read-back}
-use Rattle.motor_table.specs.WholeNumber.{isDigit, digitsAfter}
-use Rattle.motor_table.specs.Text.{digit, decimalOnto, decimal}
-use Rattle.study_reader.specs.Ascii.{ascii}
+use Rattle.texts.specs.Digits.{isDigit}
+use Rattle.motor_table.specs.WholeNumber.{digitsAfter}
+use Rattle.texts.specs.Digits.{digit, decimalOnto, decimal}
+use Rattle.texts.specs.Ascii.{ascii}
 use Rattle.study_reader.specs.Words.{has, sameBytes, bytesOf, wholeNumber, wholeUpTo}
 use Rattle.study_reader.specs.Numbers.{numberIn}
 use Rattle.study_reader.specs.declared.words.Word.{Word}
@@ -27,8 +29,8 @@ use Rattle.study_writer.proofs.Lexical.{plain, proper, both, proper-pla
 
 -- ---- numbers
 
-letter : (d : ℕ) → leb 0x30 (hexLetter d) ≡ true
-unfolding hexLetter
+letter : (d : ℕ) → leb 0x30 (hexDigit true d) ≡ true
+unfolding hexDigit
 letter d = go (ltb d 10)
   where
     go : (t : Bool) → leb 0x30 (cond t (0x30 + d) (0x37 + d)) ≡ true
@@ -36,7 +38,7 @@ letter d = go (ltb d 10)
     go false = le-leb 0x30 (0x37 + d) (omega arith)
 
 pub number-proper : (x : Float) → proper (numberWord x) ≡ true
-unfolding numberWord bitsText
+unfolding numberWord bitsText hexWord
 number-proper x = simp letter
 
 pub number-read : (text : List ℕ) (w : Word) (x : Float) → T (fits binary32 x) → bytesOf text w ≡ numberWord x → numberIn text w ≡ Number x

@@ -3,7 +3,7 @@ use mathlib.Core.Path.{_≡_, refl}
 use mathlib.Core.Bool.{true}
 use mathlib.Core.List.{List}
 use Prim.Native.Nat.{ℕ}
-use Rattle.study_reader.specs.Ascii.{ascii}
+use Rattle.texts.specs.Ascii.{ascii}
 use Rattle.study_reader.specs.Words.{sameBytes}
 use Rattle.study_reader.specs.Keywords.{meaning, axisWords}
 use Rattle.study_writer.proofs.Lexical.{proper}

@@ -7,8 +7,8 @@ use native.Mathlib.Omega.{arith}
 use borrow.Author.Tests.{ne-eqb, lt-ltb, le-ltb}
 use lib.Dec.{eqb}
 use lib.ListN.{drop}
-use Rattle.motor_table.specs.Text.{decimal}
-use Rattle.study_reader.specs.Ascii.{ascii}
+use Rattle.texts.specs.Digits.{decimal}
+use Rattle.texts.specs.Ascii.{ascii}
 use Rattle.study_reader.specs.Words.{nextWord, sameBytes, isWord}
 use Rattle.study_reader.specs.Keywords.{meaning, axisWords}
 use Rattle.study_reader.specs.Items.{whole, maskLine, modelLine, wordLine, openLine, itemLine, lineOf}

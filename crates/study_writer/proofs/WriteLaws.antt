@@ -8,8 +8,8 @@ use borrow.Author.Tests.{le-leb, lt-leb, ltb-true, ltb-false}
 use lib.Dec.{leb, ltb}
 use lib.Ieee.{Float}
 use lib.ListN.{length, getD, drop}
-use Rattle.catalogue.specs.Text.{written}
-use Rattle.catalogue.proofs.TextLaws.{empty-written}
+use Rattle.texts.specs.Written.{written}
+use Rattle.texts.proofs.PutLaws.{empty-written}
 use Rattle.model.specs.Model.{Model, modelOf, bodyCount, jointCount}
 use Rattle.model.specs.declared.header.Header.{Header}
 use Rattle.study_writer.specs.Text.{linesText, settingsLines, bodiesFrom, jointsFrom, studyLines, studyText}

@@ -6,15 +6,14 @@ use mathlib.Core.Bool.{cond}
 use mathlib.Core.List.{List, [], _∷_, _++_}
 use lib.Dec.{eqb}
 use lib.Ieee.{Float, binary32, toBits}
+use Rattle.texts.specs.Ascii.{ascii, LF, SPACE}
+use Rattle.texts.specs.Digits.{decimal}
 use Rattle.decimals.specs.Text.{bitsText}
-use Rattle.motor_table.specs.Text.{decimal}
 use Rattle.rows.specs.declared.integration_parameters.IntegrationParameters.{IntegrationParameters}
 use Rattle.model.specs.Layout.{bodyWidth, posePlace, inertiaPlace, massPlace, velocityPlace, wordsWidth, body1Place, body2Place, masksPlace, modelsPlace, enabledPlace, centerChoicePlace, numbersWidth, frame1Place, frame2Place, limitsPlace, limitsWidth, motorsPlace, motorWidth, softnessPlace, dofsPlace, centerPlace}
 use Rattle.model.specs.Records.{num, word}
 use Rattle.model.specs.Store.{world}
 use Rattle.model.specs.Model.{Model, bodyCount, jointCount}
-use Rattle.study_reader.specs.Ascii.{ascii}
-use Rattle.study_reader.specs.Words.{LF}
 
 -- ---- lines of words
 
@@ -22,13 +21,10 @@ use Rattle.study_reader.specs.Words.{LF}
 abbrev pub Line : Type 0
 Line = List (List ℕ)
 
-abbrev pub BLANK : ℕ
-BLANK = 0x20
-
 -- the words after a line's first, each after a blank, and the line's end; in front of a text
 unfoldable pub wordsOnto : Line → List ℕ → List ℕ
 wordsOnto [] text = LF ∷ text
-wordsOnto (w ∷ ws) text = BLANK ∷ (w ++ wordsOnto ws text)
+wordsOnto (w ∷ ws) text = SPACE ∷ (w ++ wordsOnto ws text)
 
 unfoldable pub lineOnto : Line → List ℕ → List ℕ
 lineOnto [] text = LF ∷ text

@@ -3,9 +3,9 @@ ghost use mathlib.Core.List.{[], _∷_};
 ghost use Prim.Native.Nat.{_+_, _≤_};
 ghost use lib.ListN.{length, getD};
 ghost use lib.Ieee.{nan};
-ghost use Rattle.motor_table.specs.Text.{decimal};
-ghost use Rattle.study_reader.specs.Ascii.{ascii};
-ghost use Rattle.study_writer.specs.Text.{BLANK, linesText, numberWord, bodyWord, jointWord, endWord, modelWord, enabledWord, centerLine};
+ghost use Rattle.texts.specs.Digits.{decimal};
+ghost use Rattle.texts.specs.Ascii.{ascii, SPACE};
+ghost use Rattle.study_writer.specs.Text.{linesText, numberWord, bodyWord, jointWord, endWord, modelWord, enabledWord, centerLine};
 ghost use Rattle.study_writer.specs.Sink.{Sunk};
 use crate::sink::put_byte;
 use crate::sink::put_decimal;
@@ -74,14 +74,14 @@ pub fn put_two_of(
 // ---- names
 
 fn put_body_word(out: &mut [u8], at: usize, i: u32) -> usize
-    ensures { λ r. ⌜ Sunk (now (out .entry)) at (BLANK ∷ bodyWord i) (now (out .exit)) r ⌝ }
+    ensures { λ r. ⌜ Sunk (now (out .entry)) at (SPACE ∷ bodyWord i) (now (out .exit)) r ⌝ }
 {
     let a = put_text(&mut *out, at, b" b");
     put_decimal(&mut *out, a, i)
 }
 
 fn put_joint_word(out: &mut [u8], at: usize, j: u32) -> usize
-    ensures { λ r. ⌜ Sunk (now (out .entry)) at (BLANK ∷ jointWord j) (now (out .exit)) r ⌝ }
+    ensures { λ r. ⌜ Sunk (now (out .entry)) at (SPACE ∷ jointWord j) (now (out .exit)) r ⌝ }
 {
     let a = put_text(&mut *out, at, b" j");
     put_decimal(&mut *out, a, j)
@@ -89,7 +89,7 @@ fn put_joint_word(out: &mut [u8], at: usize, j: u32) -> usize
 
 // A joint's body: a body's name, or the world's.
 fn put_end(out: &mut [u8], at: usize, i: u32) -> usize
-    ensures { λ r. ⌜ Sunk (now (out .entry)) at (BLANK ∷ endWord i) (now (out .exit)) r ⌝ }
+    ensures { λ r. ⌜ Sunk (now (out .entry)) at (SPACE ∷ endWord i) (now (out .exit)) r ⌝ }
 {
     if i == 4294967295 {
         return put_text(&mut *out, at, b" world");
@@ -127,7 +127,7 @@ pub fn put_mask(out: &mut [u8], at: usize, name: &[u8], mask: u32) -> usize
 }
 
 fn put_model_word(out: &mut [u8], at: usize, m: u32) -> usize
-    ensures { λ r. ⌜ Sunk (now (out .entry)) at (BLANK ∷ modelWord m) (now (out .exit)) r ⌝ }
+    ensures { λ r. ⌜ Sunk (now (out .entry)) at (SPACE ∷ modelWord m) (now (out .exit)) r ⌝ }
 {
     if m == 0 {
         return put_text(&mut *out, at, b" acceleration");

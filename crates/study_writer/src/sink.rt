@@ -2,8 +2,9 @@
 ghost use mathlib.Core.Path.{_≡_};
 ghost use mathlib.Core.List.{[], _∷_};
 ghost use lib.ListN.{set};
-ghost use Rattle.motor_table.specs.Text.{decimal};
-ghost use Rattle.study_writer.specs.Text.{BLANK, numberWord};
+ghost use Rattle.texts.specs.Ascii.{SPACE};
+ghost use Rattle.texts.specs.Digits.{decimal};
+ghost use Rattle.study_writer.specs.Text.{numberWord};
 ghost use Rattle.study_writer.specs.Sink.{placeAfter, Sunk};
 use decimals::text::number_text;
 
@@ -45,7 +46,7 @@ pub fn put_text(out: &mut [u8], at: usize, text: &[u8]) -> usize
 
 // A word after a blank.
 pub fn put_word(out: &mut [u8], at: usize, word: &[u8]) -> usize
-    ensures { λ r. ⌜ Sunk (now (out .entry)) at (BLANK ∷ now (word .entry)) (now (out .exit)) r ⌝ }
+    ensures { λ r. ⌜ Sunk (now (out .entry)) at (SPACE ∷ now (word .entry)) (now (out .exit)) r ⌝ }
 {
     let a = put_byte(&mut *out, at, b' ');
     put_text(&mut *out, a, word)
@@ -53,7 +54,7 @@ pub fn put_word(out: &mut [u8], at: usize, word: &[u8]) -> usize
 
 // A number after a blank.
 pub fn put_number(out: &mut [u8], at: usize, x: f32) -> usize
-    ensures { λ r. ⌜ Sunk (now (out .entry)) at (BLANK ∷ numberWord x) (now (out .exit)) r ⌝ }
+    ensures { λ r. ⌜ Sunk (now (out .entry)) at (SPACE ∷ numberWord x) (now (out .exit)) r ⌝ }
 {
     let word = number_text(x);
     put_word(&mut *out, at, &word)

@@ -2,7 +2,8 @@
 use mathlib.Core.Path.{ap}
 use mathlib.Core.List.{List, _∷_}
 use Prim.Native.Nat.{ℕ}
-use Rattle.study_writer.specs.Text.{BLANK, numberWord}
+use Rattle.texts.specs.Ascii.{SPACE}
+use Rattle.study_writer.specs.Text.{numberWord}
 use Rattle.study_writer.proofs.SinkLaws.{sunk-text}
 use borrow.Author.Needs.{needs}
 use Rattle.study_writer.proofs.sink.put_number.Statement.{statement}
@@ -22,7 +23,7 @@ same-length c = search needs
 
 returns : tie.Need-returns
 unfolding numberWord
-returns c = sunk-text (ap (λ (t : List ℕ). BLANK ∷ t) (c .before .before .before .before .before .number-text .ensures)) (c .before .before .put-word .ensures)
+returns c = sunk-text (ap (λ (t : List ℕ). SPACE ∷ t) (c .before .before .before .before .before .number-text .ensures)) (c .before .before .put-word .ensures)
 
 pub put-number-spec : {M : Type 1} → statement M
 put-number-spec = tie.close (tie.spec number-text-requires slice-aggregate-put-word put-word-requires same-length returns)
