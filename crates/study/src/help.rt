@@ -54,6 +54,7 @@ pub fn help() {
     out(b"  study FILE...        the same for each file\n");
     out(b"  study check FILE...  reads and loads, runs nothing\n");
     out(b"  study draw FILE      prints a picture of bodies, joints and row ids, in SVG\n");
+    out(b"  study print FILE     prints the model as a study, every number as its bits\n");
     out(
         b"  study example NAME   prints an example: knee, finger, finger_cut, wing, pendulum, leg\n",
     );

@@ -32,6 +32,7 @@ use study_reader::words::Word;
 use study_reader::words::column_of;
 use study_reader::words::is;
 use study_reader::words::line_of;
+use study_writer::study::write_study;
 use warnings::warnings;
 
 // How a study ended: 0 granted, 1 refused, 2 not read.
@@ -83,6 +84,21 @@ fn header_of(draft: &[f32]) -> Header {
     }
 }
 
+// The model that a study describes, in one spelling: the text of a study with no call.
+fn print_model(header: Header, bodies: &[f32], words: &[u32], numbers: &[f32]) -> u32 {
+    let mut text = [0u8; 524288];
+    let n = write_study(&mut text, header, bodies, words, numbers);
+    if n == 0 {
+        err(b"study: a model has at most 128 bodies and 128 joints\n");
+        return NO_FILE;
+    }
+    if 524288 < n {
+        return NO_FILE;
+    }
+    out(&text[..n]);
+    0
+}
+
 // Runs the calls of a study on the storage that it was read into.
 fn run_calls(
     text: &[u8],
@@ -95,8 +111,11 @@ fn run_calls(
     st: State,
     mode: u32,
 ) -> u32 {
-    let mut rows = [0.0f32; 13932];
     let header = header_of(draft);
+    if mode == PRINT {
+        return print_model(header, bodies, words, numbers);
+    }
+    let mut rows = [0.0f32; 13932];
     if mode == CHECK {
         return check_study(
             text,
@@ -325,6 +344,8 @@ const MISSING: u32 = 6;
 
 const DRAW: u32 = 7;
 
+const PRINT: u32 = 8;
+
 fn same(a: &[u8], b: &[u8]) -> bool {
     is(
         a,
@@ -342,6 +363,9 @@ fn option_of(arg: &[u8]) -> u32 {
     }
     if same(arg, b"draw") {
         return DRAW;
+    }
+    if same(arg, b"print") {
+        return PRINT;
     }
     if same(arg, b"--help") {
         return HELP;
@@ -429,6 +453,9 @@ fn asked_more(i: usize, kind: u32) -> u32 {
         return files(i + 1, kind);
     }
     if kind == DRAW {
+        return files(i + 1, kind);
+    }
+    if kind == PRINT {
         return files(i + 1, kind);
     }
     files(i, FILE)
