@@ -9,6 +9,7 @@ use lib.Dec.{leb, ltb, eqb}
 use lib.Ieee.{Float}
 use lib.ListN.{length, getD, length-append}
 use Rattle.decimals.specs.Text.{bitsText}
+use Rattle.texts.specs.Hex.{hexWord}
 use Rattle.texts.specs.Digits.{digit, decimalOnto, decimal}
 use Rattle.model.specs.Layout.{bodyWidth, wordsWidth, numbersWidth}
 use Rattle.model.specs.Records.{num, word}
@@ -73,7 +74,7 @@ short-append (l ∷ ls) b h k =
 -- ---- the words that are printed
 
 number-short : (x : Float) → shortWord (numberWord x) ≡ true
-unfolding numberWord bitsText
+unfolding numberWord bitsText hexWord
 number-short x = refl
 
 unfoldable tens : ℕ → ℕ
