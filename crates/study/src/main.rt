@@ -18,6 +18,7 @@ use out::err;
 use out::err_number;
 use out::err_part;
 use out::out;
+use out::out_part;
 use rows::integration_parameters::IntegrationParameters;
 use run::NO_FILE;
 use run::check_study;
@@ -92,10 +93,7 @@ fn print_model(header: Header, bodies: &[f32], words: &[u32], numbers: &[f32]) -
         err(b"study: a model has at most 128 bodies and 128 joints\n");
         return NO_FILE;
     }
-    if 524288 < n {
-        return NO_FILE;
-    }
-    out(&text[..n]);
+    out_part(&text, 0, n);
     0
 }
 
