@@ -12,11 +12,13 @@ use Rattle.rows.specs.declared.joint_constraint_builder.Warmstart.the-variants.
 use Rattle.rows.specs.declared.joint_velocity_constraint.SolverVel.{SolverVel}
 use Rattle.rows.specs.declared.joint_velocity_constraint.Rows.{Rows}
 use Rattle.rows.specs.declared.row_ids.RowIds.{RowIds}
-use Rattle.model.specs.JointRows.{rowMasksAt}
-use Rattle.model.specs.Model.{Model, modelOf}
-use Rattle.model.specs.Calls.{Answer, Outcome, run}
-use Rattle.model.specs.Calls.Answer.{granted, total, rowsRead, velocityRead, swept, refused}
-use Rattle.model.specs.Calls.Call.{sweep, readRows}
+use Rattle.multibody.specs.JointRows.{rowMasksAt}
+use Rattle.multibody.specs.Model.{Model}
+use Rattle.multibody.specs.Calls.{Answer, Outcome, run}
+use Rattle.multibody.specs.Calls.Answer.{granted, total, rowsRead, velocityRead, swept, refused}
+use Rattle.multibody.specs.Calls.Call.{sweep, readRows}
+use Rattle.model.specs.Planar.{planar}
+use Rattle.model.specs.Model.{modelOf}
 use Rattle.model.specs.Answers.{rowsAnswerOf, sweepAnswerOf}
 use Rattle.model.specs.declared.header.Header.{Header}
 use Rattle.model.specs.declared.calls.Plain.{Plain}
@@ -52,7 +54,7 @@ warmOf warm coefficient = cond (flag warm) (Warm coefficient) Cold
 abbrev pub rowsGranted : ℕ → ℕ
 rowsGranted n = 4294967296 + n % 4294967296
 
-abbrev pub number : Answer → ℕ
+abbrev pub number : Answer planar → ℕ
 number granted = 0
 number (total n) = rowsGranted n
 number (rowsRead ids rows) = rowsGranted (length rows)
@@ -61,7 +63,7 @@ number (swept counts) = 0
 number (refused k) = k
 
 -- the same, where a granted load that left the mark set, or a build that left it clear, would show
-abbrev pub marked : Answer → Bool → ℕ
+abbrev pub marked : Answer planar → Bool → ℕ
 marked granted true = 100
 marked granted false = 0
 marked (total n) true = rowsGranted n
@@ -71,7 +73,7 @@ marked (velocityRead v) built = 0
 marked (swept counts) built = 0
 marked (refused k) built = k
 
-abbrev pub markedNumber : Outcome → ℕ
+abbrev pub markedNumber : Outcome planar → ℕ
 markedNumber o = marked (o .answer) (o .after .built)
 
 -- the answer where the model grants a read for which a slice has no room: a number above all refusals
@@ -81,7 +83,7 @@ shortSlice = 1000
 -- ---- a joint's rows and ids, stored
 
 abbrev pub rowsReadAt : ℕ → Model → List Float → RowsAnswer
-rowsReadAt joint m rows = rowsAnswerOf (rowMasksAt (m .words) joint) (run (readRows joint) m rows .answer)
+rowsReadAt joint m rows = rowsAnswerOf (rowMasksAt planar (m .words) joint) (run planar (readRows joint) m rows .answer)
 
 abbrev pub rowsGrantedOr : Plain → ℕ → Bool → ℕ
 rowsGrantedOr Plain.Granted n stored = cond stored (rowsGranted n) shortSlice
@@ -109,7 +111,7 @@ idsOut r out ids = idsIfRoom (r .ids) out ids
 -- ---- a sweep's counts, stored
 
 abbrev pub sweptAt : ℕ → Model → List Float → SweepAnswer
-sweptAt n m rows = sweepAnswerOf (run (sweep n) m rows .answer)
+sweptAt n m rows = sweepAnswerOf (run planar (sweep n) m rows .answer)
 
 -- all 128 where it is granted, and nothing where it is refused
 abbrev pub countsIf : Plain → List ℕ → List ℕ → List ℕ
@@ -128,7 +130,7 @@ roomForCounts counts = leb 128 (length counts)
 abbrev pub roomForVelocity : List Float → ℕ
 roomForVelocity out = cond (leb 3 (length out)) 0 shortSlice
 
-abbrev pub velocityNumber : Answer → List Float → ℕ
+abbrev pub velocityNumber : Answer planar → List Float → ℕ
 velocityNumber (velocityRead v) out = roomForVelocity out
 velocityNumber granted out = 0
 velocityNumber (total n) out = rowsGranted n
@@ -139,7 +141,7 @@ velocityNumber (refused k) out = k
 unfoldable pub putVelocity : SolverVel → List Float → List Float
 putVelocity v out = cond (leb 3 (length out)) (putThree out 0 (v .linear .x) (v .linear .y) (v .angular)) out
 
-abbrev pub velocityOut : Answer → List Float → List Float
+abbrev pub velocityOut : Answer planar → List Float → List Float
 velocityOut (velocityRead v) out = putVelocity v out
 velocityOut granted out = out
 velocityOut (total n) out = out

@@ -9,8 +9,9 @@ ghost use mathlib.Core.List.{[], _++_};
 ghost use mathlib.Core.Bool.{cond};
 ghost use Prim.Native.Nat.{_≤_};
 ghost use lib.ListN.{length, drop};
-ghost use Rattle.model.specs.Calls.{run};
-ghost use Rattle.model.specs.Calls.Call.{load, place, build, warmStart, sweep, removeBias, writeBack, readRows, readVelocity, setTargets};
+ghost use Rattle.multibody.specs.Calls.{run};
+ghost use Rattle.multibody.specs.Calls.Call.{load, place, build, warmStart, sweep, removeBias, writeBack, readRows, readVelocity, further};
+ghost use Rattle.model.specs.Planar.{planar};
 ghost use Rattle.model.specs.Answers.{plainAnswer, loadAnswer, loadHeader, buildAnswer, buildHeader};
 ghost use Rattle.model.specs.declared.header.Header.{Header};
 ghost use Rattle.capi.specs.CallExports.{flag, headerOf, lent, poseFrom, warmOf, number, marked, markedNumber, rowsReadAt, rowsGrantedOr, rowsNumber, rowsOut, idsOut, roomForRows, rowsIfRoom, idsIfRoom, shortSlice, sweptAt, countsOut, roomForCounts, roomForVelocity, velocityNumber, putVelocity, velocityOut};
@@ -147,7 +148,7 @@ pub extern "C" fn katydidzinc_load(
     numbers: &[f32],
     rows: &[f32],
 ) -> u64
-    ensures { λ r. ⌜ r ≡ markedNumber (run load (lent dt «length_unit» normalized built (now (bodies .entry)) (now (words .entry)) (now (numbers .entry))) (now (rows .entry))) ⌝ }
+    ensures { λ r. ⌜ r ≡ markedNumber (run planar load (lent dt «length_unit» normalized built (now (bodies .entry)) (now (words .entry)) (now (numbers .entry))) (now (rows .entry))) ⌝ }
 {
     let h = header(dt, length_unit, normalized, built);
     load_number(load(h, bodies, words, numbers, rows))
@@ -168,8 +169,8 @@ pub extern "C" fn katydidzinc_place(
     x: f32,
     y: f32,
 ) -> u64
-    ensures { λ r. ⌜ r ≡ number (run (place body (poseFrom re im x y)) (lent dt «length_unit» normalized built (now (bodies .entry)) (now (words .entry)) (now (numbers .entry))) [] .answer) ⌝ }
-    ensures { λ _. ⌜ now (bodies .exit) ≡ run (place body (poseFrom re im x y)) (lent dt «length_unit» normalized built (now (bodies .entry)) (now (words .entry)) (now (numbers .entry))) [] .after .bodies ⌝ }
+    ensures { λ r. ⌜ r ≡ number (run planar (place body (poseFrom re im x y)) (lent dt «length_unit» normalized built (now (bodies .entry)) (now (words .entry)) (now (numbers .entry))) [] .answer) ⌝ }
+    ensures { λ _. ⌜ now (bodies .exit) ≡ run planar (place body (poseFrom re im x y)) (lent dt «length_unit» normalized built (now (bodies .entry)) (now (words .entry)) (now (numbers .entry))) [] .after .bodies ⌝ }
 {
     let h = header(dt, length_unit, normalized, built);
     let pose = Pose {
@@ -193,8 +194,8 @@ pub extern "C" fn katydidzinc_build(
     coefficient: f32,
     substep_id: u32,
 ) -> u64
-    ensures { λ r. ⌜ r ≡ markedNumber (run (build (warmOf warm coefficient) «substep_id») (lent dt «length_unit» normalized built (now (bodies .entry)) (now (words .entry)) (now (numbers .entry))) (now (rows .entry))) ⌝ }
-    ensures { λ _. ⌜ now (rows .exit) ≡ run (build (warmOf warm coefficient) «substep_id») (lent dt «length_unit» normalized built (now (bodies .entry)) (now (words .entry)) (now (numbers .entry))) (now (rows .entry)) .rows ⌝ }
+    ensures { λ r. ⌜ r ≡ markedNumber (run planar (build (warmOf warm coefficient) «substep_id») (lent dt «length_unit» normalized built (now (bodies .entry)) (now (words .entry)) (now (numbers .entry))) (now (rows .entry))) ⌝ }
+    ensures { λ _. ⌜ now (rows .exit) ≡ run planar (build (warmOf warm coefficient) «substep_id») (lent dt «length_unit» normalized built (now (bodies .entry)) (now (words .entry)) (now (numbers .entry))) (now (rows .entry)) .rows ⌝ }
 {
     let h = header(dt, length_unit, normalized, built);
     let warmstart = warm_of(warm, coefficient);
@@ -212,8 +213,8 @@ pub extern "C" fn katydidzinc_warm_start(
     numbers: &[f32],
     rows: &[f32],
 ) -> u64
-    ensures { λ r. ⌜ r ≡ number (run warmStart (lent dt «length_unit» normalized built (now (bodies .entry)) (now (words .entry)) (now (numbers .entry))) (now (rows .entry)) .answer) ⌝ }
-    ensures { λ _. ⌜ now (bodies .exit) ≡ run warmStart (lent dt «length_unit» normalized built (now (bodies .entry)) (now (words .entry)) (now (numbers .entry))) (now (rows .entry)) .after .bodies ⌝ }
+    ensures { λ r. ⌜ r ≡ number (run planar warmStart (lent dt «length_unit» normalized built (now (bodies .entry)) (now (words .entry)) (now (numbers .entry))) (now (rows .entry)) .answer) ⌝ }
+    ensures { λ _. ⌜ now (bodies .exit) ≡ run planar warmStart (lent dt «length_unit» normalized built (now (bodies .entry)) (now (words .entry)) (now (numbers .entry))) (now (rows .entry)) .after .bodies ⌝ }
 {
     let h = header(dt, length_unit, normalized, built);
     plain_number(warm_start(h, bodies, words, numbers, rows))
@@ -245,9 +246,9 @@ pub extern "C" fn katydidzinc_sweep(
     n: u32,
     counts: &mut [u8],
 ) -> u64
-    ensures { λ r. ⌜ r ≡ cond (roomForCounts (now (counts .entry))) (number (run (sweep n) (lent dt «length_unit» normalized built (now (bodies .entry)) (now (words .entry)) (now (numbers .entry))) (now (rows .entry)) .answer)) shortSlice ⌝ }
-    ensures { λ _. ⌜ now (bodies .exit) ≡ cond (roomForCounts (now (counts .entry))) (run (sweep n) (lent dt «length_unit» normalized built (now (bodies .entry)) (now (words .entry)) (now (numbers .entry))) (now (rows .entry)) .after .bodies) (now (bodies .entry)) ⌝ }
-    ensures { λ _. ⌜ now (rows .exit) ≡ cond (roomForCounts (now (counts .entry))) (run (sweep n) (lent dt «length_unit» normalized built (now (bodies .entry)) (now (words .entry)) (now (numbers .entry))) (now (rows .entry)) .rows) (now (rows .entry)) ⌝ }
+    ensures { λ r. ⌜ r ≡ cond (roomForCounts (now (counts .entry))) (number (run planar (sweep n) (lent dt «length_unit» normalized built (now (bodies .entry)) (now (words .entry)) (now (numbers .entry))) (now (rows .entry)) .answer)) shortSlice ⌝ }
+    ensures { λ _. ⌜ now (bodies .exit) ≡ cond (roomForCounts (now (counts .entry))) (run planar (sweep n) (lent dt «length_unit» normalized built (now (bodies .entry)) (now (words .entry)) (now (numbers .entry))) (now (rows .entry)) .after .bodies) (now (bodies .entry)) ⌝ }
+    ensures { λ _. ⌜ now (rows .exit) ≡ cond (roomForCounts (now (counts .entry))) (run planar (sweep n) (lent dt «length_unit» normalized built (now (bodies .entry)) (now (words .entry)) (now (numbers .entry))) (now (rows .entry)) .rows) (now (rows .entry)) ⌝ }
     ensures { λ _. ⌜ now (counts .exit) ≡ cond (roomForCounts (now (counts .entry))) (countsOut (sweptAt n (lent dt «length_unit» normalized built (now (bodies .entry)) (now (words .entry)) (now (numbers .entry))) (now (rows .entry))) (now (counts .entry))) (now (counts .entry)) ⌝ }
 {
     if counts.len() < 128 {
@@ -277,8 +278,8 @@ pub extern "C" fn katydidzinc_remove_bias(
     numbers: &[f32],
     rows: &mut [f32],
 ) -> u64
-    ensures { λ r. ⌜ r ≡ number (run removeBias (lent dt «length_unit» normalized built (now (bodies .entry)) (now (words .entry)) (now (numbers .entry))) (now (rows .entry)) .answer) ⌝ }
-    ensures { λ _. ⌜ now (rows .exit) ≡ run removeBias (lent dt «length_unit» normalized built (now (bodies .entry)) (now (words .entry)) (now (numbers .entry))) (now (rows .entry)) .rows ⌝ }
+    ensures { λ r. ⌜ r ≡ number (run planar removeBias (lent dt «length_unit» normalized built (now (bodies .entry)) (now (words .entry)) (now (numbers .entry))) (now (rows .entry)) .answer) ⌝ }
+    ensures { λ _. ⌜ now (rows .exit) ≡ run planar removeBias (lent dt «length_unit» normalized built (now (bodies .entry)) (now (words .entry)) (now (numbers .entry))) (now (rows .entry)) .rows ⌝ }
 {
     let h = header(dt, length_unit, normalized, built);
     plain_number(remove_bias(h, bodies, words, numbers, rows))
@@ -295,8 +296,8 @@ pub extern "C" fn katydidzinc_write_back(
     numbers: &mut [f32],
     rows: &[f32],
 ) -> u64
-    ensures { λ r. ⌜ r ≡ number (run writeBack (lent dt «length_unit» normalized built (now (bodies .entry)) (now (words .entry)) (now (numbers .entry))) (now (rows .entry)) .answer) ⌝ }
-    ensures { λ _. ⌜ now (numbers .exit) ≡ run writeBack (lent dt «length_unit» normalized built (now (bodies .entry)) (now (words .entry)) (now (numbers .entry))) (now (rows .entry)) .after .numbers ⌝ }
+    ensures { λ r. ⌜ r ≡ number (run planar writeBack (lent dt «length_unit» normalized built (now (bodies .entry)) (now (words .entry)) (now (numbers .entry))) (now (rows .entry)) .answer) ⌝ }
+    ensures { λ _. ⌜ now (numbers .exit) ≡ run planar writeBack (lent dt «length_unit» normalized built (now (bodies .entry)) (now (words .entry)) (now (numbers .entry))) (now (rows .entry)) .after .numbers ⌝ }
 {
     let h = header(dt, length_unit, normalized, built);
     plain_number(write_back(h, bodies, words, numbers, rows))
@@ -371,8 +372,8 @@ pub extern "C" fn katydidzinc_read_velocity(
     body: u32,
     out: &mut [f32],
 ) -> u64
-    ensures { λ r. ⌜ r ≡ velocityNumber (run (readVelocity body) (lent dt «length_unit» normalized built (now (bodies .entry)) (now (words .entry)) (now (numbers .entry))) [] .answer) (now (out .entry)) ⌝ }
-    ensures { λ _. ⌜ now (out .exit) ≡ velocityOut (run (readVelocity body) (lent dt «length_unit» normalized built (now (bodies .entry)) (now (words .entry)) (now (numbers .entry))) [] .answer) (now (out .entry)) ⌝ }
+    ensures { λ r. ⌜ r ≡ velocityNumber (run planar (readVelocity body) (lent dt «length_unit» normalized built (now (bodies .entry)) (now (words .entry)) (now (numbers .entry))) [] .answer) (now (out .entry)) ⌝ }
+    ensures { λ _. ⌜ now (out .exit) ≡ velocityOut (run planar (readVelocity body) (lent dt «length_unit» normalized built (now (bodies .entry)) (now (words .entry)) (now (numbers .entry))) [] .answer) (now (out .entry)) ⌝ }
 {
     let h = header(dt, length_unit, normalized, built);
     let answer = read_velocity(h, bodies, words, numbers, body);
@@ -394,8 +395,8 @@ pub extern "C" fn katydidzinc_set_targets(
     numbers: &mut [f32],
     table: &[u8],
 ) -> u64
-    ensures { λ r. ⌜ r ≡ number (run (setTargets (now (table .entry))) (lent dt «length_unit» normalized built (now (bodies .entry)) (now (words .entry)) (now (numbers .entry))) [] .answer) ⌝ }
-    ensures { λ _. ⌜ now (numbers .exit) ≡ run (setTargets (now (table .entry))) (lent dt «length_unit» normalized built (now (bodies .entry)) (now (words .entry)) (now (numbers .entry))) [] .after .numbers ⌝ }
+    ensures { λ r. ⌜ r ≡ number (run planar (further (now (table .entry))) (lent dt «length_unit» normalized built (now (bodies .entry)) (now (words .entry)) (now (numbers .entry))) [] .answer) ⌝ }
+    ensures { λ _. ⌜ now (numbers .exit) ≡ run planar (further (now (table .entry))) (lent dt «length_unit» normalized built (now (bodies .entry)) (now (words .entry)) (now (numbers .entry))) [] .after .numbers ⌝ }
 {
     let h = header(dt, length_unit, normalized, built);
     plain_number(set_targets(h, bodies, words, numbers, table))

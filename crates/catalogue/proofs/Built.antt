@@ -18,17 +18,22 @@ use Rattle.rows.proofs.WarmedRows.{context-joint}
 use Rattle.model.specs.Layout.{wordsWidth, masksPlace}
 use Rattle.model.specs.Records.{word}
 use Rattle.model.specs.Store.{jointAt, masksAt}
-use Rattle.model.specs.JointRows.{jointIds, rowCount, builtRows}
-use Rattle.model.specs.Model.{Model, withMark, jointCount, rowCapacity, Room}
-use Rattle.model.specs.Refusals.{Rule, refusal, atMost, allAxes, masksFit, finiteWarm, modelRules, storageRule, builtRule, jointRule}
-use Rattle.model.specs.Calls.{Outcome, outcome, refusalOf, firstRules, ownRules, rulesOf, grantedOf, rowsOf, run}
-use Rattle.model.specs.Calls.Call.{build, readRows}
-use Rattle.model.specs.Calls.Answer.{rowsRead}
+use Rattle.multibody.specs.JointRows.{jointIds, rowCount, builtRows}
+use Rattle.multibody.specs.Model.{Model, withMark}
+use Rattle.multibody.specs.Counts.{jointCount, rowCapacity, Room}
+use Rattle.multibody.specs.Rules.{Rule, refusal, atMost}
+use Rattle.multibody.specs.Refusals.{finiteWarm, modelRules, storageRule, builtRule, jointRule}
+use Rattle.multibody.specs.Calls.{Outcome, outcome, refusalOf, firstRules, ownRules, rulesOf, grantedOf, rowsOf, run}
+use Rattle.multibody.specs.Calls.Call.{build, readRows}
+use Rattle.multibody.specs.Calls.Answer.{rowsRead}
+use Rattle.model.specs.Planar.{planar}
+use Rattle.model.proofs.PlanarLaws.{planar-laws}
+use Rattle.model.specs.Refusals.{allAxes, masksFit}
 use Rattle.model.proofs.JointRowsLaws.{masks-enabled}
 use Rattle.model.proofs.RefusalLaws.{Hold, all-hold, hold-granted, call-numbered, model-numbered, RulesHold, rules-hold, rules-granted, all-at, all-below, at-most, room-of}
 use Rattle.model.proofs.CallLaws.{run-granted}
-use Rattle.model.proofs.RefusedExactly.{told, exactly-granted}
-use Rattle.model.proofs.RowWorks.{madeOf, length-made}
+use Rattle.multibody.proofs.RefusedExactly.{told, exactly-granted}
+use Rattle.multibody.proofs.RowWorks.{madeOf, length-made}
 use Rattle.catalogue.specs.Choices.{entry, Legal}
 use Rattle.catalogue.specs.Built.{listedIds, OnLine, contextAt, lastAt, Gives, Catalogued}
 use Rattle.catalogue.proofs.ChoicesLaws.{once}
@@ -50,33 +55,33 @@ hold-both (q ∷ qs) rs h k = (h .0, hold-both qs rs (h .1) k)
 
 -- ---- a build that is not refused
 
-module _ (m : Model) (warm : Warmstart) (substep : ℕ) (rows : List Float) (granted : refusalOf (run (build warm substep) m rows .answer) ≡ 0) where
-  no-rule : refusal (rulesOf (build warm substep) m rows) ≡ 0
-  no-rule = sym (told (build warm substep) m rows) ∙ granted
+module _ (m : Model) (warm : Warmstart) (substep : ℕ) (rows : List Float) (granted : refusalOf (run planar (build warm substep) m rows .answer) ≡ 0) where
+  no-rule : refusal (rulesOf planar (build warm substep) m rows) ≡ 0
+  no-rule = sym (told planar-laws (build warm substep) m rows) ∙ granted
 
-  first-held : Hold (modelRules m (finiteWarm warm) ++ (storageRule m rows ∷ []))
+  first-held : Hold (modelRules planar m (finiteWarm warm) ++ (storageRule planar m rows ∷ []))
   unfolding rulesOf
   first-held =
-      hold-first (firstRules (build warm substep) m rows) (ownRules (build warm substep) m)
-      (all-hold (rulesOf (build warm substep) m rows) (call-numbered m (build warm substep) rows) no-rule)
+      hold-first (firstRules planar (build warm substep) m rows) (ownRules planar (build warm substep) m)
+      (all-hold (rulesOf planar (build warm substep) m rows) (call-numbered m (build warm substep) rows) no-rule)
 
   rules : RulesHold m
   rules =
       rules-hold m (finiteWarm warm)
-      (hold-granted (modelRules m (finiteWarm warm)) (hold-first (modelRules m (finiteWarm warm)) (storageRule m rows ∷ []) first-held))
+      (hold-granted (modelRules planar m (finiteWarm warm)) (hold-first (modelRules planar m (finiteWarm warm)) (storageRule planar m rows ∷ []) first-held))
 
-  room : Room m rows
-  room = room-of m rows (hold-granted (storageRule m rows ∷ []) (hold-second (modelRules m (finiteWarm warm)) (storageRule m rows ∷ []) first-held))
+  room : Room planar m rows
+  room = room-of m rows (hold-granted (storageRule planar m rows ∷ []) (hold-second (modelRules planar m (finiteWarm warm)) (storageRule planar m rows ∷ []) first-held))
 
   -- it leaves the model marked, and its rows in the storage
-  abbrev after : Outcome
-  after = grantedOf (build warm substep) m rows
+  abbrev after : Outcome planar
+  after = grantedOf planar (build warm substep) m rows
 
-  ran : run (build warm substep) m rows ≡ after
+  ran : run planar (build warm substep) m rows ≡ after
   ran = sym (run-granted (build warm substep) m rows no-rule)
 
   -- rule 3: each joint's masks are legal
-  legal-masks : (j : ℕ) → j < jointCount (m .words) (m .numbers) → Legal (masksAt (m .words) j)
+  legal-masks : (j : ℕ) → j < jointCount planar (m .words) (m .numbers) → Legal (masksAt (m .words) j)
   unfolding masksFit masksAt
   legal-masks j h =
       let fit = all-below (masksFit (m .words)) _ (rules .masks) j h in
@@ -91,17 +96,17 @@ module _ (m : Model) (warm : Warmstart) (substep : ℕ) (rows : List Float) (gra
 
   -- ---- a row read after it
 
-  module _ (j : ℕ) (h : j < jointCount (m .words) (m .numbers)) where
-    after-room : Room m (after .rows)
+  module _ (j : ℕ) (h : j < jointCount planar (m .words) (m .numbers)) where
+    after-room : Room planar m (after .rows)
     unfolding grantedOf rowCapacity
     after-room = omega (arith, room, final-length m warm substep rows room j h)
 
-    read-held : Hold (rulesOf (readRows j) (after .after) (after .rows))
+    read-held : Hold (rulesOf planar (readRows j) (after .after) (after .rows))
     unfolding grantedOf rulesOf storageRule builtRule jointRule
     read-held =
-        hold-both (modelRules (withMark m true) true ++ (storageRule (withMark m true) (after .rows) ∷ [])) _
-        (hold-both (modelRules (withMark m true) true) (storageRule (withMark m true) (after .rows) ∷ [])
-        (all-hold (modelRules (withMark m true) true) (model-numbered (withMark m true) true) (rules-granted (withMark m true) true marked refl))
+        hold-both (modelRules planar (withMark m true) true ++ (storageRule planar (withMark m true) (after .rows) ∷ [])) _
+        (hold-both (modelRules planar (withMark m true) true) (storageRule planar (withMark m true) (after .rows) ∷ [])
+        (all-hold (modelRules planar (withMark m true) true) (model-numbered (withMark m true) true) (rules-granted (withMark m true) true marked refl))
         (ap not (le-ltb _ _ after-room), tt))
         (refl, (lt-ltb _ _ h, tt))
       where
@@ -119,16 +124,16 @@ module _ (m : Model) (warm : Warmstart) (substep : ℕ) (rows : List Float) (gra
           dt = rules .dt;
         }
 
-    read-run : run (readRows j) (after .after) (after .rows) ≡ outcome (rowsRead (jointIds (m .words) j) (rowsOf (m .words) (after .rows) j)) (after .after) (after .rows)
+    read-run : run planar (readRows j) (after .after) (after .rows) ≡ outcome (rowsRead (jointIds planar (m .words) j) (rowsOf planar (m .words) (after .rows) j)) (after .after) (after .rows)
     unfolding grantedOf
-    read-run = exactly-granted (readRows j) (after .after) (after .rows) read-held
+    read-run = exactly-granted planar-laws (readRows j) (after .after) (after .rows) read-held
 
     module _ (n : ℕ) (on : OnLine m j n) where
-      ids-listed : jointIds (m .words) j ≡ listedIds n
+      ids-listed : jointIds planar (m .words) j ≡ listedIds n
       unfolding jointIds
       ids-listed = ap (rowIds 2 1) (masks-enabled (m .words) j (on .enabled) ∙ on .masks)
 
-      rows-made : rowsOf (m .words) (after .rows) j ≡ madeOf m warm substep j rows
+      rows-made : rowsOf planar (m .words) (after .rows) j ≡ madeOf planar-laws m warm substep j rows
       unfolding grantedOf
       rows-made = built-rows m warm substep rows room j h
 
@@ -137,7 +142,7 @@ module _ (m : Model) (warm : Warmstart) (substep : ℕ) (rows : List Float) (gra
       joint-masks = on .masks
 
       -- the rows of a joint that is enabled, by the ids of its masks
-      made-by-ids : madeOf m warm substep j rows
+      made-by-ids : madeOf planar-laws m warm substep j rows
           ≡ warmedAll warm substep (jointAt (m .words) (m .numbers) j) (listedIds n) (lastAt m j rows)
           (finalizeOf (map (rowOf (contextAt m j)) (groupOne 2 1 (entry n))) ++ finalizeOf (map (rowOf (contextAt m j)) (groupTwo 2 1 (entry n))))
       unfolding builtRows builderUpdateOf updateOf
@@ -154,7 +159,7 @@ module _ (m : Model) (warm : Warmstart) (substep : ℕ) (rows : List Float) (gra
           (finalizeOf (map (rowOf (contextAt m j)) (groupOne 2 1 (entry n))) ++ finalizeOf (map (rowOf (contextAt m j)) (groupTwo 2 1 (entry n)))))
           joint-masks)
 
-      count-listed : rowCount (m .words) j ≡ length (listedIds n)
+      count-listed : rowCount planar (m .words) j ≡ length (listedIds n)
       unfolding rowCount
       count-listed = ap length ids-listed
 
@@ -164,9 +169,9 @@ module _ (m : Model) (warm : Warmstart) (substep : ℕ) (rows : List Float) (gra
         one = groupOne 2 1 (entry n);
         two = groupTwo 2 1 (entry n);
         groups = refl;
-        made = madeOf m warm substep j rows;
+        made = madeOf planar-laws m warm substep j rows;
         by-ids = made-by-ids;
-        count = length-made m warm substep j rows ∙ count-listed;
+        count = length-made planar-laws m warm substep j rows ∙ count-listed;
         read = rw ran (read-run ∙ rw (ids-listed, rows-made));
       }
 

@@ -15,13 +15,18 @@ use Rattle.rows.specs.declared.generic_joint.Masks.{Masks}
 use Rattle.rows.specs.declared.integration_parameters.IntegrationParameters.{IntegrationParameters}
 use Rattle.rows.specs.declared.joint_constraint_builder.Warmstart.the-variants.{Cold}
 use Rattle.model.specs.Store.{world, masksAt, enabledAt, body1At, body2At, centerAt}
-use Rattle.model.specs.Model.{Model, model, bodyCount, jointCount, rowCapacity, rowsBefore, Room}
-use Rattle.model.specs.Refusals.{all, masksFit, presentOrWorld, bodiesPresent, bodiesApart, finiteFrom, noNanFrom, finiteParams, finiteWarm, finiteBody, finiteMotor, finiteCenter, finiteJoint, angleFits, centerFits, modelRules, storageRule, seedsRule, readsRows}
-use Rattle.model.specs.Calls.{refusalOf, firstRules, ownRules, rulesOf, run}
-use Rattle.model.specs.Calls.Call.{build}
+use Rattle.multibody.specs.Model.{Model, model}
+use Rattle.multibody.specs.Counts.{bodyCount, jointCount, rowCapacity, rowsBefore, Room}
+use Rattle.multibody.specs.Rules.{all}
+use Rattle.multibody.specs.Refusals.{presentOrWorld, bodiesPresent, bodiesApart, finiteParams, finiteWarm, modelRules, storageRule, seedsRule, readsRows}
+use Rattle.multibody.specs.Calls.{refusalOf, firstRules, ownRules, rulesOf, run}
+use Rattle.multibody.specs.Calls.Call.{build}
+use Rattle.model.specs.Planar.{planar}
+use Rattle.model.proofs.PlanarLaws.{planar-laws}
+use Rattle.model.specs.Refusals.{masksFit, finiteFrom, noNanFrom, finiteBody, finiteMotor, finiteCenter, finiteJoint, angleFits, centerFits}
 use Rattle.model.proofs.JointRowsLaws.{few-rows}
 use Rattle.model.proofs.RefusalLaws.{Hold, all-hold, hold-granted, model-numbered, RulesHold, rules-granted}
-use Rattle.model.proofs.RefusedExactly.{told}
+use Rattle.multibody.proofs.RefusedExactly.{told}
 use Rattle.catalogue.specs.Choices.{choices, entry, Legal}
 use Rattle.catalogue.specs.Built.{OnLine}
 use Rattle.catalogue.proofs.ChoicesLaws.{legal}
@@ -63,21 +68,21 @@ module _ (k : Masks) (h : Legal k) where
     dt = refl;
   }
 
-  room : Room (sample k) storage
+  room : Room planar (sample k) storage
   unfolding jointCount rowCapacity rowsBefore
   room = omega (arith, few-rows (sample k .words) 0 refl)
 
-  granted : Hold (rulesOf (build Cold 0) (sample k) storage)
+  granted : Hold (rulesOf planar (build Cold 0) (sample k) storage)
   unfolding rulesOf storageRule seedsRule readsRows finiteWarm
   granted =
-      hold-both (firstRules (build Cold 0) (sample k) storage) (ownRules (build Cold 0) (sample k))
-      (hold-both (modelRules (sample k) _) (storageRule (sample k) storage ∷ [])
-      (all-hold (modelRules (sample k) _) (model-numbered (sample k) _) (rules-granted (sample k) _ rules refl)) (ap not (le-ltb _ _ room), tt))
+      hold-both (firstRules planar (build Cold 0) (sample k) storage) (ownRules planar (build Cold 0) (sample k))
+      (hold-both (modelRules planar (sample k) _) (storageRule planar (sample k) storage ∷ [])
+      (all-hold (modelRules planar (sample k) _) (model-numbered (sample k) _) (rules-granted (sample k) _ rules refl)) (ap not (le-ltb _ _ room), tt))
       (refl, tt)
 
-pub every-line : (n : ℕ) → n < length choices → (refusalOf (run (build Cold 0) (sample (entry n)) storage .answer) ≡ 0) × OnLine (sample (entry n)) 0 n
+pub every-line : (n : ℕ) → n < length choices → (refusalOf (run planar (build Cold 0) (sample (entry n)) storage .answer) ≡ 0) × OnLine (sample (entry n)) 0 n
 unfolding jointCount enabledAt masksAt
 every-line n h = (
-  told (build Cold 0) (sample (entry n)) storage ∙ hold-granted (rulesOf (build Cold 0) (sample (entry n)) storage) (granted (entry n) (legal n h)),
+  told planar-laws (build Cold 0) (sample (entry n)) storage ∙ hold-granted (rulesOf planar (build Cold 0) (sample (entry n)) storage) (granted (entry n) (legal n h)),
   record { there = omega arith; enabled = refl; masks = refl },
 )

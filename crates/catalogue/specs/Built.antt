@@ -16,11 +16,13 @@ use Rattle.rows.specs.declared.joint_velocity_constraint.JointConstraint.{Joint
 use Rattle.rows.specs.declared.joint_velocity_constraint.RowContext.{RowContext}
 use Rattle.rows.specs.declared.joint_velocity_constraint.WritebackId.{WritebackId}
 use Rattle.model.specs.Store.{solverPoseAt, jointAt, masksAt, enabledAt, body1At, body2At}
-use Rattle.model.specs.JointRows.{impulsesAt, rowCount}
-use Rattle.model.specs.Model.{Model, jointCount, rowsBefore}
-use Rattle.model.specs.Calls.{Outcome, outcome, refusalOf, run}
-use Rattle.model.specs.Calls.Call.{build, readRows}
-use Rattle.model.specs.Calls.Answer.{rowsRead}
+use Rattle.multibody.specs.JointRows.{impulsesAt, rowCount}
+use Rattle.multibody.specs.Model.{Model}
+use Rattle.multibody.specs.Counts.{jointCount, rowsBefore}
+use Rattle.multibody.specs.Calls.{Outcome, outcome, refusalOf, run}
+use Rattle.multibody.specs.Calls.Call.{build, readRows}
+use Rattle.multibody.specs.Calls.Answer.{rowsRead}
+use Rattle.model.specs.Planar.{planar}
 use Rattle.catalogue.specs.Choices.{choices, entry}
 
 -- the ids on line n
@@ -29,7 +31,7 @@ listedIds n = rowIds 2 1 (entry n)
 
 -- joint j is there and enabled, and line n has its masks
 pub record OnLine (m : Model) (j n : ℕ) : Type 0 where
-  pub there : j < jointCount (m .words) (m .numbers)
+  pub there : j < jointCount planar (m .words) (m .numbers)
   pub enabled : isEnabled (enabledAt (m .words) j) ≡ true
   pub masks : masksAt (m .words) j ≡ entry n
 
@@ -40,7 +42,7 @@ contextAt m j =
 
 -- the last impulses of its rows, as they stand in the row storage
 abbrev pub lastAt : Model → ℕ → List Float → List Float
-lastAt m j rows = filled 6 (bits 0) (impulsesAt rows (rowsBefore (m .words) j) (rowCount (m .words) j))
+lastAt m j rows = filled 6 (bits 0) (impulsesAt planar rows (rowsBefore planar (m .words) j) (rowCount planar (m .words) j))
 
 -- The build gives joint j these ids.
 pub record Gives (m : Model) (warm : Warmstart) (substep : ℕ) (rows : List Float) (j : ℕ) (ids : List WritebackId) : Type 0 where
@@ -55,8 +57,8 @@ pub record Gives (m : Model) (warm : Warmstart) (substep : ℕ) (rows : List Flo
   -- as many as there are ids
   pub count : length made ≡ length ids
   -- a row read after the build answers these ids and these rows
-  pub read : let o : Outcome = run (build warm substep) m rows in
-      run (readRows j) (o .after) (o .rows) ≡ outcome (rowsRead ids made) (o .after) (o .rows)
+  pub read : let o : Outcome planar = run planar (build warm substep) m rows in
+      run planar (readRows j) (o .after) (o .rows) ≡ outcome (rowsRead ids made) (o .after) (o .rows)
 
 -- joint j's line, and its ids are what the build gives the joint
 pub record HasLine (m : Model) (warm : Warmstart) (substep : ℕ) (rows : List Float) (j : ℕ) : Type 0 where
@@ -68,5 +70,5 @@ pub record HasLine (m : Model) (warm : Warmstart) (substep : ℕ) (rows : List F
 -- Whatever a model and its numbers are: where a build is not refused, each enabled joint has its line.
 abbrev pub Catalogued : Type 0
 Catalogued =
-    (m : Model) (warm : Warmstart) (substep : ℕ) (rows : List Float) → refusalOf (run (build warm substep) m rows .answer) ≡ 0
-    → (j : ℕ) → j < jointCount (m .words) (m .numbers) → isEnabled (enabledAt (m .words) j) ≡ true → HasLine m warm substep rows j
+    (m : Model) (warm : Warmstart) (substep : ℕ) (rows : List Float) → refusalOf (run planar (build warm substep) m rows .answer) ≡ 0
+    → (j : ℕ) → j < jointCount planar (m .words) (m .numbers) → isEnabled (enabledAt (m .words) j) ≡ true → HasLine m warm substep rows j

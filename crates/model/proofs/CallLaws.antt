@@ -10,7 +10,7 @@ use native.Mathlib.Omega.{arith}
 use borrow.Author.Tests.{ne-eqb, eqb-true, eqb-false, lt-ltb, le-ltb, not-true, not-false}
 use lib.Dec.{eqb}
 use lib.Ieee.{Float}
-use Rattle.motor_table.specs.Tables.{mostRecords, readTable, tableAnswer}
+use Rattle.motor_table.specs.Tables.{mostRecords, readTable, tableRefusal, tableAnswer}
 use Rattle.motor_table.specs.declared.table.TableAnswer.{TableAnswer}
 use Rattle.motor_table.proofs.GrantedLaws.{refusal-cases, answer-refused, answer-granted}
 use Rattle.rows.specs.declared.joint_constraint_builder.Warmstart.{Warmstart}
@@ -20,18 +20,22 @@ use Rattle.rows.specs.RowIds.{rowIdsArray}
 use Rattle.rows.specs.Update.{rowsArray}
 use Rattle.rows.proofs.Filled.{take-filled}
 use Rattle.rows.proofs.RowArrays.{rowsArray-rows, rowIdsArray-ids}
-use Rattle.model.specs.JointRows.{state, jointIds, rowCount, rowsList, rowMasksAt}
-use Rattle.model.specs.Model.{Model, mostJoints, withBodies, bodyCount, jointCount, rowsBefore, Sound, Room}
-use Rattle.model.specs.Refusals.{mostRounds, Rule, refusal, modelRules, storageRule, sweepRule, builtRule, readsRows, seedsRule, bodyRule, jointRule, faultRule, firstFault, tableRules}
-use Rattle.model.specs.Calls.{Call, outcome, firstRules, ownRules, rulesOf, grantedOf, run, rowsFrom, rowsOf, rounds, sweepCounts, Counted, counted, countedRound}
-use Rattle.model.specs.Calls.Call.{sweep, readRows}
-use Rattle.model.specs.Calls.Answer.{rowsRead, swept, refused}
+use Rattle.model.specs.JointRows.{rowsList}
+use Rattle.multibody.specs.JointRows.{state, jointIds, rowCount, rowMasksAt}
+use Rattle.multibody.specs.Model.{Model, mostJoints, withBodies}
+use Rattle.multibody.specs.Counts.{bodyCount, jointCount, rowsBefore, Sound, Room}
+use Rattle.multibody.specs.Refusals.{mostRounds, modelRules, storageRule, sweepRule, builtRule, readsRows, seedsRule, bodyRule, jointRule}
+use Rattle.multibody.specs.Rules.{Rule, refusal}
+use Rattle.multibody.specs.Calls.{Call, outcome, firstRules, ownRules, rulesOf, grantedOf, run, rowsFrom, rowsOf, rounds, sweepCounts, Counted, counted, countedRound}
+use Rattle.multibody.specs.Calls.Call.{sweep, readRows}
+use Rattle.multibody.specs.Calls.Answer.{rowsRead, swept, refused}
+use Rattle.model.specs.Planar.{faultRule, tableRules, planar}
 use Rattle.model.specs.Answers.{idsList, rowsAnswer, noRows, rowsAnswerOf, sweepAnswer, sweptAs, sweepAnswerOf}
 use Rattle.model.specs.declared.calls.Plain.{Plain}
 use Rattle.model.specs.declared.calls.RowsAnswer.{RowsAnswer}
 use Rattle.model.specs.declared.calls.SweepAnswer.{SweepAnswer}
 use Rattle.model.proofs.JointRowsLaws.{few-rows}
-use Rattle.model.proofs.MotorCounts.{length-sweepCounts, last-counts}
+use Rattle.multibody.proofs.MotorCounts.{length-sweepCounts, last-counts}
 use Rattle.model.proofs.StoredRows.{rowsFrom-length}
 use Rattle.model.proofs.Tests.{by-cases}
 use Rattle.model.proofs.RefusalLaws.{Numbered, no-rules, rule-holds, rule-fails, granted-append, refused-append, model-numbered, first-numbered, call-numbered, Hold, all-hold, ruleOf, hold-number, at-most, rules-hold, sound-of, room-of}
@@ -44,36 +48,36 @@ or-true false = refl
 
 -- rules 1 to 7 and 12, and rule 8
 abbrev pub storageRules : Model → Bool → List Float → List Rule
-storageRules m arguments rows = modelRules m arguments ++ (storageRule m rows ∷ [])
+storageRules m arguments rows = modelRules planar m arguments ++ (storageRule planar m rows ∷ [])
 
 -- ---- a call refused, and a call granted
 
-module _ (c : Call) (m : Model) (rows : List Float) where
-  pub run-refused : {k : ℕ} → k ≡ refusal (rulesOf c m rows) → k ≢ 0 → outcome (refused k) m rows ≡ run c m rows
+module _ (c : Call planar) (m : Model) (rows : List Float) where
+  pub run-refused : {k : ℕ} → k ≡ refusal (rulesOf planar c m rows) → k ≢ 0 → outcome (refused k) m rows ≡ run planar c m rows
   unfolding run
   run-refused {k} e n = rw (← e, ne-eqb k 0 n)
 
-  pub run-granted : refusal (rulesOf c m rows) ≡ 0 → grantedOf c m rows ≡ run c m rows
+  pub run-granted : refusal (rulesOf planar c m rows) ≡ 0 → grantedOf planar c m rows ≡ run planar c m rows
   unfolding run
   run-granted e = rw e
 
 -- with k what the rules of the model and of the row storage come to
-module _ (c : Call) (m : Model) (rows : List Float) {k : ℕ} (e : k ≡ refusal (firstRules c m rows)) where
-  pub refused-early : k ≢ 0 → outcome (refused k) m rows ≡ run c m rows
+module _ (c : Call planar) (m : Model) (rows : List Float) {k : ℕ} (e : k ≡ refusal (firstRules planar c m rows)) where
+  pub refused-early : k ≢ 0 → outcome (refused k) m rows ≡ run planar c m rows
   unfolding rulesOf
   refused-early n =
-      let same = refused-append (firstRules c m rows) (ownRules c m) (λ z. n (e ∙ z)) in
+      let same = refused-append (firstRules planar c m rows) (ownRules planar c m) (λ z. n (e ∙ z)) in
       run-refused c m rows (e ∙ sym same) n
 
   -- once these hold, the call's own rules decide
-  own-decide : k ≡ 0 → refusal (rulesOf c m rows) ≡ refusal (ownRules c m)
+  own-decide : k ≡ 0 → refusal (rulesOf planar c m rows) ≡ refusal (ownRules planar c m)
   unfolding rulesOf
-  own-decide z = granted-append (firstRules c m rows) (ownRules c m) (first-numbered m c rows) (sym e ∙ z)
+  own-decide z = granted-append (firstRules planar c m rows) (ownRules planar c m) (first-numbered m c rows) (sym e ∙ z)
 
-  pub refused-late : {r : ℕ} → k ≡ 0 → r ≡ refusal (ownRules c m) → r ≢ 0 → outcome (refused r) m rows ≡ run c m rows
+  pub refused-late : {r : ℕ} → k ≡ 0 → r ≡ refusal (ownRules planar c m) → r ≢ 0 → outcome (refused r) m rows ≡ run planar c m rows
   refused-late z d n = run-refused c m rows (d ∙ sym (own-decide z)) n
 
-  pub granted-late : k ≡ 0 → refusal (ownRules c m) ≡ 0 → grantedOf c m rows ≡ run c m rows
+  pub granted-late : k ≡ 0 → refusal (ownRules planar c m) ≡ 0 → grantedOf planar c m rows ≡ run planar c m rows
   granted-late z d = run-granted c m rows (own-decide z ∙ d)
 
 -- ---- where a call is granted, each of its own rules holds
@@ -82,12 +86,12 @@ hold-last : (qs rs : List Rule) → Hold (qs ++ rs) → Hold rs
 hold-last [] rs h = h
 hold-last (q ∷ qs) rs h = hold-last qs rs (h .1)
 
-pub own-hold : (c : Call) (m : Model) (rows : List Float) → refusal (rulesOf c m rows) ≡ 0 → Hold (ownRules c m)
+pub own-hold : (c : Call planar) (m : Model) (rows : List Float) → refusal (rulesOf planar c m rows) ≡ 0 → Hold (ownRules planar c m)
 unfolding rulesOf
-own-hold c m rows e = hold-last (firstRules c m rows) (ownRules c m) (all-hold (rulesOf c m rows) (call-numbered m c rows) e)
+own-hold c m rows e = hold-last (firstRules planar c m rows) (ownRules planar c m) (all-hold (rulesOf planar c m rows) (call-numbered m c rows) e)
 
-pub own-rule : (k : ℕ) (c : Call) (m : Model) (rows : List Float) → refusal (rulesOf c m rows) ≡ 0 → ruleOf k (ownRules c m) ≡ true
-own-rule k c m rows e = hold-number k (ownRules c m) (own-hold c m rows e)
+pub own-rule : (k : ℕ) (c : Call planar) (m : Model) (rows : List Float) → refusal (rulesOf planar c m rows) ≡ 0 → ruleOf k (ownRules planar c m) ≡ true
+own-rule k c m rows e = hold-number k (ownRules planar c m) (own-hold c m rows e)
 
 -- ---- what rules 1 to 8 see to
 
@@ -98,16 +102,16 @@ granted-parts qs rs n e =
     (λ t. let z = eqb-false (refusal qs) 0 t in absurd (z (sym (refused-append qs rs z) ∙ e)))
 
 module _ (m : Model) (arguments : Bool) (rows : List Float) {k : ℕ} (e : k ≡ refusal (storageRules m arguments rows)) (z : k ≡ 0) where
-  parts : (refusal (modelRules m arguments) ≡ 0) × (refusal (storageRule m rows ∷ []) ≡ 0)
-  parts = granted-parts (modelRules m arguments) (storageRule m rows ∷ []) (model-numbered m arguments) (sym e ∙ z)
+  parts : (refusal (modelRules planar m arguments) ≡ 0) × (refusal (storageRule planar m rows ∷ []) ≡ 0)
+  parts = granted-parts (modelRules planar m arguments) (storageRule planar m rows ∷ []) (model-numbered m arguments) (sym e ∙ z)
 
-  pub call-sound : Sound m
+  pub call-sound : Sound planar m
   call-sound = sound-of m arguments (parts .0)
 
-  pub call-few-joints : jointCount (m .words) (m .numbers) ≤ mostJoints
-  call-few-joints = at-most mostJoints (jointCount (m .words) (m .numbers)) (rules-hold m arguments (parts .0) .joints)
+  pub call-few-joints : jointCount planar (m .words) (m .numbers) ≤ mostJoints
+  call-few-joints = at-most mostJoints (jointCount planar (m .words) (m .numbers)) (rules-hold m arguments (parts .0) .joints)
 
-  pub call-room : Room m rows
+  pub call-room : Room planar m rows
   call-room = room-of m rows (parts .1)
 
 -- ---- a call's own rules: each fails, or holds and leaves the rest to decide
@@ -139,59 +143,58 @@ module _ (rest : List Rule) where
     seeds warm substep (inl e) = rule-holds (seedsRule m warm substep) rest (rw e)
     seeds warm substep (inr r) = rule-holds (seedsRule m warm substep) rest (rw r (or-true (m .built)))
 
-    pub no-body : (i : ℕ) {n : ℕ} → n ≡ bodyCount (m .bodies) → n ≤ i → 11 ≡ refusal (bodyRule m i ∷ rest)
+    pub no-body : (i : ℕ) {n : ℕ} → n ≡ bodyCount planar (m .bodies) → n ≤ i → 11 ≡ refusal (bodyRule planar m i ∷ rest)
     unfolding bodyRule
-    no-body i {n} e h = sym (rule-fails (bodyRule m i) rest (rw (← e) (le-ltb i n h)))
+    no-body i {n} e h = sym (rule-fails (bodyRule planar m i) rest (rw (← e) (le-ltb i n h)))
 
-    pub some-body : (i : ℕ) {n : ℕ} → n ≡ bodyCount (m .bodies) → i < n → refusal (bodyRule m i ∷ rest) ≡ refusal rest
+    pub some-body : (i : ℕ) {n : ℕ} → n ≡ bodyCount planar (m .bodies) → i < n → refusal (bodyRule planar m i ∷ rest) ≡ refusal rest
     unfolding bodyRule
-    some-body i {n} e h = rule-holds (bodyRule m i) rest (rw (← e) (lt-ltb i n h))
+    some-body i {n} e h = rule-holds (bodyRule planar m i) rest (rw (← e) (lt-ltb i n h))
 
-    pub no-joint : (j : ℕ) {n : ℕ} → n ≡ jointCount (m .words) (m .numbers) → n ≤ j → 11 ≡ refusal (jointRule m j ∷ rest)
+    pub no-joint : (j : ℕ) {n : ℕ} → n ≡ jointCount planar (m .words) (m .numbers) → n ≤ j → 11 ≡ refusal (jointRule planar m j ∷ rest)
     unfolding jointRule
-    no-joint j {n} e h = sym (rule-fails (jointRule m j) rest (rw (← e) (le-ltb j n h)))
+    no-joint j {n} e h = sym (rule-fails (jointRule planar m j) rest (rw (← e) (le-ltb j n h)))
 
-    pub some-joint : (j : ℕ) {n : ℕ} → n ≡ jointCount (m .words) (m .numbers) → j < n → refusal (jointRule m j ∷ rest) ≡ refusal rest
+    pub some-joint : (j : ℕ) {n : ℕ} → n ≡ jointCount planar (m .words) (m .numbers) → j < n → refusal (jointRule planar m j ∷ rest) ≡ refusal rest
     unfolding jointRule
-    some-joint j {n} e h = rule-holds (jointRule m j) rest (rw (← e) (lt-ltb j n h))
+    some-joint j {n} e h = rule-holds (jointRule planar m j) rest (rw (← e) (lt-ltb j n h))
 
 -- a call whose one rule of its own is that a build comes before it
-module _ (c : Call) (m : Model) (rows : List Float) {k : ℕ} (e : k ≡ refusal (firstRules c m rows)) (z : k ≡ 0) (own : ownRules c m ≡ builtRule m ∷ []) where
-  pub refused-unbuilt : not (m .built) ≡ true → outcome (refused 10) m rows ≡ run c m rows
+module _ (c : Call planar) (m : Model) (rows : List Float) {k : ℕ} (e : k ≡ refusal (firstRules planar c m rows)) (z : k ≡ 0) (own : ownRules planar c m ≡ builtRule m ∷ []) where
+  pub refused-unbuilt : not (m .built) ≡ true → outcome (refused 10) m rows ≡ run planar c m rows
   refused-unbuilt t = refused-late c m rows e z (rw own (not-built [] m (not-true (m .built) t))) (omega arith)
 
-  pub granted-built : not (m .built) ≡ false → grantedOf c m rows ≡ run c m rows
+  pub granted-built : not (m .built) ≡ false → grantedOf planar c m rows ≡ run planar c m rows
   granted-built t = granted-late c m rows e z (rw own (is-built [] m (not-false (m .built) t) ∙ no-rules))
 
 -- rules 13 to 15 come to the table's refusal
-pub table-refusal : (m : Model) (bytes : List ℕ) → refusal (tableRules m bytes) ≡ firstFault m bytes
+pub table-refusal : (joints : ℕ) (bytes : List ℕ) → refusal (tableRules joints bytes) ≡ tableRefusal (readTable joints bytes)
 unfolding tableRules refusal
-table-refusal m bytes =
-    refusal-cases (λ k. refusal (faultRule 13 k ∷ faultRule 14 k ∷ faultRule 15 k ∷ []) ≡ k) refl refl refl refl (jointCount (m .words) (m .numbers)) mostRecords bytes
+table-refusal joints bytes = refusal-cases (λ k. refusal (faultRule 13 k ∷ faultRule 14 k ∷ faultRule 15 k ∷ []) ≡ k) refl refl refl refl joints mostRecords bytes
 
-module _ (m : Model) (bytes : List ℕ) {joints : ℕ} (e : joints ≡ jointCount (m .words) (m .numbers)) where
-  pub table-faulty : {k : ℕ} → tableAnswer 0 (readTable joints bytes) ≡ TableAnswer.Refused k → (k ≡ refusal (tableRules m bytes)) × (k ≢ 0)
+module _ (n : ℕ) (bytes : List ℕ) {joints : ℕ} (e : joints ≡ n) where
+  pub table-faulty : {k : ℕ} → tableAnswer 0 (readTable joints bytes) ≡ TableAnswer.Refused k → (k ≡ refusal (tableRules n bytes)) × (k ≢ 0)
   table-faulty {k} h =
-      let a = answer-refused (jointCount (m .words) (m .numbers)) mostRecords bytes 0 k (rw e at h) in
-      (a .0 ∙ sym (table-refusal m bytes), a .1)
+      let a = answer-refused n mostRecords bytes 0 k (rw e at h) in
+      (a .0 ∙ sym (table-refusal n bytes), a .1)
 
-  pub table-read : {n : ℕ} → tableAnswer 0 (readTable joints bytes) ≡ TableAnswer.Granted n → refusal (tableRules m bytes) ≡ 0
-  table-read {n} h = table-refusal m bytes ∙ answer-granted (jointCount (m .words) (m .numbers)) _ 0 n (rw e at h)
+  pub table-read : {k : ℕ} → tableAnswer 0 (readTable joints bytes) ≡ TableAnswer.Granted k → refusal (tableRules n bytes) ≡ 0
+  table-read {k} h = table-refusal n bytes ∙ answer-granted n _ 0 k (rw e at h)
 
 -- rule 2
-pub few-joints : (m : Model) (arguments : Bool) {k : ℕ} → k ≡ refusal (modelRules m arguments) → k ≡ 0 → jointCount (m .words) (m .numbers) ≤ mostJoints
-few-joints m arguments e z = at-most mostJoints (jointCount (m .words) (m .numbers)) (rules-hold m arguments (sym e ∙ z) .joints)
+pub few-joints : (m : Model) (arguments : Bool) {k : ℕ} → k ≡ refusal (modelRules planar m arguments) → k ≡ 0 → jointCount planar (m .words) (m .numbers) ≤ mostJoints
+few-joints m arguments e z = at-most mostJoints (jointCount planar (m .words) (m .numbers)) (rules-hold m arguments (sym e ∙ z) .joints)
 
 -- ---- a sweep's answer: the outcome as every call's, and how its array is filled
 
 module _ (n : ℕ) (m : Model) (rows : List Float) where
   abbrev joints : ℕ
-  joints = jointCount (m .words) (m .numbers)
+  joints = jointCount planar (m .words) (m .numbers)
 
   abbrev Swept : List Float → List Float → SweepAnswer → Type 0
-  Swept bodies′ rows′ r = (outcome (sweepAnswer joints r) (withBodies m bodies′) rows′ ≡ run (sweep n) m rows) × (r ≡ sweepAnswerOf (run (sweep n) m rows .answer))
+  Swept bodies′ rows′ r = (outcome (sweepAnswer joints r) (withBodies m bodies′) rows′ ≡ run planar (sweep n) m rows) × (r ≡ sweepAnswerOf (run planar (sweep n) m rows .answer))
 
-  pub sweep-refused : {k : ℕ} {r : SweepAnswer} → r ≡ sweptAs (Plain.Refused k) [] → outcome (refused k) m rows ≡ run (sweep n) m rows → Swept (m .bodies) rows r
+  pub sweep-refused : {k : ℕ} {r : SweepAnswer} → r ≡ sweptAs (Plain.Refused k) [] → outcome (refused k) m rows ≡ run planar (sweep n) m rows → Swept (m .bodies) rows r
   unfolding sweepAnswerOf
   sweep-refused e o = (rw e o, e ∙ ap (λ o. sweepAnswerOf (o .answer)) o)
 
@@ -199,49 +202,49 @@ module _ (n : ℕ) (m : Model) (rows : List Float) where
   swept-as counts = record { answer = Plain.Granted; counts = counts }
 
   pub sweep-granted : {bodies′ rows′ : List Float} {counts : List ℕ} → joints ≤ mostJoints
-      → counted (state rows′ bodies′) counts ≡ rounds (countedRound (m .words) joints) n (counted (state rows (m .bodies)) (replicate 128 0))
-      → grantedOf (sweep n) m rows ≡ run (sweep n) m rows → Swept bodies′ rows′ (swept-as counts)
+      → counted (state rows′ bodies′) counts ≡ rounds (countedRound planar (m .words) joints) n (counted (state rows (m .bodies)) (replicate 128 0))
+      → grantedOf planar (sweep n) m rows ≡ run planar (sweep n) m rows → Swept bodies′ rows′ (swept-as counts)
   unfolding sweepAnswerOf grantedOf
   sweep-granted {bodies′} {rows′} {counts} few e o =
-      let last : List ℕ = sweepCounts (m .words) joints n (state rows (m .bodies)) in
-      let all = e ∙ last-counts (m .words) joints n (state rows (m .bodies)) few in
+      let last : List ℕ = sweepCounts planar (m .words) joints n (state rows (m .bodies)) in
+      let all = e ∙ last-counts planar (m .words) joints n (state rows (m .bodies)) few in
       let told : take joints counts ≡ last =
-      ap (λ (s : Counted). take joints (s .counts)) all ∙ take-filled 0 128 joints last (length-sweepCounts (m .words) joints n (state rows (m .bodies))) few in (
+      ap (λ (s : Counted). take joints (s .counts)) all ∙ take-filled 0 128 joints last (length-sweepCounts planar (m .words) joints n (state rows (m .bodies))) few in (
         ap (λ cs. outcome (swept cs) (withBodies m bodies′) rows′) told ∙ ap (λ (s : Counted). outcome (swept last) (withBodies m (s .state .bodies)) (s .state .rows)) all ∙ o,
         ap (λ (s : Counted). swept-as (s .counts)) all ∙ ap (λ o. sweepAnswerOf (o .answer)) o,
       )
 
 -- ---- a row read's answer: the outcome as every call's, and how its arrays are filled
 
-read-ids : (j : ℕ) (m : Model) → idsList (rowIdsArray (rowMasksAt (m .words) j)) ≡ jointIds (m .words) j
+read-ids : (j : ℕ) (m : Model) → idsList (rowIdsArray (rowMasksAt planar (m .words) j)) ≡ jointIds planar (m .words) j
 unfolding jointIds
-read-ids j m = rowIdsArray-ids (rowMasksAt (m .words) j)
+read-ids j m = rowIdsArray-ids (rowMasksAt planar (m .words) j)
 
-read-rows : (j : ℕ) (m : Model) (rows : List Float) → rowsList (rowsArray (rowsFrom rows (rowsBefore (m .words) j) (rowCount (m .words) j))) ≡ rowsOf (m .words) rows j
+read-rows : (j : ℕ) (m : Model) (rows : List Float) → rowsList (rowsArray (rowsFrom planar rows (rowsBefore planar (m .words) j) (rowCount planar (m .words) j))) ≡ rowsOf planar (m .words) rows j
 unfolding rowsOf
 read-rows j m rows =
-    let k = rowsBefore (m .words) j in
-    let n = rowCount (m .words) j in
-    rowsArray-rows (rowsFrom rows k n) (omega (arith, rowsFrom-length rows k n, few-rows (m .words) j {n = n} refl))
+    let k = rowsBefore planar (m .words) j in
+    let n = rowCount planar (m .words) j in
+    rowsArray-rows (rowsFrom planar rows k n) (omega (arith, rowsFrom-length rows k n, few-rows (m .words) j {n = n} refl))
 
 module _ (j : ℕ) (m : Model) (rows : List Float) where
   abbrev Promised : RowsAnswer → Type 0
-  Promised r = (outcome (rowsAnswer r) m rows ≡ run (readRows j) m rows) × (r ≡ rowsAnswerOf (rowMasksAt (m .words) j) (run (readRows j) m rows .answer))
+  Promised r = (outcome (rowsAnswer r) m rows ≡ run planar (readRows j) m rows) × (r ≡ rowsAnswerOf (rowMasksAt planar (m .words) j) (run planar (readRows j) m rows .answer))
 
-  pub rows-refused : {k : ℕ} {r : RowsAnswer} → r ≡ noRows (Plain.Refused k) → outcome (refused k) m rows ≡ run (readRows j) m rows → Promised r
+  pub rows-refused : {k : ℕ} {r : RowsAnswer} → r ≡ noRows (Plain.Refused k) → outcome (refused k) m rows ≡ run planar (readRows j) m rows → Promised r
   unfolding rowsAnswerOf
-  rows-refused e o = (rw e o, e ∙ ap (λ o. rowsAnswerOf (rowMasksAt (m .words) j) (o .answer)) o)
+  rows-refused e o = (rw e o, e ∙ ap (λ o. rowsAnswerOf (rowMasksAt planar (m .words) j) (o .answer)) o)
 
-  pub rows-granted : {ids : RowIds} {first count : ℕ} {read : Rows} → ids ≡ rowIdsArray (rowMasksAt (m .words) j)
-      → first ≡ rowsBefore (m .words) j → count ≡ rowCount (m .words) j → read ≡ rowsArray (rowsFrom rows first count)
-      → grantedOf (readRows j) m rows ≡ run (readRows j) m rows → Promised (record { answer = Plain.Granted; ids = ids; rows = read })
+  pub rows-granted : {ids : RowIds} {first count : ℕ} {read : Rows} → ids ≡ rowIdsArray (rowMasksAt planar (m .words) j)
+      → first ≡ rowsBefore planar (m .words) j → count ≡ rowCount planar (m .words) j → read ≡ rowsArray (rowsFrom planar rows first count)
+      → grantedOf planar (readRows j) m rows ≡ run planar (readRows j) m rows → Promised (record { answer = Plain.Granted; ids = ids; rows = read })
   unfolding rowsAnswerOf grantedOf rowsOf
   rows-granted {read = read} i f c r o =
-      let k = rowsBefore (m .words) j in
-      let n = rowCount (m .words) j in
-      let same : read ≡ rowsArray (rowsFrom rows k n) = rw (← f, ← c) r in
+      let k = rowsBefore planar (m .words) j in
+      let n = rowCount planar (m .words) j in
+      let same : read ≡ rowsArray (rowsFrom planar rows k n) = rw (← f, ← c) r in
       let first = ap idsList i ∙ read-ids j m in
       let last = ap rowsList same ∙ read-rows j m rows in (
-        ap (λ is. outcome (rowsRead is (rowsList read)) m rows) first ∙ ap (λ rs. outcome (rowsRead (jointIds (m .words) j) rs) m rows) last ∙ o,
-        rw (r, f, c, i) (ap (λ o. rowsAnswerOf (rowMasksAt (m .words) j) (o .answer)) o),
+        ap (λ is. outcome (rowsRead is (rowsList read)) m rows) first ∙ ap (λ rs. outcome (rowsRead (jointIds planar (m .words) j) rs) m rows) last ∙ o,
+        rw (r, f, c, i) (ap (λ o. rowsAnswerOf (rowMasksAt planar (m .words) j) (o .answer)) o),
       )

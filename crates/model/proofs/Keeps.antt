@@ -23,13 +23,17 @@ use Rattle.rows.specs.declared.joint_constraint_builder.Warmstart.{Warmstart}
 use Rattle.model.specs.Layout.{bodyWidth, velocityPlace, numbersWidth, centerPlace}
 use Rattle.model.specs.Records.{num, puts}
 use Rattle.model.specs.Store.{world, putVel, putPose, putRow, putSeed, seedIndex, axisOf, centerAt}
-use Rattle.model.specs.JointRows.{State, state, putRows, buildJoint, sweepRow, sweepJoint, warmstartRow, warmstartJoint, removeBiasJoint, writeBackIds, writeBackJoint}
-use Rattle.model.specs.Model.{Model, model, withMark, withBodies, withNumbers, bodyCount, jointCount, rowsBefore, totalRows}
-use Rattle.model.specs.Refusals.{Rule, refusal, all, bodyRule, finiteFrom, noNanFrom, finitePose, finiteBody, finiteMotor, finiteJoint, centerFits, presentOrWorld, bodiesPresent, modelRules, tableRules}
-use Rattle.model.specs.Calls.Call.{load, place, build, warmStart, sweep, removeBias, writeBack, readRows, readVelocity, setTargets}
+use Rattle.multibody.specs.JointRows.{State, state, putRows, buildJoint, sweepRow, sweepJoint, warmstartRow, warmstartJoint, removeBiasJoint, writeBackIds, writeBackJoint}
+use Rattle.multibody.specs.Model.{Model, model, withMark, withBodies, withNumbers}
+use Rattle.multibody.specs.Counts.{bodyCount, jointCount, rowsBefore, totalRows}
+use Rattle.multibody.specs.Rules.{Rule, refusal, all}
+use Rattle.multibody.specs.Refusals.{bodyRule, presentOrWorld, bodiesPresent, modelRules}
+use Rattle.multibody.specs.Calls.Call.{load, place, build, warmStart, sweep, removeBias, writeBack, readRows, readVelocity, further}
+use Rattle.multibody.specs.Calls.Answer.{refused}
+use Rattle.multibody.specs.Calls.{Call, Outcome, outcome, rulesOf, grantedOf, run, eachJoint, rounds, buildOne, warmstartOne, sweepOne, sweepRound, removeBiasOne, writeBackOne}
+use Rattle.model.specs.Planar.{tableRules, planar}
+use Rattle.model.specs.Refusals.{finiteFrom, noNanFrom, finitePose, finiteBody, finiteMotor, finiteJoint, centerFits}
 use Rattle.model.specs.MotorTargets.{setRecords, setTable}
-use Rattle.model.specs.Calls.Answer.{refused}
-use Rattle.model.specs.Calls.{Call, Outcome, outcome, rulesOf, grantedOf, run, eachJoint, rounds, buildOne, warmstartOne, sweepOne, sweepRound, removeBiasOne, writeBackOne}
 use Rattle.model.proofs.Strided.{length-puts, num-beside, num-other, num-stored}
 use Rattle.model.proofs.CallLaws.{run-granted, run-refused, own-hold, table-refusal}
 use Rattle.model.proofs.Tests.{by-cases}
@@ -64,7 +68,7 @@ same-poses b = record { size = refl; numbers = λ i c h. refl }
 then-poses : {a b c : List Float} → SamePoses a b → SamePoses b c → SamePoses a c
 then-poses s t = record { size = t .size ∙ s .size; numbers = λ i c h. t .numbers i c h ∙ s .numbers i c h }
 
-putVel-poses : (b : List Float) (i : ℕ) (v : SolverVel) → SamePoses b (putVel b i v)
+pub putVel-poses : (b : List Float) (i : ℕ) (v : SolverVel) → SamePoses b (putVel b i v)
 unfolding putVel
 putVel-poses b i v = go (eqb i world) (v .linear .x ∷ v .linear .y ∷ v .angular ∷ []) refl
   where
@@ -75,12 +79,12 @@ putVel-poses b i v = go (eqb i world) (v .linear .x ∷ v .linear .y ∷ v .angu
 
 -- ---- the length of row storage
 
-putRows-size : (s : List Float) (k : ℕ) (rs : List JointConstraint) → length (putRows s k rs) ≡ length s
+putRows-size : (s : List Float) (k : ℕ) (rs : List JointConstraint) → length (putRows planar s k rs) ≡ length s
 unfolding putRows
 putRows-size s k [] = refl
 putRows-size s k (r ∷ rs) = putRows-size (putRow s k r) (k + 1) rs ∙ length-putRow s k r
 
-bias-size : (k n : ℕ) (rows : List Float) → length (removeBiasJoint k n rows) ≡ length rows
+bias-size : (k n : ℕ) (rows : List Float) → length (removeBiasJoint planar k n rows) ≡ length rows
 unfolding removeBiasJoint
 bias-size k zero rows = refl
 bias-size k (suc n) rows = bias-size (k + 1) n _ ∙ length-putRow rows k _
@@ -88,18 +92,18 @@ bias-size k (suc n) rows = bias-size (k + 1) n _ ∙ length-putRow rows k _
 -- ---- what warm start, sweep, build and bias removal keep
 
 module _ (b : List Float) where
-  warm-row : (rows : List Float) (k b1 b2 : ℕ) (b′ : List Float) → SamePoses b b′ → SamePoses b (warmstartRow rows k b1 b2 b′)
+  warm-row : (rows : List Float) (k b1 b2 : ℕ) (b′ : List Float) → SamePoses b b′ → SamePoses b (warmstartRow planar rows k b1 b2 b′)
   unfolding warmstartRow
   warm-row rows k b1 b2 b′ s = then-poses s (then-poses (putVel-poses b′ b1 _) (putVel-poses _ b2 _))
 
-  warm-joint : (rows : List Float) (k n b1 b2 : ℕ) (b′ : List Float) → SamePoses b b′ → SamePoses b (warmstartJoint rows k n b1 b2 b′)
+  warm-joint : (rows : List Float) (k n b1 b2 : ℕ) (b′ : List Float) → SamePoses b b′ → SamePoses b (warmstartJoint planar rows k n b1 b2 b′)
   unfolding warmstartJoint
   warm-joint rows k zero b1 b2 b′ s = s
-  warm-joint rows k (suc n) b1 b2 b′ s = warm-joint rows (k + 1) n b1 b2 (warmstartRow rows k b1 b2 b′) (warm-row rows k b1 b2 b′ s)
+  warm-joint rows k (suc n) b1 b2 b′ s = warm-joint rows (k + 1) n b1 b2 (warmstartRow planar rows k b1 b2 b′) (warm-row rows k b1 b2 b′ s)
 
-  pub warm-keeps : (words : List ℕ) (rows : List Float) (j n : ℕ) → SamePoses b (eachJoint (warmstartOne words rows) j n b)
+  pub warm-keeps : (words : List ℕ) (rows : List Float) (j n : ℕ) → SamePoses b (eachJoint (warmstartOne planar words rows) j n b)
   unfolding warmstartOne
-  warm-keeps words rows j n = each-keeps (SamePoses b) (warmstartOne words rows) (λ j. warm-joint rows _ _ _ _) j n b (same-poses b)
+  warm-keeps words rows j n = each-keeps (SamePoses b) (warmstartOne planar words rows) (λ j. warm-joint rows _ _ _ _) j n b (same-poses b)
 
   -- poses and masses, and how many rows there are
   pub record Swept (rows : List Float) (st : State) : Type 0 where
@@ -107,37 +111,37 @@ module _ (b : List Float) where
     pub size : length (st .rows) ≡ length rows
 
   module _ (rows : List Float) where
-    sweep-row : (k b1 b2 : ℕ) (st : State) → Swept rows st → Swept rows (sweepRow k b1 b2 st)
+    sweep-row : (k b1 b2 : ℕ) (st : State) → Swept rows st → Swept rows (sweepRow planar k b1 b2 st)
     unfolding sweepRow
     sweep-row k b1 b2 st s = record {
       poses = then-poses (s .poses) (then-poses (putVel-poses (st .bodies) b1 _) (putVel-poses _ b2 _));
       size = length-putRow (st .rows) k _ ∙ s .size;
     }
 
-    sweep-joint : (k n b1 b2 : ℕ) (st : State) → Swept rows st → Swept rows (sweepJoint k n b1 b2 st)
+    sweep-joint : (k n b1 b2 : ℕ) (st : State) → Swept rows st → Swept rows (sweepJoint planar k n b1 b2 st)
     unfolding sweepJoint
     sweep-joint k zero b1 b2 st s = s
-    sweep-joint k (suc n) b1 b2 st s = sweep-joint (k + 1) n b1 b2 (sweepRow k b1 b2 st) (sweep-row k b1 b2 st s)
+    sweep-joint k (suc n) b1 b2 st s = sweep-joint (k + 1) n b1 b2 (sweepRow planar k b1 b2 st) (sweep-row k b1 b2 st s)
 
-    sweep-round : (words : List ℕ) (joints : ℕ) (st : State) → Swept rows st → Swept rows (sweepRound words joints st)
+    sweep-round : (words : List ℕ) (joints : ℕ) (st : State) → Swept rows st → Swept rows (sweepRound planar words joints st)
     unfolding sweepRound sweepOne
-    sweep-round words joints = each-keeps (Swept rows) (sweepOne words) (λ j. sweep-joint _ _ _ _) 0 joints
+    sweep-round words joints = each-keeps (Swept rows) (sweepOne planar words) (λ j. sweep-joint _ _ _ _) 0 joints
 
-    pub sweep-keeps : (words : List ℕ) (joints n : ℕ) → Swept rows (rounds (sweepRound words joints) n (state rows b))
+    pub sweep-keeps : (words : List ℕ) (joints n : ℕ) → Swept rows (rounds (sweepRound planar words joints) n (state rows b))
     sweep-keeps words joints n =
-        rounds-keep (Swept rows) (sweepRound words joints) (sweep-round words joints) n (state rows b) (record { poses = same-poses b; size = refl })
+        rounds-keep (Swept rows) (sweepRound planar words joints) (sweep-round words joints) n (state rows b) (record { poses = same-poses b; size = refl })
 
 module _ (rows : List Float) where
   abbrev Sized : List Float → Type 0
   Sized r = length r ≡ length rows
 
-  pub build-size : (m : Model) (warm : Warmstart) (substep j n : ℕ) → length (eachJoint (buildOne m warm substep) j n rows) ≡ length rows
+  pub build-size : (m : Model) (warm : Warmstart) (substep j n : ℕ) → length (eachJoint (buildOne planar m warm substep) j n rows) ≡ length rows
   unfolding buildOne buildJoint
-  build-size m warm substep j n = each-keeps Sized (buildOne m warm substep) (λ j r e. putRows-size r _ _ ∙ e) j n rows refl
+  build-size m warm substep j n = each-keeps Sized (buildOne planar m warm substep) (λ j r e. putRows-size r _ _ ∙ e) j n rows refl
 
-  pub remove-size : (words : List ℕ) (j n : ℕ) → length (eachJoint (removeBiasOne words) j n rows) ≡ length rows
+  pub remove-size : (words : List ℕ) (j n : ℕ) → length (eachJoint (removeBiasOne planar words) j n rows) ≡ length rows
   unfolding removeBiasOne
-  remove-size words j n = each-keeps Sized (removeBiasOne words) (λ j r e. bias-size _ _ r ∙ e) j n rows refl
+  remove-size words j n = each-keeps Sized (removeBiasOne planar words) (λ j r e. bias-size _ _ r ∙ e) j n rows refl
 
 -- ---- joints: all but stored impulses
 
@@ -156,7 +160,7 @@ same-but-seeds s = record { size = refl; numbers = λ j c h f. refl }
 then-seeds : {a b c : List Float} → SameButSeeds a b → SameButSeeds b c → SameButSeeds a c
 then-seeds s t = record { size = t .size ∙ s .size; numbers = λ j c h f. t .numbers j c h f ∙ s .numbers j c h f }
 
-putSeed-seeds : (s : List Float) (j : ℕ) (id : WritebackId) (p : Float) → SameButSeeds s (putSeed s j id p)
+pub putSeed-seeds : (s : List Float) (j : ℕ) (id : WritebackId) (p : Float) → SameButSeeds s (putSeed s j id p)
 putSeed-seeds s j id p = record {
   size = length-putSeed s j id p;
   numbers = λ j′ c h f. by-cases (eqb j′ j)
@@ -167,14 +171,14 @@ putSeed-seeds s j id p = record {
 }
 
 module _ (s : List Float) (rows : List Float) where
-  pub back-ids : (k j : ℕ) (is : List WritebackId) (s′ : List Float) → SameButSeeds s s′ → SameButSeeds s (writeBackIds rows k j is s′)
+  pub back-ids : (k j : ℕ) (is : List WritebackId) (s′ : List Float) → SameButSeeds s s′ → SameButSeeds s (writeBackIds planar rows k j is s′)
   unfolding writeBackIds
   back-ids k j [] s′ e = e
   back-ids k j (i ∷ is) s′ e = back-ids (k + 1) j is _ (then-seeds e (putSeed-seeds s′ j i _))
 
-  pub back-keeps : (words : List ℕ) (j n : ℕ) → SameButSeeds s (eachJoint (writeBackOne rows words) j n s)
+  pub back-keeps : (words : List ℕ) (j n : ℕ) → SameButSeeds s (eachJoint (writeBackOne planar rows words) j n s)
   unfolding writeBackOne writeBackJoint
-  back-keeps words j n = each-keeps (SameButSeeds s) (writeBackOne rows words) (λ j. back-ids _ j _) j n s (same-but-seeds s)
+  back-keeps words j n = each-keeps (SameButSeeds s) (writeBackOne planar rows words) (λ j. back-ids _ j _) j n s (same-but-seeds s)
 
 -- an id's stored impulse is none of the n numbers from number a on
 abbrev clear : ℕ → ℕ → WritebackId → Bool
@@ -252,7 +256,7 @@ module _ (s s′ : List Float) (same : SameButSeeds s s′) (j : ℕ) where
 -- ---- bodies: a pose that is placed
 
 module _ (b b′ : List Float) (i : ℕ) (same : (c : ℕ) → c < velocityPlace → num bodyWidth b′ i c ≡ num bodyWidth b i c) where
-  finiteBody-kept : finiteBody b′ i ≡ finiteBody b i
+  pub finiteBody-kept : finiteBody b′ i ≡ finiteBody b i
   unfolding finiteBody finiteFrom
   finiteBody-kept =
       all-cong _ _ (i * bodyWidth) velocityPlace
@@ -305,51 +309,51 @@ module _ (p : Pose) (f : finitePose p ≡ true) where
 
 -- ---- rules 1 to 7 and 12
 
-pub same-bodies : (b b′ : List Float) → length b′ ≡ length b → bodyCount b′ ≡ bodyCount b
+pub same-bodies : (b b′ : List Float) → length b′ ≡ length b → bodyCount planar b′ ≡ bodyCount planar b
 unfolding bodyCount
 same-bodies b b′ e = rw e
 
-pub same-joints : (words : List ℕ) (n n′ : List Float) → length n′ ≡ length n → jointCount words n′ ≡ jointCount words n
+pub same-joints : (words : List ℕ) (n n′ : List Float) → length n′ ≡ length n → jointCount planar words n′ ≡ jointCount planar words n
 unfolding jointCount
 same-joints words n n′ e = rw e
 
 -- the model that a call leaves has the settings and the words of the one that it was handed, and as many bodies and numbers
 module _ (m : Model) (mark : Bool) (b n : List Float) (sizeb : length b ≡ length (m .bodies)) (sizen : length n ≡ length (m .numbers)) where
-  bodies-same : bodyCount b ≡ bodyCount (m .bodies)
+  bodies-same : bodyCount planar b ≡ bodyCount planar (m .bodies)
   bodies-same = same-bodies (m .bodies) b sizeb
 
-  joints-same : jointCount (m .words) n ≡ jointCount (m .words) (m .numbers)
+  joints-same : jointCount planar (m .words) n ≡ jointCount planar (m .words) (m .numbers)
   joints-same = same-joints (m .words) (m .numbers) n sizen
 
-  same-present : (j : ℕ) → bodiesPresent b (m .words) j ≡ bodiesPresent (m .bodies) (m .words) j
+  same-present : (j : ℕ) → bodiesPresent planar b (m .words) j ≡ bodiesPresent planar (m .bodies) (m .words) j
   unfolding bodiesPresent presentOrWorld
   same-present j = rw bodies-same
 
-  pub held-with : RulesHold m → ((i : ℕ) → i < bodyCount (m .bodies) → finiteBody b i ≡ true) → ((j : ℕ) → j < jointCount (m .words) (m .numbers) → finiteJoint (m .words) n j ≡ true)
-      → ((j : ℕ) → j < jointCount (m .words) (m .numbers) → centerFits (m .words) n j ≡ true)
+  pub held-with : RulesHold m → ((i : ℕ) → i < bodyCount planar (m .bodies) → finiteBody b i ≡ true) → ((j : ℕ) → j < jointCount planar (m .words) (m .numbers) → finiteJoint (m .words) n j ≡ true)
+      → ((j : ℕ) → j < jointCount planar (m .words) (m .numbers) → centerFits (m .words) n j ≡ true)
       → RulesHold (model (m .params) mark b (m .words) n)
   held-with h fb fj af = record {
     bodies = rw bodies-same (h .bodies);
     joints = rw joints-same (h .joints);
     masks = rw joints-same (h .masks);
-    present = rw joints-same (all-cong _ _ 0 (jointCount (m .words) (m .numbers)) (λ j _ _. same-present j) ∙ h .present);
+    present = rw joints-same (all-cong _ _ 0 (jointCount planar (m .words) (m .numbers)) (λ j _ _. same-present j) ∙ h .present);
     apart = rw joints-same (h .apart);
     finite-params = h .finite-params;
-    finite-bodies = rw bodies-same (all-intro (finiteBody b) 0 (bodyCount (m .bodies)) (λ i _ l. fb i (omega arith)));
-    finite-joints = rw joints-same (all-intro (finiteJoint (m .words) n) 0 (jointCount (m .words) (m .numbers)) (λ j _ l. fj j (omega arith)));
-    angles = rw joints-same (all-intro (centerFits (m .words) n) 0 (jointCount (m .words) (m .numbers)) (λ j _ l. af j (omega arith)));
+    finite-bodies = rw bodies-same (all-intro (finiteBody b) 0 (bodyCount planar (m .bodies)) (λ i _ l. fb i (omega arith)));
+    finite-joints = rw joints-same (all-intro (finiteJoint (m .words) n) 0 (jointCount planar (m .words) (m .numbers)) (λ j _ l. fj j (omega arith)));
+    angles = rw joints-same (all-intro (centerFits (m .words) n) 0 (jointCount planar (m .words) (m .numbers)) (λ j _ l. af j (omega arith)));
     dt = h .dt;
   }
 
 module _ (m : Model) (h : RulesHold m) where
-  bodies-finite : (i : ℕ) → i < bodyCount (m .bodies) → finiteBody (m .bodies) i ≡ true
-  bodies-finite = all-below (finiteBody (m .bodies)) (bodyCount (m .bodies)) (h .finite-bodies)
+  bodies-finite : (i : ℕ) → i < bodyCount planar (m .bodies) → finiteBody (m .bodies) i ≡ true
+  bodies-finite = all-below (finiteBody (m .bodies)) (bodyCount planar (m .bodies)) (h .finite-bodies)
 
-  joints-finite : (j : ℕ) → j < jointCount (m .words) (m .numbers) → finiteJoint (m .words) (m .numbers) j ≡ true
-  joints-finite = all-below (finiteJoint (m .words) (m .numbers)) (jointCount (m .words) (m .numbers)) (h .finite-joints)
+  joints-finite : (j : ℕ) → j < jointCount planar (m .words) (m .numbers) → finiteJoint (m .words) (m .numbers) j ≡ true
+  joints-finite = all-below (finiteJoint (m .words) (m .numbers)) (jointCount planar (m .words) (m .numbers)) (h .finite-joints)
 
-  angles-fit : (j : ℕ) → j < jointCount (m .words) (m .numbers) → centerFits (m .words) (m .numbers) j ≡ true
-  angles-fit = all-below (centerFits (m .words) (m .numbers)) (jointCount (m .words) (m .numbers)) (h .angles)
+  angles-fit : (j : ℕ) → j < jointCount planar (m .words) (m .numbers) → centerFits (m .words) (m .numbers) j ≡ true
+  angles-fit = all-below (centerFits (m .words) (m .numbers)) (jointCount planar (m .words) (m .numbers)) (h .angles)
 
   -- another mark; other velocities; another pose; other stored impulses
   mark-holds : (mark : Bool) → RulesHold (withMark m mark)
@@ -359,7 +363,7 @@ module _ (m : Model) (h : RulesHold m) where
   poses-hold b s =
       held-with m (m .built) b (m .numbers) (s .size) refl h (λ i l. finiteBody-kept (m .bodies) b i (s .numbers i) ∙ bodies-finite i l) joints-finite angles-fit
 
-  place-holds : (i : ℕ) (p : Pose) → finitePose p ≡ true → i < bodyCount (m .bodies) → RulesHold (withBodies m (putPose (m .bodies) i p))
+  place-holds : (i : ℕ) (p : Pose) → finitePose p ≡ true → i < bodyCount planar (m .bodies) → RulesHold (withBodies m (putPose (m .bodies) i p))
   place-holds i p f l =
       held-with m (m .built) (putPose (m .bodies) i p) (m .numbers) (length-putPose (m .bodies) i p) refl h
       (λ i′ l′. place-finite p f (m .bodies) i (body-there (m .bodies) i l) i′ (bodies-finite i l) (bodies-finite i′ l′)) joints-finite angles-fit
@@ -382,72 +386,72 @@ granted-front qs rs e =
     by-cases (eqb (refusal qs) 0) (λ t. eqb-true (refusal qs) 0 t) (λ t. sym (refused-append qs rs (eqb-false (refusal qs) 0 t)) ∙ e)
 
 -- and so do those after rules 1 to 7 and 12, and its own numbers are finite
-pub granted-own : (m : Model) (arguments : Bool) (rest : List Rule) → RulesHold m → Numbered rest → refusal (modelRules m arguments ++ rest) ≡ 0 → (arguments ≡ true) × Hold rest
+pub granted-own : (m : Model) (arguments : Bool) (rest : List Rule) → RulesHold m → Numbered rest → refusal (modelRules planar m arguments ++ rest) ≡ 0 → (arguments ≡ true) × Hold rest
 granted-own m arguments rest h n e =
-    let f = arguments-finite m arguments (granted-front (modelRules m arguments) rest e) in
+    let f = arguments-finite m arguments (granted-front (modelRules planar m arguments) rest e) in
     (f, all-hold rest n (sym (rules-rest m arguments h f rest) ∙ e))
 
-module _ (c : Call) (m : Model) (rows : List Float) where
+module _ (c : Call planar) (m : Model) (rows : List Float) where
   -- what is so of the granted call and of the refused one
-  pub run-cases : (P : Outcome → Type 0) → (refusal (rulesOf c m rows) ≡ 0 → P (grantedOf c m rows)) → P (outcome (refused (refusal (rulesOf c m rows))) m rows) → P (run c m rows)
+  pub run-cases : (P : Outcome planar → Type 0) → (refusal (rulesOf planar c m rows) ≡ 0 → P (grantedOf planar c m rows)) → P (outcome (refused (refusal (rulesOf planar c m rows))) m rows) → P (run planar c m rows)
   run-cases P g r =
-      let k = refusal (rulesOf c m rows) in
+      let k = refusal (rulesOf planar c m rows) in
       by-cases (eqb k 0) (λ t. let e = eqb-true k 0 t in rw (← (run-granted c m rows e)) (g e)) (λ t. rw (← (run-refused c m rows refl (eqb-false k 0 t))) r)
 
 -- a placed body is there, and its new pose is finite
-placed-body : (m : Model) (rows : List Float) (i : ℕ) (p : Pose) → RulesHold m → refusal (rulesOf (place i p) m rows) ≡ 0 → (finitePose p ≡ true) × (i < bodyCount (m .bodies))
+placed-body : (m : Model) (rows : List Float) (i : ℕ) (p : Pose) → RulesHold m → refusal (rulesOf planar (place i p) m rows) ≡ 0 → (finitePose p ≡ true) × (i < bodyCount planar (m .bodies))
 unfolding rulesOf bodyRule
 placed-body m rows i p h e =
-    let o = granted-own m (finitePose p) (bodyRule m i ∷ []) h (omega arith) e in
-    (o .0, ltb-true i (bodyCount (m .bodies)) (o .1 .0))
+    let o = granted-own m (finitePose p) (bodyRule planar m i ∷ []) h (omega arith) e in
+    (o .0, ltb-true i (bodyCount planar (m .bodies)) (o .1 .0))
 
 -- ---- a table that is granted
 
 module _ (m : Model) (bytes : List ℕ) where
   abbrev pub bytesTable : Table
-  bytesTable = readTable (jointCount (m .words) (m .numbers)) bytes
+  bytesTable = readTable (jointCount planar (m .words) (m .numbers)) bytes
 
   -- its records, and that they can be set
-  pub table-granted : (rows : List Float) → refusal (rulesOf (setTargets bytes) m rows) ≡ 0 → Granted (jointCount (m .words) (m .numbers)) bytesTable
+  pub table-granted : (rows : List Float) → refusal (rulesOf planar (further bytes) m rows) ≡ 0 → Granted (jointCount planar (m .words) (m .numbers)) bytesTable
   unfolding rulesOf
   table-granted rows e =
-      granted-fit (jointCount (m .words) (m .numbers)) mostRecords bytes
-      (sym (table-refusal m bytes) ∙ hold-granted (tableRules m bytes) (own-hold (setTargets bytes) m rows e))
+      granted-fit (jointCount planar (m .words) (m .numbers)) mostRecords bytes
+      (sym (table-refusal (jointCount planar (m .words) (m .numbers)) bytes) ∙ hold-granted (tableRules (jointCount planar (m .words) (m .numbers)) bytes) (own-hold (further bytes) m rows e))
 
   -- what it leaves is as it was, or finite
-  pub table-set : (g : Granted (jointCount (m .words) (m .numbers)) bytesTable) → setTable (m .numbers) bytesTable ≡ setRecords (m .numbers) (g .records)
+  pub table-set : (g : Granted (jointCount planar (m .words) (m .numbers)) bytesTable) → setTable (m .numbers) bytesTable ≡ setRecords (m .numbers) (g .records)
   unfolding setTable
   table-set g = ap (setTable (m .numbers)) (g .holds)
 
-  pub table-steady : Granted (jointCount (m .words) (m .numbers)) bytesTable → Steady (m .numbers) (setTable (m .numbers) bytesTable)
+  pub table-steady : Granted (jointCount planar (m .words) (m .numbers)) bytesTable → Steady (m .numbers) (setTable (m .numbers) bytesTable)
   table-steady g =
       rw (table-set g)
-      (records-steady (jointCount (m .words) (m .numbers)) (g .records) (m .numbers) (g .fit) (joints-numbers (m .words) (m .numbers)))
+      (records-steady (jointCount planar (m .words) (m .numbers)) (g .records) (m .numbers) (g .fit) (joints-numbers (m .words) (m .numbers)))
 
-granted-holds : (c : Call) (m : Model) (rows : List Float) → RulesHold m → refusal (rulesOf c m rows) ≡ 0 → RulesHold (grantedOf c m rows .after)
+granted-holds : (c : Call planar) (m : Model) (rows : List Float) → RulesHold m → refusal (rulesOf planar c m rows) ≡ 0 → RulesHold (grantedOf planar c m rows .after)
 unfolding grantedOf
 granted-holds load m rows h e = mark-holds m h false
 granted-holds (place i p) m rows h e = place-holds m h i p (placed-body m rows i p h e .0) (placed-body m rows i p h e .1)
 granted-holds (build warm substep) m rows h e = mark-holds m h true
-granted-holds warmStart m rows h e = poses-hold m h _ (warm-keeps (m .bodies) (m .words) rows 0 (jointCount (m .words) (m .numbers)))
-granted-holds (sweep n) m rows h e = poses-hold m h _ (sweep-keeps (m .bodies) rows (m .words) (jointCount (m .words) (m .numbers)) n .poses)
+granted-holds warmStart m rows h e = poses-hold m h _ (warm-keeps (m .bodies) (m .words) rows 0 (jointCount planar (m .words) (m .numbers)))
+granted-holds (sweep n) m rows h e = poses-hold m h _ (sweep-keeps (m .bodies) rows (m .words) (jointCount planar (m .words) (m .numbers)) n .poses)
 granted-holds removeBias m rows h e = h
-granted-holds writeBack m rows h e = seeds-hold m h _ (back-keeps (m .numbers) rows (m .words) 0 (jointCount (m .words) (m .numbers)))
+granted-holds writeBack m rows h e = seeds-hold m h _ (back-keeps (m .numbers) rows (m .words) 0 (jointCount planar (m .words) (m .numbers)))
 granted-holds (readRows j) m rows h e = h
 granted-holds (readVelocity i) m rows h e = h
-granted-holds (setTargets bytes) m rows h e = targets-hold m h _ (table-steady m bytes (table-granted m bytes rows e))
+granted-holds (further bytes) m rows h e = targets-hold m h _ (table-steady m bytes (table-granted m bytes rows e))
 
 -- rules 1 to 7 and 12 hold after a call where they held before it, granted or refused
-pub run-holds : (c : Call) (m : Model) (rows : List Float) → RulesHold m → RulesHold (run c m rows .after)
+pub run-holds : (c : Call planar) (m : Model) (rows : List Float) → RulesHold m → RulesHold (run planar c m rows .after)
 run-holds c m rows h = run-cases c m rows (λ o. RulesHold (o .after)) (granted-holds c m rows h) h
 
 -- ---- counts
 
 -- as many bodies, joints and rows, and row storage of one length
 pub record SameCounts (m n : Model) (rows rows′ : List Float) : Type 0 where
-  pub bodies : bodyCount (n .bodies) ≡ bodyCount (m .bodies)
-  pub joints : jointCount (n .words) (n .numbers) ≡ jointCount (m .words) (m .numbers)
-  pub total : totalRows (n .words) (n .numbers) ≡ totalRows (m .words) (m .numbers)
+  pub bodies : bodyCount planar (n .bodies) ≡ bodyCount planar (m .bodies)
+  pub joints : jointCount planar (n .words) (n .numbers) ≡ jointCount planar (m .words) (m .numbers)
+  pub total : totalRows planar (n .words) (n .numbers) ≡ totalRows planar (m .words) (m .numbers)
   pub size : length rows′ ≡ length rows
 
 module _ (m : Model) (rows : List Float) where
@@ -455,24 +459,24 @@ module _ (m : Model) (rows : List Float) where
       → SameCounts m (model (m .params) mark b (m .words) n) rows rows′
   counts-with mark b n rows′ sizeb sizen size =
       let e = same-joints (m .words) (m .numbers) n sizen in
-      record { bodies = same-bodies (m .bodies) b sizeb; joints = e; total = ap (rowsBefore (m .words)) e; size = size }
+      record { bodies = same-bodies (m .bodies) b sizeb; joints = e; total = ap (rowsBefore planar (m .words)) e; size = size }
 
-  granted-counts : (c : Call) → SameCounts m (grantedOf c m rows .after) rows (grantedOf c m rows .rows)
+  granted-counts : (c : Call planar) → SameCounts m (grantedOf planar c m rows .after) rows (grantedOf planar c m rows .rows)
   unfolding grantedOf
   granted-counts load = counts-with false (m .bodies) (m .numbers) rows refl refl refl
   granted-counts (place i p) = counts-with (m .built) _ (m .numbers) rows (length-putPose (m .bodies) i p) refl refl
-  granted-counts (build warm substep) = counts-with true (m .bodies) (m .numbers) _ refl refl (build-size rows m warm substep 0 (jointCount (m .words) (m .numbers)))
-  granted-counts warmStart = counts-with (m .built) _ (m .numbers) rows (warm-keeps (m .bodies) (m .words) rows 0 (jointCount (m .words) (m .numbers)) .size) refl refl
+  granted-counts (build warm substep) = counts-with true (m .bodies) (m .numbers) _ refl refl (build-size rows m warm substep 0 (jointCount planar (m .words) (m .numbers)))
+  granted-counts warmStart = counts-with (m .built) _ (m .numbers) rows (warm-keeps (m .bodies) (m .words) rows 0 (jointCount planar (m .words) (m .numbers)) .size) refl refl
   granted-counts (sweep n) =
-      let s = sweep-keeps (m .bodies) rows (m .words) (jointCount (m .words) (m .numbers)) n in
+      let s = sweep-keeps (m .bodies) rows (m .words) (jointCount planar (m .words) (m .numbers)) n in
       counts-with (m .built) _ (m .numbers) _ (s .poses .size) refl (s .size)
-  granted-counts removeBias = counts-with (m .built) (m .bodies) (m .numbers) _ refl refl (remove-size rows (m .words) 0 (jointCount (m .words) (m .numbers)))
-  granted-counts writeBack = counts-with (m .built) (m .bodies) _ rows refl (back-keeps (m .numbers) rows (m .words) 0 (jointCount (m .words) (m .numbers)) .size) refl
+  granted-counts removeBias = counts-with (m .built) (m .bodies) (m .numbers) _ refl refl (remove-size rows (m .words) 0 (jointCount planar (m .words) (m .numbers)))
+  granted-counts writeBack = counts-with (m .built) (m .bodies) _ rows refl (back-keeps (m .numbers) rows (m .words) 0 (jointCount planar (m .words) (m .numbers)) .size) refl
   granted-counts (readRows j) = counts-with (m .built) (m .bodies) (m .numbers) rows refl refl refl
   granted-counts (readVelocity i) = counts-with (m .built) (m .bodies) (m .numbers) rows refl refl refl
-  granted-counts (setTargets bytes) = counts-with (m .built) (m .bodies) _ rows refl (table-size (m .numbers) (bytesTable m bytes)) refl
+  granted-counts (further bytes) = counts-with (m .built) (m .bodies) _ rows refl (table-size (m .numbers) (bytesTable m bytes)) refl
 
   -- a call changes no count, granted or refused
-  pub run-counts : (c : Call) → SameCounts m (run c m rows .after) rows (run c m rows .rows)
+  pub run-counts : (c : Call planar) → SameCounts m (run planar c m rows .after) rows (run planar c m rows .rows)
   run-counts c =
       run-cases c m rows (λ o. SameCounts m (o .after) rows (o .rows)) (λ _. granted-counts c) (counts-with (m .built) (m .bodies) (m .numbers) rows refl refl refl)

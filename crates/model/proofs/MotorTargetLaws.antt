@@ -30,7 +30,8 @@ use Rattle.rows.specs.declared.joint_velocity_constraint.WritebackId.the-varian
 use Rattle.model.specs.Layout.{wordsWidth, numbersWidth, centerPlace, targetPlace}
 use Rattle.model.specs.Records.{num, word}
 use Rattle.model.specs.Store.{putTarget, jointAt, jointOf, dataOf, centerAt}
-use Rattle.model.specs.Refusals.{all, finiteFrom, noNanFrom, finiteMotor, finiteJoint, centerFits}
+use Rattle.model.specs.Refusals.{finiteFrom, noNanFrom, finiteMotor, finiteJoint, centerFits}
+use Rattle.multibody.specs.Rules.{all}
 use Rattle.model.specs.MotorTargets.{setRecord, setRecords, setTable}
 use Rattle.model.proofs.Tests.{by-cases}
 use Rattle.model.proofs.RefusalLaws.{both, all-at, all-intro}

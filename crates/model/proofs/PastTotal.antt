@@ -14,10 +14,12 @@ use Rattle.rows.proofs.Filled.{length-filled}
 use Rattle.model.specs.Layout.{rowWidth}
 use Rattle.model.specs.Records.{puts}
 use Rattle.model.specs.Store.{rowNumbers, putRow, body1At, body2At}
-use Rattle.model.specs.JointRows.{State, state, rowCount, putRows, impulsesAt, buildJoint, sweepRow, sweepJoint, removeBiasJoint, builtRows}
-use Rattle.model.specs.Model.{Model, jointCount, rowsBefore, totalRows}
-use Rattle.model.specs.Calls.{Call, Outcome, eachJoint, rounds, buildOne, sweepOne, sweepRound, removeBiasOne, grantedOf, run}
-use Rattle.model.specs.Calls.Call.{load, place, build, warmStart, sweep, removeBias, writeBack, readRows, readVelocity, setTargets}
+use Rattle.multibody.specs.JointRows.{State, state, rowCount, putRows, impulsesAt, buildJoint, sweepRow, sweepJoint, removeBiasJoint, builtRows}
+use Rattle.multibody.specs.Model.{Model}
+use Rattle.multibody.specs.Counts.{jointCount, rowsBefore, totalRows}
+use Rattle.multibody.specs.Calls.{Call, Outcome, eachJoint, rounds, buildOne, sweepOne, sweepRound, removeBiasOne, grantedOf, run}
+use Rattle.multibody.specs.Calls.Call.{load, place, build, warmStart, sweep, removeBias, writeBack, readRows, readVelocity, further}
+use Rattle.model.specs.Planar.{planar}
 use Rattle.model.proofs.JointRowsLaws.{length-builtRows}
 use Rattle.model.proofs.CountLaws.{rowsBefore-mono}
 use Rattle.model.proofs.Keeps.{run-cases}
@@ -37,17 +39,17 @@ module _ (t : ℕ) where
   unfolding putRow
   row-past s k r h = puts-past (rowNumbers r) s (k * rowWidth) 0 (t * rowWidth) (omega arith)
 
-  rows-past : (rs : List JointConstraint) (s : List Float) (k : ℕ) → k + length rs ≤ t → Past t s (putRows s k rs)
+  rows-past : (rs : List JointConstraint) (s : List Float) (k : ℕ) → k + length rs ≤ t → Past t s (putRows planar s k rs)
   unfolding putRows
   rows-past [] s k h = refl
   rows-past (r ∷ rs) s k h = rows-past rs (putRow s k r) (k + 1) (omega arith) ∙ row-past s k r (omega arith)
 
-  swept-past : (n k b1 b2 : ℕ) (st : State) → k + n ≤ t → Past t (st .rows) (sweepJoint k n b1 b2 st .rows)
+  swept-past : (n k b1 b2 : ℕ) (st : State) → k + n ≤ t → Past t (st .rows) (sweepJoint planar k n b1 b2 st .rows)
   unfolding sweepJoint sweepRow
   swept-past zero k b1 b2 st h = refl
-  swept-past (suc n) k b1 b2 st h = swept-past n (k + 1) b1 b2 (sweepRow k b1 b2 st) (omega arith) ∙ row-past (st .rows) k _ (omega arith)
+  swept-past (suc n) k b1 b2 st h = swept-past n (k + 1) b1 b2 (sweepRow planar k b1 b2 st) (omega arith) ∙ row-past (st .rows) k _ (omega arith)
 
-  bias-past : (n k : ℕ) (s : List Float) → k + n ≤ t → Past t s (removeBiasJoint k n s)
+  bias-past : (n k : ℕ) (s : List Float) → k + n ≤ t → Past t s (removeBiasJoint planar k n s)
   unfolding removeBiasJoint
   bias-past zero k s h = refl
   bias-past (suc n) k s h = bias-past n (k + 1) (putRow s k _) (omega arith) ∙ row-past s k _ (omega arith)
@@ -69,44 +71,44 @@ module _ (t : ℕ) where
 
 module _ (m : Model) (rows : List Float) where
   abbrev total : ℕ
-  total = totalRows (m .words) (m .numbers)
+  total = totalRows planar (m .words) (m .numbers)
 
   -- joint j's rows end before row t
-  ends : (j : ℕ) → j < jointCount (m .words) (m .numbers) → rowsBefore (m .words) j + rowCount (m .words) j ≤ total
-  ends j h = rowsBefore-mono (m .words) j (jointCount (m .words) (m .numbers)) h
+  ends : (j : ℕ) → j < jointCount planar (m .words) (m .numbers) → rowsBefore planar (m .words) j + rowCount planar (m .words) j ≤ total
+  ends j h = rowsBefore-mono (m .words) j (jointCount planar (m .words) (m .numbers)) h
 
-  build-past : (warm : Warmstart) (substep j : ℕ) (s : List Float) → j < jointCount (m .words) (m .numbers) → Past total s (buildOne m warm substep j s)
+  build-past : (warm : Warmstart) (substep j : ℕ) (s : List Float) → j < jointCount planar (m .words) (m .numbers) → Past total s (buildOne planar m warm substep j s)
   unfolding buildOne buildJoint
   build-past warm substep j s h =
-      let last = impulsesAt s (rowsBefore (m .words) j) (rowCount (m .words) j) in
+      let last = impulsesAt planar s (rowsBefore planar (m .words) j) (rowCount planar (m .words) j) in
       let prevs = filled 6 (bits 0) last in
-      rows-past total (builtRows (m .params) (m .bodies) (m .words) (m .numbers) j warm substep prevs) s (rowsBefore (m .words) j)
+      rows-past total (builtRows planar (m .params) (m .bodies) (m .words) (m .numbers) j warm substep prevs) s (rowsBefore planar (m .words) j)
       (rw (length-builtRows (m .params) substep warm (m .bodies) (m .words) (m .numbers) j prevs (length-filled (bits 0) 6 last)) (ends j h))
 
-  sweep-past : (j : ℕ) (st : State) → j < jointCount (m .words) (m .numbers) → Past total (st .rows) (sweepOne (m .words) j st .rows)
+  sweep-past : (j : ℕ) (st : State) → j < jointCount planar (m .words) (m .numbers) → Past total (st .rows) (sweepOne planar (m .words) j st .rows)
   unfolding sweepOne
-  sweep-past j st h = swept-past total (rowCount (m .words) j) (rowsBefore (m .words) j) (body1At (m .words) j) (body2At (m .words) j) st (ends j h)
+  sweep-past j st h = swept-past total (rowCount planar (m .words) j) (rowsBefore planar (m .words) j) (body1At (m .words) j) (body2At (m .words) j) st (ends j h)
 
-  bias-one-past : (j : ℕ) (s : List Float) → j < jointCount (m .words) (m .numbers) → Past total s (removeBiasOne (m .words) j s)
+  bias-one-past : (j : ℕ) (s : List Float) → j < jointCount planar (m .words) (m .numbers) → Past total s (removeBiasOne planar (m .words) j s)
   unfolding removeBiasOne
-  bias-one-past j s h = bias-past total (rowCount (m .words) j) (rowsBefore (m .words) j) s (ends j h)
+  bias-one-past j s h = bias-past total (rowCount planar (m .words) j) (rowsBefore planar (m .words) j) s (ends j h)
 
-  granted-past : (c : Call) → Past total rows (grantedOf c m rows .rows)
+  granted-past : (c : Call planar) → Past total rows (grantedOf planar c m rows .rows)
   unfolding grantedOf sweepRound
   granted-past load = refl
   granted-past (place i pose) = refl
   granted-past (build warm substep) =
-      each-past total (λ s. s) (buildOne m warm substep) (jointCount (m .words) (m .numbers)) 0 rows (λ j s h. build-past warm substep j s (omega arith))
+      each-past total (λ s. s) (buildOne planar m warm substep) (jointCount planar (m .words) (m .numbers)) 0 rows (λ j s h. build-past warm substep j s (omega arith))
   granted-past warmStart = refl
   granted-past (sweep n) =
-      rounds-past total (λ (st : State). st .rows) (sweepRound (m .words) (jointCount (m .words) (m .numbers))) n (state rows (m .bodies))
-      (λ st. each-past total (λ (st : State). st .rows) (sweepOne (m .words)) (jointCount (m .words) (m .numbers)) 0 st (λ j st h. sweep-past j st (omega arith)))
+      rounds-past total (λ (st : State). st .rows) (sweepRound planar (m .words) (jointCount planar (m .words) (m .numbers))) n (state rows (m .bodies))
+      (λ st. each-past total (λ (st : State). st .rows) (sweepOne planar (m .words)) (jointCount planar (m .words) (m .numbers)) 0 st (λ j st h. sweep-past j st (omega arith)))
   granted-past removeBias =
-      each-past total (λ s. s) (removeBiasOne (m .words)) (jointCount (m .words) (m .numbers)) 0 rows (λ j s h. bias-one-past j s (omega arith))
+      each-past total (λ s. s) (removeBiasOne planar (m .words)) (jointCount planar (m .words) (m .numbers)) 0 rows (λ j s h. bias-one-past j s (omega arith))
   granted-past writeBack = refl
   granted-past (readRows j) = refl
   granted-past (readVelocity i) = refl
-  granted-past (setTargets bytes) = refl
+  granted-past (further bytes) = refl
 
-  pub past-total : (c : Call) → drop (totalRows (m .words) (m .numbers) * rowWidth) (run c m rows .rows) ≡ drop (totalRows (m .words) (m .numbers) * rowWidth) rows
-  past-total c = run-cases c m rows (λ (o : Outcome). Past total rows (o .rows)) (λ _. granted-past c) refl
+  pub past-total : (c : Call planar) → drop (totalRows planar (m .words) (m .numbers) * rowWidth) (run planar c m rows .rows) ≡ drop (totalRows planar (m .words) (m .numbers) * rowWidth) rows
+  past-total c = run-cases c m rows (λ (o : Outcome planar). Past total rows (o .rows)) (λ _. granted-past c) refl

@@ -13,11 +13,15 @@ use lib.Dec.{eqb, ltb}
 use lib.Ieee.{Float, lt}
 use Rattle.floats.specs.Operators.{bits}
 use Rattle.model.specs.Store.{world, Present, body1At, body2At}
-use Rattle.model.specs.Model.{mostBodies, mostJoints, Model, bodyCount, jointCount, rowCapacity, totalRows, Sound, Room}
-use Rattle.model.specs.Refusals.{Rule, rule, refusal, all, atMost, masksFit, presentOrWorld, bodiesPresent, bodiesApart, finiteParams, finiteBody, finiteJoint, centerFits, modelRules, storageRule, sweepRule, builtRule, seedsRule, bodyRule, jointRule, tableRules}
-use Rattle.model.specs.Calls.{Call, Asked, Own, ownRule, callTable, handedRules, askedRules, firstRules, ownRules, rulesOf}
-use Rattle.model.specs.Calls.Own.{fewRounds, afterBuild, rowsToRead}
-use Rattle.model.specs.Calls.Asked.{nothing, body, joint, records}
+use Rattle.multibody.specs.Model.{mostBodies, mostJoints, Model}
+use Rattle.multibody.specs.Counts.{bodyCount, jointCount, rowCapacity, totalRows, Sound, Room}
+use Rattle.multibody.specs.Rules.{Rule, rule, refusal, all, atMost}
+use Rattle.multibody.specs.Refusals.{presentOrWorld, bodiesPresent, bodiesApart, finiteParams, modelRules, storageRule, sweepRule, builtRule, seedsRule, bodyRule, jointRule}
+use Rattle.multibody.specs.Calls.{Call, Asked, Own, ownRule, callTable, handedRules, askedRules, firstRules, ownRules, rulesOf}
+use Rattle.multibody.specs.Calls.Own.{fewRounds, afterBuild, rowsToRead}
+use Rattle.multibody.specs.Calls.Asked.{nothing, body, joint, named as records}
+use Rattle.model.specs.Planar.{tableRules, planar}
+use Rattle.model.specs.Refusals.{masksFit, finiteBody, finiteJoint, centerFits}
 use Rattle.model.proofs.Tests.{by-cases}
 use Rattle.model.proofs.CountLaws.{body-there}
 
@@ -221,20 +225,20 @@ all-intro p i n e = all-cong p (λ k. true) i n e ∙ all-true i n
 -- ---- the rules of the calls
 
 -- document 01's order, with 12 right after 6
-checking-order : (m : Model) (arguments : Bool) → map (λ (r : Rule). r .number) (modelRules m arguments) ≡ 1 ∷ 2 ∷ 3 ∷ 4 ∷ 5 ∷ 6 ∷ 12 ∷ 7 ∷ []
+checking-order : (m : Model) (arguments : Bool) → map (λ (r : Rule). r .number) (modelRules planar m arguments) ≡ 1 ∷ 2 ∷ 3 ∷ 4 ∷ 5 ∷ 6 ∷ 12 ∷ 7 ∷ []
 unfolding modelRules
 checking-order m arguments = refl
 
-pub model-numbered : (m : Model) (arguments : Bool) → Numbered (modelRules m arguments)
+pub model-numbered : (m : Model) (arguments : Bool) → Numbered (modelRules planar m arguments)
 unfolding modelRules
 model-numbered m arguments = omega arith
 
-pub storage-numbered : (m : Model) (arguments : Bool) (rows : List Float) → Numbered (modelRules m arguments ++ (storageRule m rows ∷ []))
+pub storage-numbered : (m : Model) (arguments : Bool) (rows : List Float) → Numbered (modelRules planar m arguments ++ (storageRule planar m rows ∷ []))
 unfolding storageRule
-storage-numbered m arguments rows = numbered-append (modelRules m arguments) (storageRule m rows ∷ []) (model-numbered m arguments) (omega arith)
+storage-numbered m arguments rows = numbered-append (modelRules planar m arguments) (storageRule planar m rows ∷ []) (model-numbered m arguments) (omega arith)
 
 module _ (m : Model) where
-  handed-numbered : (stored finite : Bool) (rows : List Float) → Numbered (handedRules stored m finite rows)
+  handed-numbered : (stored finite : Bool) (rows : List Float) → Numbered (handedRules planar stored m finite rows)
   handed-numbered true finite rows = storage-numbered m finite rows
   handed-numbered false finite rows = model-numbered m finite
 
@@ -248,7 +252,7 @@ module _ (m : Model) where
   all-numbered [] = tt
   all-numbered (o ∷ os) = (own-numbered o, all-numbered os)
 
-  asked-numbered : (a : Asked) → Numbered (askedRules m a)
+  asked-numbered : (a : Asked planar) → Numbered (askedRules planar m a)
   unfolding bodyRule jointRule tableRules
   asked-numbered nothing = tt
   asked-numbered (body i) = omega arith
@@ -256,44 +260,44 @@ module _ (m : Model) where
   asked-numbered (records bytes) = omega arith
 
   -- a call's rules 1 to 8, and all that it tries
-  pub first-numbered : (c : Call) (rows : List Float) → Numbered (firstRules c m rows)
-  first-numbered c rows = handed-numbered (callTable c .rowStorage) (callTable c .finite) rows
+  pub first-numbered : (c : Call planar) (rows : List Float) → Numbered (firstRules planar c m rows)
+  first-numbered c rows = handed-numbered (callTable planar c .rowStorage) (callTable planar c .finite) rows
 
-  pub call-numbered : (c : Call) (rows : List Float) → Numbered (rulesOf c m rows)
+  pub call-numbered : (c : Call planar) (rows : List Float) → Numbered (rulesOf planar c m rows)
   unfolding rulesOf
   call-numbered c rows =
-      numbered-append (firstRules c m rows) (ownRules c m) (first-numbered c rows)
-      (numbered-append (map (ownRule m) (callTable c .own)) (askedRules m (callTable c .asked)) (all-numbered (callTable c .own)) (asked-numbered (callTable c .asked)))
+      numbered-append (firstRules planar c m rows) (ownRules planar c m) (first-numbered c rows)
+      (numbered-append (map (ownRule m) (callTable planar c .own)) (askedRules planar m (callTable planar c .asked)) (all-numbered (callTable planar c .own)) (asked-numbered (callTable planar c .asked)))
 
 -- ---- rules 1 to 7 and 12
 
 -- what they ask of the model; beside it rule 6 asks that the call's own numbers are finite
 pub record RulesHold (m : Model) : Type 0 where
-  pub bodies : atMost mostBodies (bodyCount (m .bodies)) ≡ true
-  pub joints : atMost mostJoints (jointCount (m .words) (m .numbers)) ≡ true
-  pub masks : all 0 (jointCount (m .words) (m .numbers)) (masksFit (m .words)) ≡ true
-  pub present : all 0 (jointCount (m .words) (m .numbers)) (bodiesPresent (m .bodies) (m .words)) ≡ true
-  pub apart : all 0 (jointCount (m .words) (m .numbers)) (bodiesApart (m .words)) ≡ true
+  pub bodies : atMost mostBodies (bodyCount planar (m .bodies)) ≡ true
+  pub joints : atMost mostJoints (jointCount planar (m .words) (m .numbers)) ≡ true
+  pub masks : all 0 (jointCount planar (m .words) (m .numbers)) (masksFit (m .words)) ≡ true
+  pub present : all 0 (jointCount planar (m .words) (m .numbers)) (bodiesPresent planar (m .bodies) (m .words)) ≡ true
+  pub apart : all 0 (jointCount planar (m .words) (m .numbers)) (bodiesApart planar (m .words)) ≡ true
   pub finite-params : finiteParams (m .params) ≡ true
-  pub finite-bodies : all 0 (bodyCount (m .bodies)) (finiteBody (m .bodies)) ≡ true
-  pub finite-joints : all 0 (jointCount (m .words) (m .numbers)) (finiteJoint (m .words) (m .numbers)) ≡ true
-  pub angles : all 0 (jointCount (m .words) (m .numbers)) (centerFits (m .words) (m .numbers)) ≡ true
+  pub finite-bodies : all 0 (bodyCount planar (m .bodies)) (finiteBody (m .bodies)) ≡ true
+  pub finite-joints : all 0 (jointCount planar (m .words) (m .numbers)) (finiteJoint (m .words) (m .numbers)) ≡ true
+  pub angles : all 0 (jointCount planar (m .words) (m .numbers)) (centerFits (m .words) (m .numbers)) ≡ true
   pub dt : not (lt (m .params .dt) (bits 0)) ≡ true
 
 module _ (m : Model) (arguments : Bool) where
   -- granted by these rules exactly where these facts hold and the call's own numbers are finite
-  module _ (e : refusal (modelRules m arguments) ≡ 0) where
-    held : (k : ℕ) → ruleOf k (modelRules m arguments) ≡ true
-    held k = hold-number k (modelRules m arguments) (all-hold (modelRules m arguments) (model-numbered m arguments) e)
+  module _ (e : refusal (modelRules planar m arguments) ≡ 0) where
+    held : (k : ℕ) → ruleOf k (modelRules planar m arguments) ≡ true
+    held k = hold-number k (modelRules planar m arguments) (all-hold (modelRules planar m arguments) (model-numbered m arguments) e)
 
     -- rule 6, taken apart
-    finite : (finiteParams (m .params) ≡ true) × (all 0 (bodyCount (m .bodies)) (finiteBody (m .bodies)) ≡ true)
-        × (all 0 (jointCount (m .words) (m .numbers)) (finiteJoint (m .words) (m .numbers)) ≡ true) × (arguments ≡ true)
+    finite : (finiteParams (m .params) ≡ true) × (all 0 (bodyCount planar (m .bodies)) (finiteBody (m .bodies)) ≡ true)
+        × (all 0 (jointCount planar (m .words) (m .numbers)) (finiteJoint (m .words) (m .numbers)) ≡ true) × (arguments ≡ true)
     unfolding modelRules
     finite =
         let s = both (finiteParams (m .params)) _ (held 6) in
-        let b = both (all 0 (bodyCount (m .bodies)) (finiteBody (m .bodies))) _ (s .1) in
-        let j = both (all 0 (jointCount (m .words) (m .numbers)) (finiteJoint (m .words) (m .numbers))) arguments (b .1) in
+        let b = both (all 0 (bodyCount planar (m .bodies)) (finiteBody (m .bodies))) _ (s .1) in
+        let j = both (all 0 (jointCount planar (m .words) (m .numbers)) (finiteJoint (m .words) (m .numbers))) arguments (b .1) in
         (s .0, b .0, j .0, j .1)
 
     pub rules-hold : RulesHold m
@@ -314,53 +318,53 @@ module _ (m : Model) (arguments : Bool) where
     pub arguments-finite : arguments ≡ true
     arguments-finite = finite .3
 
-  pub rules-granted : RulesHold m → arguments ≡ true → refusal (modelRules m arguments) ≡ 0
+  pub rules-granted : RulesHold m → arguments ≡ true → refusal (modelRules planar m arguments) ≡ 0
   unfolding modelRules refusal
   rules-granted h e = rw (h .bodies, h .joints, h .masks, h .present, h .apart, h .finite-params, h .finite-bodies, h .finite-joints, e, h .angles, h .dt)
 
   -- the rules after them then decide
-  pub rules-rest : RulesHold m → arguments ≡ true → (rest : List Rule) → refusal (modelRules m arguments ++ rest) ≡ refusal rest
-  rules-rest h e rest = granted-append (modelRules m arguments) rest (model-numbered m arguments) (rules-granted h e)
+  pub rules-rest : RulesHold m → arguments ≡ true → (rest : List Rule) → refusal (modelRules planar m arguments ++ rest) ≡ refusal rest
+  rules-rest h e rest = granted-append (modelRules planar m arguments) rest (model-numbered m arguments) (rules-granted h e)
 
   -- the call's own numbers are not finite, and the model is as rules 1 to 6 ask
-  pub rules-arguments : RulesHold m → arguments ≡ false → (rest : List Rule) → refusal (modelRules m arguments ++ rest) ≡ 6
+  pub rules-arguments : RulesHold m → arguments ≡ false → (rest : List Rule) → refusal (modelRules planar m arguments ++ rest) ≡ 6
   unfolding modelRules refusal
   rules-arguments h e rest = rw (h .bodies, h .joints, h .masks, h .present, h .apart, h .finite-params, h .finite-bodies, h .finite-joints, e)
 
 -- ---- what the rules see to
 
 -- a body that is present or the world has its record in the storage, if it is not the world
-pub present-of : (b : List Float) (i : ℕ) → presentOrWorld b i ≡ true → Present b i
+pub present-of : (b : List Float) (i : ℕ) → presentOrWorld planar b i ≡ true → Present b i
 unfolding presentOrWorld
-present-of b i e other = body-there b i (ltb-true i (bodyCount b) (rw (ne-eqb i world other) at e))
+present-of b i e other = body-there b i (ltb-true i (bodyCount planar b) (rw (ne-eqb i world other) at e))
 
 pub at-most : (most n : ℕ) → atMost most n ≡ true → n ≤ most
 at-most most n e = ltb-false most n (not-true (ltb most n) e)
 
 -- rules 1, 4 and 5
 module _ (m : Model) (h : RulesHold m) where
-  here : (j : ℕ) → j < jointCount (m .words) (m .numbers)
-      → (presentOrWorld (m .bodies) (body1At (m .words) j) ≡ true) × (presentOrWorld (m .bodies) (body2At (m .words) j) ≡ true)
+  here : (j : ℕ) → j < jointCount planar (m .words) (m .numbers)
+      → (presentOrWorld planar (m .bodies) (body1At (m .words) j) ≡ true) × (presentOrWorld planar (m .bodies) (body2At (m .words) j) ≡ true)
   unfolding bodiesPresent
-  here j l = both _ _ (all-below (bodiesPresent (m .bodies) (m .words)) _ (h .present) j l)
+  here j l = both _ _ (all-below (bodiesPresent planar (m .bodies) (m .words)) _ (h .present) j l)
 
-  differ : (j : ℕ) → j < jointCount (m .words) (m .numbers) → eqb (body1At (m .words) j) (body2At (m .words) j) ≡ false
+  differ : (j : ℕ) → j < jointCount planar (m .words) (m .numbers) → eqb (body1At (m .words) j) (body2At (m .words) j) ≡ false
   unfolding bodiesApart
-  differ j l = not-true _ (all-below (bodiesApart (m .words)) _ (h .apart) j l)
+  differ j l = not-true _ (all-below (bodiesApart planar (m .words)) _ (h .apart) j l)
 
-  pub sound-held : Sound m
+  pub sound-held : Sound planar m
   sound-held = record {
-    few = at-most mostBodies (bodyCount (m .bodies)) (h .bodies);
+    few = at-most mostBodies (bodyCount planar (m .bodies)) (h .bodies);
     present1 = λ j l. present-of (m .bodies) (body1At (m .words) j) (here j l .0);
     present2 = λ j l. present-of (m .bodies) (body2At (m .words) j) (here j l .1);
     apart = λ j l. eqb-false (body1At (m .words) j) (body2At (m .words) j) (differ j l);
   }
 
-pub sound-of : (m : Model) (arguments : Bool) → refusal (modelRules m arguments) ≡ 0 → Sound m
+pub sound-of : (m : Model) (arguments : Bool) → refusal (modelRules planar m arguments) ≡ 0 → Sound planar m
 sound-of m arguments e = sound-held m (rules-hold m arguments e)
 
 -- rule 8
-pub room-of : (m : Model) (rows : List Float) → refusal (storageRule m rows ∷ []) ≡ 0 → Room m rows
+pub room-of : (m : Model) (rows : List Float) → refusal (storageRule planar m rows ∷ []) ≡ 0 → Room planar m rows
 unfolding storageRule
 room-of m rows e =
-    at-most (rowCapacity rows) (totalRows (m .words) (m .numbers)) (all-hold (storageRule m rows ∷ []) (omega arith) e .0)
+    at-most (rowCapacity planar rows) (totalRows planar (m .words) (m .numbers)) (all-hold (storageRule planar m rows ∷ []) (omega arith) e .0)

@@ -26,17 +26,22 @@ use Rattle.rows.specs.declared.joint_velocity_constraint.WritebackId.the-varian
 use Rattle.model.specs.declared.store.LimitCenter.{LimitCenter}
 use Rattle.model.specs.declared.store.LimitCenter.the-variants.{CosineSine, Angle}
 use Rattle.model.specs.Store.{world, solverPoseAt, velAt, jointAt, masksAt, body1At, body2At, enabledAt, centerAt}
-use Rattle.model.specs.JointRows.{jointIds, rowCount, rowMasksAt}
-use Rattle.model.specs.Model.{Model, model, bodyCount, jointCount, rowCapacity, rowsBefore}
-use Rattle.model.specs.Refusals.{refusal, all, masksFit, presentOrWorld, bodiesPresent, bodiesApart, finiteFrom, noNanFrom, finiteParams, finiteWarm, finiteBody, finiteMotor, finiteCenter, finiteJoint, angleFits, centerFits, modelRules, storageRule, seedsRule, readsRows}
-use Rattle.model.specs.Calls.{rulesOf, grantedOf}
-use Rattle.model.specs.Calls.Call.{load, build}
-use Rattle.model.specs.Traces.{Study, AtEach, AtSome}
-use Rattle.model.specs.Studies.{planar, Loaded, Enough, Closed, OfSet, Agree, MakesRows, HasRow, Names, Compared, SameNumbers, Noninterference}
-use Rattle.model.proofs.CallLaws.{run-granted}
-use Rattle.model.proofs.RefusedExactly.{told}
-use Rattle.model.proofs.Premises.{Turn, recorded, recorded-returns}
-use Rattle.model.proofs.TwoStudies.{two-studies}
+use Rattle.multibody.specs.Rules.{refusal, all}
+use Rattle.multibody.specs.Model.{Model, model}
+use Rattle.multibody.specs.JointRows.{jointIds, rowCount, rowMasksAt}
+use Rattle.multibody.specs.Counts.{bodyCount, jointCount, rowCapacity, rowsBefore}
+use Rattle.multibody.specs.Refusals.{presentOrWorld, bodiesPresent, bodiesApart, finiteParams, finiteWarm, modelRules, storageRule, seedsRule, readsRows}
+use Rattle.multibody.specs.Calls.{rulesOf, grantedOf}
+use Rattle.multibody.specs.Calls.Call.{load, build}
+use Rattle.multibody.specs.Traces.{Study, AtEach, AtSome}
+use Rattle.multibody.specs.Studies.{machine, Loaded, Enough, Closed, OfSet, Agree, MakesRows, HasRow, Names, Compared, SameNumbers, Noninterference}
+use Rattle.multibody.proofs.CallLaws.{run-granted}
+use Rattle.multibody.proofs.RefusedExactly.{told}
+use Rattle.multibody.proofs.Premises.{Turn, recorded, recorded-returns}
+use Rattle.multibody.proofs.TwoStudies.{two-studies}
+use Rattle.model.specs.Refusals.{masksFit, finiteFrom, noNanFrom, finiteBody, finiteMotor, finiteCenter, finiteJoint, angleFits, centerFits}
+use Rattle.model.specs.Planar.{planar}
+use Rattle.model.proofs.PlanarLaws.{planar-laws}
 
 -- ---- the two models
 
@@ -79,13 +84,13 @@ m′ = example o 3 two 1
 abbrev pub storage : List Float
 storage = replicate 108 o
 
-abbrev pub s : Study planar
+abbrev pub s : Study (machine planar)
 s = record { model = m; rows = storage }
 
-abbrev pub s′ : Study planar
+abbrev pub s′ : Study (machine planar)
 s′ = record { model = m′; rows = storage }
 
-abbrev pub ts : List Turn
+abbrev pub ts : List (Turn planar-laws)
 ts = record { call = build Cold 0; lent = storage; lent′ = storage } ∷ []
 
 abbrev pub set : ℕ → Bool
@@ -95,7 +100,7 @@ set i = ltb i 2
 
 -- every rule of a load, and of a build, holds
 abbrev Granted : Model → Type 0
-Granted n = (refusal (rulesOf load n storage) ≡ 0) × (refusal (rulesOf (build Cold 0) n storage) ≡ 0)
+Granted n = (refusal (rulesOf planar load n storage) ≡ 0) × (refusal (rulesOf planar (build Cold 0) n storage) ≡ 0)
 
 both-granted : Granted m × Granted m′
 unfolding rulesOf refusal all modelRules storageRule seedsRule readsRows masksFit presentOrWorld bodiesPresent bodiesApart finiteFrom noNanFrom finiteParams finiteWarm finiteBody finiteMotor finiteCenter finiteJoint angleFits centerFits centerAt angleTooLarge absOf isFinite isNan lt ofBits bodyCount jointCount rowCapacity rowsBefore rowCount jointIds rowMasksAt enabledAt masksAt body1At body2At hasAxis rowIds
@@ -107,15 +112,15 @@ granted = both-granted .0
 granted′ : Granted m′
 granted′ = both-granted .1
 
-loaded : Loaded s
+loaded : Loaded planar s
 unfolding grantedOf
 loaded = record { handedOver = m; byLoad = sym (run-granted load m storage (granted .0)) }
 
-loaded′ : Loaded s′
+loaded′ : Loaded planar s′
 unfolding grantedOf
 loaded′ = record { handedOver = m′; byLoad = sym (run-granted load m′ storage (granted′ .0)) }
 
-enough : AtEach Enough (recorded ts s s′) s s′
+enough : AtEach (Enough planar) (recorded planar-laws ts s s′) s s′
 unfolding AtEach recorded jointCount rowCapacity rowsBefore rowCount jointIds rowMasksAt enabledAt masksAt hasAxis rowIds
 enough = (λ e. (lit≤ tt, lit≤ tt), tt)
 
@@ -128,11 +133,11 @@ body-cases P a b (suc zero) e = b
 body-cases P a b (suc (suc i)) e = absurd (omega (arith, ltb-true (suc (suc i)) 2 e))
 
 -- either model has two joints
-two-joints : (x v : Float) (axes choice : ℕ) → jointCount (example x axes v choice .words) (example x axes v choice .numbers) ≡ 2
+two-joints : (x v : Float) (axes choice : ℕ) → jointCount planar (example x axes v choice .words) (example x axes v choice .numbers) ≡ 2
 unfolding jointCount
 two-joints x v axes choice = refl
 
-three-bodies : (x v : Float) (axes choice : ℕ) → bodyCount (example x axes v choice .bodies) ≡ 3
+three-bodies : (x v : Float) (axes choice : ℕ) → bodyCount planar (example x axes v choice .bodies) ≡ 3
 unfolding bodyCount
 three-bodies x v axes choice = refl
 
@@ -146,39 +151,39 @@ module _ (x v : Float) (axes choice : ℕ) where
   abbrev q : Model
   q = example x axes v choice
 
-  closed : Closed set q
+  closed : Closed planar set q
   unfolding body1At body2At
   closed zero t = refl
   closed (suc zero) t = absurd (t .body2 refl)
   closed (suc (suc j)) t = absurd (omega (arith, t .there, two-joints x v axes choice))
 
   -- the set's joint is joint 0
-  joint-zero : OfSet set q 0
+  joint-zero : OfSet planar set q 0
   unfolding body1At body2At
   joint-zero = record { there = omega (arith, two-joints x v axes choice); inside1 = inl refl; inside2 = inl refl }
 
-  joint-cases : (P : ℕ → Type 0) → P 0 → (j : ℕ) → OfSet set q j → P j
+  joint-cases : (P : ℕ → Type 0) → P 0 → (j : ℕ) → OfSet planar set q j → P j
   unfolding body1At body2At
   joint-cases P a zero t = a
   joint-cases P a (suc zero) t = absurd (⊎-elim (λ e. omega (arith, ltb-true 2 2 e)) (λ e. omega (arith, e)) (t .inside1))
   joint-cases P a (suc (suc j)) t = absurd (omega (arith, t .there, two-joints x v axes choice))
 
   -- which has no row but its locks'
-  ids : jointIds (q .words) 0 ≡ Dof 0 ∷ Dof 1 ∷ []
+  ids : jointIds planar (q .words) 0 ≡ Dof 0 ∷ Dof 1 ∷ []
   unfolding jointIds rowMasksAt enabledAt masksAt hasAxis rowIds
   ids = refl
 
-  locks-alone : (id : WritebackId) → isDof id ≡ false → HasRow q 0 id → ⊥
+  locks-alone : (id : WritebackId) → isDof id ≡ false → HasRow planar q 0 id → ⊥
   locks-alone id e h = ⊎-elim (λ r. other r) (λ h. ⊎-elim (λ r. other r) List·Memᴰ·not-nil (List·Memᴰ·cases-cons h)) (List·Memᴰ·cases-cons (rw ids at h))
     where
       other : {k : ℕ} → id ≡ Dof k → ⊥
       other r = true≢false (sym (ap isDof r) ∙ e)
 
-unnamed : (id : WritebackId) → isDof id ≡ false → Names (recorded ts s s′) s s′ 0 id → ⊥
+unnamed : (id : WritebackId) → isDof id ≡ false → Names planar (recorded planar-laws ts s s′) s s′ 0 id → ⊥
 unfolding AtSome recorded
 unnamed id e h = ⊎-elim (λ n. ⊎-elim (λ k. locks-alone two one 7 0 id e (k .1)) (λ k. locks-alone o two 3 1 id e (k .1)) n) (λ e. e) h
 
-contents : SameNamed (Names (recorded ts s s′) s s′ 0) (jointAt (m .words) (m .numbers) 0) (jointAt (m′ .words) (m′ .numbers) 0)
+contents : SameNamed (Names planar (recorded planar-laws ts s s′) s s′ 0) (jointAt (m .words) (m .numbers) 0) (jointAt (m′ .words) (m′ .numbers) 0)
 unfolding jointAt
 contents = record {
   frame1 = refl;
@@ -192,7 +197,7 @@ contents = record {
   dof = λ i n. refl;
 }
 
-agree : Agree set (Names (recorded ts s s′) s s′) m m′
+agree : Agree planar set (Names planar (recorded planar-laws ts s s′) s s′) m m′
 unfolding solverPoseAt velAt body1At body2At
 agree = record {
   params = refl;
@@ -201,28 +206,28 @@ agree = record {
   present = λ i e. (omega (arith, ltb-true i 2 e, three-bodies two one 7 0), omega (arith, ltb-true i 2 e, three-bodies o two 3 1));
   poses = body-cases (λ i. solverPoseAt (m .bodies) i ≡ solverPoseAt (m′ .bodies) i) refl refl;
   velocities = body-cases (λ i. velAt (m .bodies) i ≡ velAt (m′ .bodies) i) refl refl;
-  joints = joint-cases two one 7 0 (OfSet set m′) (joint-zero o two 3 1);
-  joints′ = joint-cases o two 3 1 (OfSet set m) (joint-zero two one 7 0);
+  joints = joint-cases two one 7 0 (OfSet planar set m′) (joint-zero o two 3 1);
+  joints′ = joint-cases o two 3 1 (OfSet planar set m) (joint-zero two one 7 0);
   bodies1 = joint-cases two one 7 0 (λ j. body1At (m .words) j ≡ body1At (m′ .words) j) refl;
   bodies2 = joint-cases two one 7 0 (λ j. body2At (m .words) j ≡ body2At (m′ .words) j) refl;
-  contents = joint-cases two one 7 0 (λ j. SameNamed (Names (recorded ts s s′) s s′ j) (jointAt (m .words) (m .numbers) j) (jointAt (m′ .words) (m′ .numbers) j)) contents;
+  contents = joint-cases two one 7 0 (λ j. SameNamed (Names planar (recorded planar-laws ts s s′) s s′ j) (jointAt (m .words) (m .numbers) j) (jointAt (m′ .words) (m′ .numbers) j)) contents;
 }
 
 -- ---- what is shown
 
-pub compared : Compared set (recorded ts s s′) s s′
-compared = record { loaded = loaded; loaded′ = loaded′; agree = agree; storage = enough; traces = recorded-returns ts s s′ }
+pub compared : Compared planar set (recorded planar-laws ts s s′) s s′
+compared = record { loaded = loaded; loaded′ = loaded′; agree = agree; storage = enough; traces = recorded-returns planar-laws ts s s′ }
 
-same-numbers : SameNumbers m m′
+same-numbers : SameNumbers planar m m′
 same-numbers = record { bodies = three-bodies two one 7 0 ∙ sym (three-bodies o two 3 1); joints = two-joints two one 7 0 ∙ sym (two-joints o two 3 1) }
 
-pub shared : Noninterference set (recorded ts s s′) s s′
-shared = two-studies set (recorded ts s s′) s s′ same-numbers compared
+pub shared : Noninterference planar set (recorded planar-laws ts s s′) s s′
+shared = two-studies planar-laws set (recorded planar-laws ts s s′) s s′ same-numbers compared
 
 -- rows are made
-pub builds : AtEach (λ p s s′. MakesRows (p .call) (p .outcome) × MakesRows (p .call) (p .outcome′)) (recorded ts s s′) s s′
+pub builds : AtEach (λ p s s′. MakesRows planar (p .call) (p .outcome) × MakesRows planar (p .call) (p .outcome′)) (recorded planar-laws ts s s′) s s′
 unfolding AtEach recorded
-builds = (((refl, told (build Cold 0) m storage ∙ granted .1), (refl, told (build Cold 0) m′ storage ∙ granted′ .1)), tt)
+builds = (((refl, told planar-laws (build Cold 0) m storage ∙ granted .1), (refl, told planar-laws (build Cold 0) m′ storage ∙ granted′ .1)), tt)
 
 -- and the set's joint differs in a motor
 pub motors-differ : motorAt (jointAt (m .words) (m .numbers) 0 .«data») 0 .«target_vel» ≢ motorAt (jointAt (m′ .words) (m′ .numbers) 0 .«data») 0 .«target_vel»

@@ -6,7 +6,5 @@ pub mod Model
 pub mod SingleRecords
 pub mod Refusals
 pub mod MotorTargets
-pub mod Calls
 pub mod Answers
-pub mod Traces
-pub mod Studies
+pub mod Planar

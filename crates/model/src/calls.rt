@@ -2,10 +2,12 @@
 // refused call changes nothing.
 ghost use mathlib.Core.Path.{_≡_};
 ghost use mathlib.Core.List.{[]};
-ghost use Rattle.model.specs.Model.{modelOf, jointCount};
-ghost use Rattle.model.specs.Calls.{outcome, run};
-ghost use Rattle.model.specs.Calls.Call.{load, place, build, warmStart, sweep, removeBias, writeBack, readRows, readVelocity, setTargets};
-ghost use Rattle.model.specs.JointRows.{rowMasksAt};
+ghost use Rattle.model.specs.Model.{modelOf};
+ghost use Rattle.multibody.specs.Counts.{jointCount};
+ghost use Rattle.multibody.specs.Calls.{outcome, run};
+ghost use Rattle.multibody.specs.Calls.Call.{load, place, build, warmStart, sweep, removeBias, writeBack, readRows, readVelocity, further};
+ghost use Rattle.multibody.specs.JointRows.{rowMasksAt};
+ghost use Rattle.model.specs.Planar.{planar};
 ghost use Rattle.model.specs.Answers.{WithoutRows, loadAnswer, loadHeader, plainAnswer, buildAnswer, buildHeader, rowsAnswer, noRows, rowsAnswerOf, velocityAnswer, sweepAnswer, sweptAs, sweepAnswerOf};
 use crate::all_joints::build_all;
 use crate::all_joints::remove_bias_all;
@@ -84,7 +86,7 @@ pub fn load(
     numbers: &[f32],
     rows: &[f32],
 ) -> LoadAnswer
-    ensures { λ r. ⌜ outcome (loadAnswer r) (modelOf (loadHeader header r) (now (bodies .entry)) (now (words .entry)) (now (numbers .entry))) (now (rows .entry)) ≡ run load (modelOf header (now (bodies .entry)) (now (words .entry)) (now (numbers .entry))) (now (rows .entry)) ⌝ }
+    ensures { λ r. ⌜ outcome (loadAnswer r) (modelOf (loadHeader header r) (now (bodies .entry)) (now (words .entry)) (now (numbers .entry))) (now (rows .entry)) ≡ run planar load (modelOf header (now (bodies .entry)) (now (words .entry)) (now (numbers .entry))) (now (rows .entry)) ⌝ }
 {
     let k = storage_refusal(header, bodies, words, numbers, rows, true);
     if k != 0 {
@@ -106,7 +108,7 @@ pub fn place(
     body: u32,
     pose: Pose,
 ) -> Plain
-    ensures { λ r. ⌜ WithoutRows (outcome (plainAnswer r) (modelOf header (now (bodies .exit)) (now (words .entry)) (now (numbers .entry)))) (run (place body pose) (modelOf header (now (bodies .entry)) (now (words .entry)) (now (numbers .entry)))) ⌝ }
+    ensures { λ r. ⌜ WithoutRows (outcome (plainAnswer r) (modelOf header (now (bodies .exit)) (now (words .entry)) (now (numbers .entry)))) (run planar (place body pose) (modelOf header (now (bodies .entry)) (now (words .entry)) (now (numbers .entry)))) ⌝ }
 {
     let finite = finite_pose(pose);
     let k = model_refusal(header, bodies, words, numbers, finite);
@@ -130,7 +132,7 @@ pub fn build(
     warmstart: Warmstart,
     substep_id: u32,
 ) -> BuildAnswer
-    ensures { λ r. ⌜ outcome (buildAnswer r) (modelOf (buildHeader header r) (now (bodies .entry)) (now (words .entry)) (now (numbers .entry))) (now (rows .exit)) ≡ run (build warmstart «substep_id») (modelOf header (now (bodies .entry)) (now (words .entry)) (now (numbers .entry))) (now (rows .entry)) ⌝ }
+    ensures { λ r. ⌜ outcome (buildAnswer r) (modelOf (buildHeader header r) (now (bodies .entry)) (now (words .entry)) (now (numbers .entry))) (now (rows .exit)) ≡ run planar (build warmstart «substep_id») (modelOf header (now (bodies .entry)) (now (words .entry)) (now (numbers .entry))) (now (rows .entry)) ⌝ }
 {
     let finite = finite_warm(warmstart);
     let k = storage_refusal(header, bodies, words, numbers, rows, finite);
@@ -161,7 +163,7 @@ pub fn warm_start(
     numbers: &[f32],
     rows: &[f32],
 ) -> Plain
-    ensures { λ r. ⌜ outcome (plainAnswer r) (modelOf header (now (bodies .exit)) (now (words .entry)) (now (numbers .entry))) (now (rows .entry)) ≡ run warmStart (modelOf header (now (bodies .entry)) (now (words .entry)) (now (numbers .entry))) (now (rows .entry)) ⌝ }
+    ensures { λ r. ⌜ outcome (plainAnswer r) (modelOf header (now (bodies .exit)) (now (words .entry)) (now (numbers .entry))) (now (rows .entry)) ≡ run planar warmStart (modelOf header (now (bodies .entry)) (now (words .entry)) (now (numbers .entry))) (now (rows .entry)) ⌝ }
 {
     let k = storage_refusal(header, bodies, words, numbers, rows, true);
     if k != 0 {
@@ -194,8 +196,8 @@ pub fn sweep(
     rows: &mut [f32],
     n: u32,
 ) -> SweepAnswer
-    ensures { λ r. ⌜ outcome (sweepAnswer (jointCount (now (words .entry)) (now (numbers .entry))) r) (modelOf header (now (bodies .exit)) (now (words .entry)) (now (numbers .entry))) (now (rows .exit)) ≡ run (sweep n) (modelOf header (now (bodies .entry)) (now (words .entry)) (now (numbers .entry))) (now (rows .entry)) ⌝ }
-    ensures { λ r. ⌜ r ≡ sweepAnswerOf (run (sweep n) (modelOf header (now (bodies .entry)) (now (words .entry)) (now (numbers .entry))) (now (rows .entry)) .answer) ⌝ }
+    ensures { λ r. ⌜ outcome (sweepAnswer (jointCount planar (now (words .entry)) (now (numbers .entry))) r) (modelOf header (now (bodies .exit)) (now (words .entry)) (now (numbers .entry))) (now (rows .exit)) ≡ run planar (sweep n) (modelOf header (now (bodies .entry)) (now (words .entry)) (now (numbers .entry))) (now (rows .entry)) ⌝ }
+    ensures { λ r. ⌜ r ≡ sweepAnswerOf (run planar (sweep n) (modelOf header (now (bodies .entry)) (now (words .entry)) (now (numbers .entry))) (now (rows .entry)) .answer) ⌝ }
 {
     let k = storage_refusal(header, bodies, words, numbers, rows, true);
     if k != 0 {
@@ -223,7 +225,7 @@ pub fn remove_bias(
     numbers: &[f32],
     rows: &mut [f32],
 ) -> Plain
-    ensures { λ r. ⌜ outcome (plainAnswer r) (modelOf header (now (bodies .entry)) (now (words .entry)) (now (numbers .entry))) (now (rows .exit)) ≡ run removeBias (modelOf header (now (bodies .entry)) (now (words .entry)) (now (numbers .entry))) (now (rows .entry)) ⌝ }
+    ensures { λ r. ⌜ outcome (plainAnswer r) (modelOf header (now (bodies .entry)) (now (words .entry)) (now (numbers .entry))) (now (rows .exit)) ≡ run planar removeBias (modelOf header (now (bodies .entry)) (now (words .entry)) (now (numbers .entry))) (now (rows .entry)) ⌝ }
 {
     let k = storage_refusal(header, bodies, words, numbers, rows, true);
     if k != 0 {
@@ -244,7 +246,7 @@ pub fn write_back(
     numbers: &mut [f32],
     rows: &[f32],
 ) -> Plain
-    ensures { λ r. ⌜ outcome (plainAnswer r) (modelOf header (now (bodies .entry)) (now (words .entry)) (now (numbers .exit))) (now (rows .entry)) ≡ run writeBack (modelOf header (now (bodies .entry)) (now (words .entry)) (now (numbers .entry))) (now (rows .entry)) ⌝ }
+    ensures { λ r. ⌜ outcome (plainAnswer r) (modelOf header (now (bodies .entry)) (now (words .entry)) (now (numbers .exit))) (now (rows .entry)) ≡ run planar writeBack (modelOf header (now (bodies .entry)) (now (words .entry)) (now (numbers .entry))) (now (rows .entry)) ⌝ }
 {
     let k = storage_refusal(header, bodies, words, numbers, rows, true);
     if k != 0 {
@@ -280,8 +282,8 @@ pub fn read_rows(
     rows: &[f32],
     joint: u32,
 ) -> RowsAnswer
-    ensures { λ r. ⌜ outcome (rowsAnswer r) (modelOf header (now (bodies .entry)) (now (words .entry)) (now (numbers .entry))) (now (rows .entry)) ≡ run (readRows joint) (modelOf header (now (bodies .entry)) (now (words .entry)) (now (numbers .entry))) (now (rows .entry)) ⌝ }
-    ensures { λ r. ⌜ r ≡ rowsAnswerOf (rowMasksAt (now (words .entry)) joint) (run (readRows joint) (modelOf header (now (bodies .entry)) (now (words .entry)) (now (numbers .entry))) (now (rows .entry)) .answer) ⌝ }
+    ensures { λ r. ⌜ outcome (rowsAnswer r) (modelOf header (now (bodies .entry)) (now (words .entry)) (now (numbers .entry))) (now (rows .entry)) ≡ run planar (readRows joint) (modelOf header (now (bodies .entry)) (now (words .entry)) (now (numbers .entry))) (now (rows .entry)) ⌝ }
+    ensures { λ r. ⌜ r ≡ rowsAnswerOf (rowMasksAt planar (now (words .entry)) joint) (run planar (readRows joint) (modelOf header (now (bodies .entry)) (now (words .entry)) (now (numbers .entry))) (now (rows .entry)) .answer) ⌝ }
 {
     let k = storage_refusal(header, bodies, words, numbers, rows, true);
     if k != 0 {
@@ -309,7 +311,7 @@ pub fn read_velocity(
     numbers: &[f32],
     body: u32,
 ) -> VelocityAnswer
-    ensures { λ r. ⌜ WithoutRows (outcome (velocityAnswer r) (modelOf header (now (bodies .entry)) (now (words .entry)) (now (numbers .entry)))) (run (readVelocity body) (modelOf header (now (bodies .entry)) (now (words .entry)) (now (numbers .entry)))) ⌝ }
+    ensures { λ r. ⌜ WithoutRows (outcome (velocityAnswer r) (modelOf header (now (bodies .entry)) (now (words .entry)) (now (numbers .entry)))) (run planar (readVelocity body) (modelOf header (now (bodies .entry)) (now (words .entry)) (now (numbers .entry)))) ⌝ }
 {
     let k = model_refusal(header, bodies, words, numbers, true);
     if k != 0 {
@@ -329,7 +331,7 @@ pub fn set_targets(
     numbers: &mut [f32],
     table: &[u8],
 ) -> Plain
-    ensures { λ r. ⌜ WithoutRows (outcome (plainAnswer r) (modelOf header (now (bodies .entry)) (now (words .entry)) (now (numbers .exit)))) (run (setTargets (now (table .entry))) (modelOf header (now (bodies .entry)) (now (words .entry)) (now (numbers .entry)))) ⌝ }
+    ensures { λ r. ⌜ WithoutRows (outcome (plainAnswer r) (modelOf header (now (bodies .entry)) (now (words .entry)) (now (numbers .exit)))) (run planar (further (now (table .entry))) (modelOf header (now (bodies .entry)) (now (words .entry)) (now (numbers .entry)))) ⌝ }
 {
     let k = model_refusal(header, bodies, words, numbers, true);
     if k != 0 {

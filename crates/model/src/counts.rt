@@ -3,7 +3,8 @@ ghost use mathlib.Core.Path.{_≡_};
 ghost use Prim.Native.Nat.{_*_, _≤_};
 ghost use lib.ListN.{length};
 ghost use Rattle.model.specs.Layout.{wordsWidth};
-ghost use Rattle.model.specs.Model.{bodyCount, jointCount, rowCapacity, rowsBefore};
+ghost use Rattle.multibody.specs.Counts.{bodyCount, jointCount, rowCapacity, rowsBefore};
+ghost use Rattle.model.specs.Planar.{planar};
 use crate::joint_rows::count_at;
 use crate::layout::BODY_WIDTH;
 use crate::layout::NUMBERS_WIDTH;
@@ -12,20 +13,20 @@ use crate::layout::WORDS_WIDTH;
 
 // The number of bodies, and of rows that a storage has room for: whole records.
 pub fn body_count(bodies: &[f32]) -> usize
-    ensures { λ r. ⌜ r ≡ bodyCount (now (bodies .entry)) ⌝ }
+    ensures { λ r. ⌜ r ≡ bodyCount planar (now (bodies .entry)) ⌝ }
 {
     bodies.len() / BODY_WIDTH
 }
 
 pub fn row_capacity(rows: &[f32]) -> usize
-    ensures { λ r. ⌜ r ≡ rowCapacity (now (rows .entry)) ⌝ }
+    ensures { λ r. ⌜ r ≡ rowCapacity planar (now (rows .entry)) ⌝ }
 {
     rows.len() / ROW_WIDTH
 }
 
 // The number of joints: a joint is there where both its words and its numbers are.
 pub fn joint_count(words: &[u32], numbers: &[f32]) -> usize
-    ensures { λ r. ⌜ r ≡ jointCount (now (words .entry)) (now (numbers .entry)) ⌝ }
+    ensures { λ r. ⌜ r ≡ jointCount planar (now (words .entry)) (now (numbers .entry)) ⌝ }
 {
     let a = words.len() / WORDS_WIDTH;
     let b = numbers.len() / NUMBERS_WIDTH;
@@ -38,7 +39,7 @@ pub fn joint_count(words: &[u32], numbers: &[f32]) -> usize
 // The rows of the first j joints together: where joint j's rows begin.
 pub fn rows_before(words: &[u32], j: usize) -> usize
     requires { ⌜ j * wordsWidth ≤ length (now words) ⌝ }
-    ensures { λ r. ⌜ r ≡ rowsBefore (now (words .entry)) j ⌝ }
+    ensures { λ r. ⌜ r ≡ rowsBefore planar (now (words .entry)) j ⌝ }
 {
     let mut i = 0usize;
     let mut first = 0usize;

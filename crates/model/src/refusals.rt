@@ -8,8 +8,12 @@ ghost use lib.Ieee.{isNan};
 ghost use Rattle.floats.specs.Scalar.{isFinite};
 ghost use Rattle.model.specs.declared.header.Header.{Header};
 ghost use Rattle.model.specs.Layout.{bodyWidth, wordsWidth, numbersWidth};
-ghost use Rattle.model.specs.Model.{modelOf, totalRows};
-ghost use Rattle.model.specs.Refusals.{rule, refusal, all, atMost, masksFit, presentOrWorld, bodiesPresent, bodiesApart, finiteFrom, noNanFrom, finiteParams, finitePose, finiteWarm, finiteBody, finiteMotor, limitEnds, finiteMotors, finiteCenter, finiteJoint, angleFits, centerFits, jointRules, modelRules, storageRule};
+ghost use Rattle.model.specs.Model.{modelOf};
+ghost use Rattle.multibody.specs.Counts.{totalRows};
+ghost use Rattle.multibody.specs.Rules.{rule, refusal, all, atMost};
+ghost use Rattle.multibody.specs.Refusals.{presentOrWorld, bodiesPresent, bodiesApart, finiteParams, finiteWarm, modelRules, storageRule};
+ghost use Rattle.model.specs.Planar.{jointRules, planar};
+ghost use Rattle.model.specs.Refusals.{masksFit, finiteFrom, noNanFrom, finitePose, finiteBody, finiteMotor, limitEnds, finiteMotors, finiteCenter, finiteJoint, angleFits, centerFits};
 use crate::counts::body_count;
 use crate::counts::joint_count;
 use crate::counts::row_capacity;
@@ -79,7 +83,7 @@ fn all_masks_fit(words: &[u32], n: usize) -> bool
 }
 
 fn present_or_world(bodies: &[f32], i: u32) -> bool
-    ensures { λ r. ⌜ r ≡ presentOrWorld (now (bodies .entry)) i ⌝ }
+    ensures { λ r. ⌜ r ≡ presentOrWorld planar (now (bodies .entry)) i ⌝ }
 {
     if i == WORLD {
         return true;
@@ -89,7 +93,7 @@ fn present_or_world(bodies: &[f32], i: u32) -> bool
 
 fn bodies_present(bodies: &[f32], words: &[u32], j: usize) -> bool
     requires { ⌜ j * wordsWidth + wordsWidth ≤ length (now words) ⌝ }
-    ensures { λ r. ⌜ r ≡ bodiesPresent (now (bodies .entry)) (now (words .entry)) j ⌝ }
+    ensures { λ r. ⌜ r ≡ bodiesPresent planar (now (bodies .entry)) (now (words .entry)) j ⌝ }
 {
     if !present_or_world(bodies, body1_at(words, j)) {
         return false;
@@ -99,7 +103,7 @@ fn bodies_present(bodies: &[f32], words: &[u32], j: usize) -> bool
 
 fn all_bodies_present(bodies: &[f32], words: &[u32], n: usize) -> bool
     requires { ⌜ n * wordsWidth ≤ length (now words) ⌝ }
-    ensures { λ r. ⌜ r ≡ all 0 n (bodiesPresent (now (bodies .entry)) (now (words .entry))) ⌝ }
+    ensures { λ r. ⌜ r ≡ all 0 n (bodiesPresent planar (now (bodies .entry)) (now (words .entry))) ⌝ }
 {
     let mut j = 0usize;
     while j < n {
@@ -113,7 +117,7 @@ fn all_bodies_present(bodies: &[f32], words: &[u32], n: usize) -> bool
 
 fn all_bodies_apart(words: &[u32], n: usize) -> bool
     requires { ⌜ n * wordsWidth ≤ length (now words) ⌝ }
-    ensures { λ r. ⌜ r ≡ all 0 n (bodiesApart (now (words .entry))) ⌝ }
+    ensures { λ r. ⌜ r ≡ all 0 n (bodiesApart planar (now (words .entry))) ⌝ }
 {
     let mut j = 0usize;
     while j < n {
@@ -381,7 +385,7 @@ fn first_refusal(
     handed: bool,
     room: usize,
 ) -> u32
-    ensures { λ r. ⌜ ((header : Header) (arguments : Bool) → dt ≡ header .params .dt → finite ≡ (finiteParams (header .params) && arguments) → r ≡ refusal (modelRules (modelOf header (now (bodies .entry)) (now (words .entry)) (now (numbers .entry))) arguments ++ (rule 8 (not handed || atMost room (totalRows (now (words .entry)) (now (numbers .entry)))) ∷ []))) ⌝ }
+    ensures { λ r. ⌜ ((header : Header) (arguments : Bool) → dt ≡ header .params .dt → finite ≡ (finiteParams (header .params) && arguments) → r ≡ refusal (modelRules planar (modelOf header (now (bodies .entry)) (now (words .entry)) (now (numbers .entry))) arguments ++ (rule 8 (not handed || atMost room (totalRows planar (now (words .entry)) (now (numbers .entry)))) ∷ []))) ⌝ }
 {
     let n = body_count(bodies);
     let joints = joint_count(words, numbers);
@@ -421,7 +425,7 @@ pub fn model_refusal(
     numbers: &[f32],
     arguments: bool,
 ) -> u32
-    ensures { λ r. ⌜ r ≡ refusal (modelRules (modelOf header (now (bodies .entry)) (now (words .entry)) (now (numbers .entry))) arguments) ⌝ }
+    ensures { λ r. ⌜ r ≡ refusal (modelRules planar (modelOf header (now (bodies .entry)) (now (words .entry)) (now (numbers .entry))) arguments) ⌝ }
 {
     let params = header.params;
     let finite = finite_params(params) & arguments;
@@ -437,7 +441,7 @@ pub fn storage_refusal(
     rows: &[f32],
     arguments: bool,
 ) -> u32
-    ensures { λ r. ⌜ r ≡ refusal (modelRules (modelOf header (now (bodies .entry)) (now (words .entry)) (now (numbers .entry))) arguments ++ (storageRule (modelOf header (now (bodies .entry)) (now (words .entry)) (now (numbers .entry))) (now (rows .entry)) ∷ [])) ⌝ }
+    ensures { λ r. ⌜ r ≡ refusal (modelRules planar (modelOf header (now (bodies .entry)) (now (words .entry)) (now (numbers .entry))) arguments ++ (storageRule planar (modelOf header (now (bodies .entry)) (now (words .entry)) (now (numbers .entry))) (now (rows .entry)) ∷ [])) ⌝ }
 {
     let params = header.params;
     let finite = finite_params(params) & arguments;

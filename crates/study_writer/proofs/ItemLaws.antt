@@ -11,7 +11,7 @@ use Rattle.texts.specs.Digits.{decimal}
 use Rattle.model.specs.Layout.{bodyWidth, wordsWidth, numbersWidth}
 use Rattle.model.specs.Records.{num, word}
 use Rattle.model.specs.Store.{world}
-use Rattle.model.specs.Model.{Model}
+use Rattle.multibody.specs.Model.{Model}
 use Rattle.texts.specs.Ascii.{ascii}
 use Rattle.study_reader.specs.Keywords.{meaning, axisWords}
 use Rattle.study_reader.specs.Draft.{Draft}

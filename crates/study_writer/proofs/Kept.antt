@@ -9,7 +9,7 @@ use lib.Dec.{eqb, ltb}
 use lib.Ieee.{Float, nan}
 use lib.ListN.{length, getD, set, length-set}
 use lib.Seq.{getD-set-other}
-use Rattle.model.specs.Model.{Model}
+use Rattle.multibody.specs.Model.{Model}
 use Rattle.study_reader.specs.Storage.{kept}
 use Rattle.study_reader.specs.Draft.{Draft, draft}
 use Rattle.study_writer.proofs.NameLines.{BodyNames, JointNames, below}

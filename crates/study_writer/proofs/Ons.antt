@@ -8,7 +8,7 @@ use borrow.Author.Tests.{lt-ltb}
 use lib.Dec.{eqb}
 use lib.Ieee.{Float}
 use lib.ListN.{length, getD, set}
-use Rattle.model.specs.Model.{Model}
+use Rattle.multibody.specs.Model.{Model}
 use Rattle.study_reader.specs.Storage.{bodyBase, jointBase, wordsBase, kept}
 use Rattle.study_reader.specs.Draft.{Draft, itemBase, bodyDefaults, jointDefaults}
 use Rattle.study_reader.specs.Items.{given1, given2, ends, noCenter, byPair, byAngle, lineOf}

@@ -9,7 +9,7 @@ use lib.Dec.{eqb}
 use lib.Ieee.{Float, nan}
 use lib.ListN.{length, set, length-set}
 use lib.Seq.{getD-set-same, getD-set-other}
-use Rattle.model.specs.Model.{Model}
+use Rattle.multibody.specs.Model.{Model}
 use Rattle.study_reader.specs.Words.{bytesOf}
 use Rattle.study_reader.specs.Names.{nameAt}
 use Rattle.study_reader.specs.Storage.{kept}

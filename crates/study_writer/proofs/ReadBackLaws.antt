@@ -13,8 +13,12 @@ use lib.Seq.{getD-drop}
 use Rattle.model.specs.Layout.{bodyWidth, wordsWidth, numbersWidth}
 use Rattle.model.specs.Records.{num, word}
 use Rattle.model.specs.Store.{world, jointAt, centerAt, body1At, body2At}
-use Rattle.model.specs.Model.{Model, bodyCount, jointCount}
-use Rattle.model.specs.Refusals.{all, masksFit, presentOrWorld, bodiesPresent}
+use Rattle.multibody.specs.Model.{Model}
+use Rattle.multibody.specs.Counts.{bodyCount, jointCount}
+use Rattle.multibody.specs.Rules.{all}
+use Rattle.multibody.specs.Refusals.{presentOrWorld, bodiesPresent}
+use Rattle.model.specs.Planar.{planar}
+use Rattle.model.specs.Refusals.{masksFit}
 use Rattle.study_reader.specs.Storage.{jointBase}
 use Rattle.study_reader.specs.Draft.{Draft, draft, withState, start, puts, settingsDefaults}
 use Rattle.study_reader.specs.Study.{lineRead, linesRead, ended, isLeftOut, centerJoint, centerJoints, readStudy, studyOf}
@@ -179,7 +183,7 @@ module _ (text : List ℕ) (m : Model) (s low high done nb nj cs : ℕ) (d : Dra
 
 -- ---- what rules 3 and 4 say of a joint's words
 
-fine : (m : Model) (j : ℕ) → masksFit (m .words) j ≡ true → bodiesPresent (m .bodies) (m .words) j ≡ true → Fine m (bodyCount (m .bodies)) j
+fine : (m : Model) (j : ℕ) → masksFit (m .words) j ≡ true → bodiesPresent planar (m .bodies) (m .words) j ≡ true → Fine m (bodyCount planar (m .bodies)) j
 unfolding masksFit all bodiesPresent presentOrWorld body1At body2At
 fine m j h p =
     let w : ℕ → ℕ = word wordsWidth (m .words) j in
@@ -187,7 +191,7 @@ fine m j h p =
     let b = both (not (ltb 7 (w 3))) (not (ltb 7 (w 4)) && (not (ltb 7 (w 5)) && true)) (a .1) in
     let c = both (not (ltb 7 (w 4))) (not (ltb 7 (w 5)) && true) (b .1) in
     let d = both (not (ltb 7 (w 5))) true (c .1) in
-    let e = both (eqb (w 0) world || ltb (w 0) (bodyCount (m .bodies))) (eqb (w 1) world || ltb (w 1) (bodyCount (m .bodies))) p in
+    let e = both (eqb (w 0) world || ltb (w 0) (bodyCount planar (m .bodies))) (eqb (w 1) world || ltb (w 1) (bodyCount planar (m .bodies))) p in
     record {
       first = e .0;
       second = e .1;
@@ -250,10 +254,10 @@ module _ (m : Model) (p : Printable m) (numbers : List Float) (origins words nam
   text = studyText m
 
   abbrev nb : ℕ
-  nb = bodyCount (m .bodies)
+  nb = bodyCount planar (m .bodies)
 
   abbrev nj : ℕ
-  nj = jointCount (m .words) (m .numbers)
+  nj = jointCount planar (m .words) (m .numbers)
 
   abbrev first : Draft
   first = draft start (puts 0 settingsDefaults numbers) origins words names

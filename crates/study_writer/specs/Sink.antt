@@ -6,7 +6,9 @@ use mathlib.Core.Bool.{cond}
 use mathlib.Core.List.{List, [], _∷_}
 use lib.Dec.{ltb, leb}
 use lib.ListN.{set}
-use Rattle.model.specs.Model.{Model, mostBodies, mostJoints, bodyCount, jointCount}
+use Rattle.multibody.specs.Model.{Model, mostBodies, mostJoints}
+use Rattle.multibody.specs.Counts.{bodyCount, jointCount}
+use Rattle.model.specs.Planar.{planar}
 use Rattle.study_writer.specs.Text.{studyText}
 
 abbrev pub largestPlace : ℕ
@@ -30,4 +32,4 @@ pub record Sunk (out : List ℕ) (at : ℕ) (text : List ℕ) (out′ : List ℕ
 
 -- What is written of a model: its text; nothing where it has more bodies or joints than rules 1 and 2 let through.
 unfoldable pub printedText : Model → List ℕ
-printedText m = cond (leb (bodyCount (m .bodies)) mostBodies) (cond (leb (jointCount (m .words) (m .numbers)) mostJoints) (studyText m) []) []
+printedText m = cond (leb (bodyCount planar (m .bodies)) mostBodies) (cond (leb (jointCount planar (m .words) (m .numbers)) mostJoints) (studyText m) []) []

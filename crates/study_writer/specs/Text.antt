@@ -13,7 +13,9 @@ use Rattle.rows.specs.declared.integration_parameters.IntegrationParameters.{In
 use Rattle.model.specs.Layout.{bodyWidth, posePlace, inertiaPlace, massPlace, velocityPlace, wordsWidth, body1Place, body2Place, masksPlace, modelsPlace, enabledPlace, centerChoicePlace, numbersWidth, frame1Place, frame2Place, limitsPlace, limitsWidth, motorsPlace, motorWidth, softnessPlace, dofsPlace, centerPlace}
 use Rattle.model.specs.Records.{num, word}
 use Rattle.model.specs.Store.{world}
-use Rattle.model.specs.Model.{Model, bodyCount, jointCount}
+use Rattle.multibody.specs.Model.{Model}
+use Rattle.multibody.specs.Counts.{bodyCount, jointCount}
+use Rattle.model.specs.Planar.{planar}
 
 -- ---- lines of words
 
@@ -176,7 +178,7 @@ jointsFrom words numbers j (suc n) = jointLines j (word wordsWidth words j) (num
 unfoldable pub studyLines : Model → List Line
 studyLines m =
     settingsLines (m .params)
-    ++ (bodiesFrom (m .bodies) 0 (bodyCount (m .bodies)) ++ jointsFrom (m .words) (m .numbers) 0 (jointCount (m .words) (m .numbers)))
+    ++ (bodiesFrom (m .bodies) 0 (bodyCount planar (m .bodies)) ++ jointsFrom (m .words) (m .numbers) 0 (jointCount planar (m .words) (m .numbers)))
 
 unfoldable pub studyText : Model → List ℕ
 studyText m = linesText (studyLines m)

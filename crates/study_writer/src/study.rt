@@ -7,7 +7,9 @@ ghost use lib.Ieee.{nan};
 ghost use Rattle.texts.specs.Written.{written};
 ghost use Rattle.model.specs.Layout.{bodyWidth, wordsWidth, numbersWidth};
 ghost use Rattle.model.specs.Records.{num, word};
-ghost use Rattle.model.specs.Model.{modelOf, bodyCount, jointCount};
+ghost use Rattle.model.specs.Model.{modelOf};
+ghost use Rattle.multibody.specs.Counts.{bodyCount, jointCount};
+ghost use Rattle.model.specs.Planar.{planar};
 ghost use Rattle.texts.specs.Digits.{decimal};
 ghost use Rattle.texts.specs.Ascii.{ascii};
 ghost use Rattle.study_writer.specs.Text.{linesText, numberWord, modelWord, settingsLines, bodyLines, bodiesFrom, jointHead, frameLines, allLimitsLines, allMotorsLines, softnessLines, jointLines, jointsFrom};
@@ -240,13 +242,13 @@ fn put_joints(out: &mut [u8], at: usize, n: u32, words: &[u32], s: &[f32]) -> us
 // ---- the whole text
 
 fn body_count(bodies: &[f32]) -> usize
-    ensures { λ r. ⌜ r ≡ bodyCount (now (bodies .entry)) ⌝ }
+    ensures { λ r. ⌜ r ≡ bodyCount planar (now (bodies .entry)) ⌝ }
 {
     bodies.len() / 10
 }
 
 fn joint_count(words: &[u32], numbers: &[f32]) -> usize
-    ensures { λ r. ⌜ r ≡ jointCount (now (words .entry)) (now (numbers .entry)) ⌝ }
+    ensures { λ r. ⌜ r ≡ jointCount planar (now (words .entry)) (now (numbers .entry)) ⌝ }
 {
     let a = words.len() / 11;
     let b = numbers.len() / 42;

@@ -3,7 +3,8 @@ use Prim.Native.Nat.{_-_}
 use mathlib.Core.Path.{_≡_, refl, _∙_}
 use native.Mathlib.Omega.{arith}
 use lib.ListN.{length}
-use Rattle.model.specs.Calls.{warmstartOne}
+use Rattle.multibody.specs.Calls.{warmstartOne}
+use Rattle.model.specs.Planar.{planar}
 use Rattle.model.proofs.CountLaws.{joint-words}
 use Rattle.model.proofs.AllJointsLaws.{Turn, first-turn, next-turn, no-turn, rows-within}
 use borrow.Author.Needs.{needs}
@@ -11,7 +12,7 @@ use Rattle.model.proofs.all_joints.warmstart_all.Statement.{statement}
 use Rattle.model.proofs.all_joints.warmstart_all.Tie as tie
 
 abbrev Inv-loop : tie.InvT-loop
-Inv-loop bodies₀ words numbers rows n j₀ first₀ bodies j first = Turn (warmstartOne words rows) words n bodies₀ j first bodies × (length bodies ≡ length bodies₀)
+Inv-loop bodies₀ words numbers rows n j₀ first₀ bodies j first = Turn (warmstartOne planar words rows) words n bodies₀ j first bodies × (length bodies ≡ length bodies₀)
 
 abbrev μ-loop : tie.MeasureT-loop
 μ-loop bodies₀ words numbers rows n j₀ first₀ bodies j first = n - j

@@ -2,7 +2,8 @@
 use mathlib.Core.Path.{sym, _∙_}
 use mathlib.Core.Logic.{inl, inr, ⊎-elim}
 use native.Mathlib.Omega.{arith}
-use Rattle.model.specs.Calls.{grantedOf}
+use Rattle.multibody.specs.Calls.{grantedOf}
+use Rattle.model.specs.Planar.{planar}
 use Rattle.model.proofs.RefusalLaws.{no-rules}
 use Rattle.model.proofs.CallLaws.{refused-early, refused-late, granted-late, no-seeds, seeds, call-sound, call-room}
 use borrow.Author.Needs.{needs}

@@ -1,5 +1,6 @@
 -- `load` meets its contract.
-use Rattle.model.specs.Calls.{grantedOf}
+use Rattle.multibody.specs.Calls.{grantedOf}
+use Rattle.model.specs.Planar.{planar}
 use Rattle.model.proofs.RefusalLaws.{no-rules}
 use Rattle.model.proofs.CallLaws.{refused-early, granted-late}
 use borrow.Author.Needs.{needs}

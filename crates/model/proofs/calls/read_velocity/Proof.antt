@@ -1,7 +1,8 @@
 -- `read_velocity` meets its contract, whatever row storage there is.
 use mathlib.Core.Path.{_∙_}
 use native.Mathlib.Omega.{arith}
-use Rattle.model.specs.Calls.{grantedOf}
+use Rattle.multibody.specs.Calls.{grantedOf}
+use Rattle.model.specs.Planar.{planar}
 use Rattle.model.proofs.CountLaws.{body-there}
 use Rattle.model.proofs.RefusalLaws.{no-rules}
 use Rattle.model.proofs.CallLaws.{refused-early, refused-late, granted-late, no-body, some-body}

@@ -1,7 +1,8 @@
 -- `set_targets` meets its contract, whatever row storage there is.
 use mathlib.Core.Path.{sym, _∙_}
 use native.Mathlib.Omega.{arith}
-use Rattle.model.specs.Calls.{grantedOf}
+use Rattle.multibody.specs.Calls.{grantedOf}
+use Rattle.model.specs.Planar.{planar}
 use Rattle.model.proofs.CountLaws.{joints-numbers}
 use Rattle.model.proofs.CallLaws.{refused-early, refused-late, granted-late, few-joints, table-faulty, table-read}
 use borrow.Author.Needs.{needs}

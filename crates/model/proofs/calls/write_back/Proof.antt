@@ -1,6 +1,7 @@
 -- `write_back` meets its contract.
 use mathlib.Core.Path.{refl}
-use Rattle.model.specs.Calls.{grantedOf}
+use Rattle.multibody.specs.Calls.{grantedOf}
+use Rattle.model.specs.Planar.{planar}
 use Rattle.model.proofs.CallLaws.{refused-early, refused-unbuilt, granted-built, call-room}
 use borrow.Author.Needs.{needs}
 use Rattle.model.proofs.calls.write_back.Statement.{statement}

@@ -1,5 +1,6 @@
 use borrow.Author.Needs.{needs}
-use Rattle.model.specs.Model.{bodyCount}
+use Rattle.multibody.specs.Counts.{bodyCount}
+use Rattle.model.specs.Planar.{planar}
 use Rattle.model.proofs.counts.body_count.Statement.{statement}
 use Rattle.model.proofs.counts.body_count.Tie as tie
 

@@ -1,5 +1,6 @@
 use borrow.Author.Tests.{lt-ltb, le-ltb}
-use Rattle.model.specs.Model.{jointCount}
+use Rattle.multibody.specs.Counts.{jointCount}
+use Rattle.model.specs.Planar.{planar}
 use Rattle.model.proofs.counts.joint_count.Statement.{statement}
 use Rattle.model.proofs.counts.joint_count.Tie as tie
 

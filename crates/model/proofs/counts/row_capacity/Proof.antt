@@ -1,5 +1,6 @@
 use borrow.Author.Needs.{needs}
-use Rattle.model.specs.Model.{rowCapacity}
+use Rattle.multibody.specs.Counts.{rowCapacity}
+use Rattle.model.specs.Planar.{planar}
 use Rattle.model.proofs.counts.row_capacity.Statement.{statement}
 use Rattle.model.proofs.counts.row_capacity.Tie as tie
 

@@ -1,6 +1,7 @@
 -- `count_at` meets its contract, by those of `row_masks_at` and `row_count`.
 use mathlib.Core.Path.{_∙_}
-use Rattle.model.specs.JointRows.{jointIds, rowCount}
+use Rattle.multibody.specs.JointRows.{jointIds, rowCount}
+use Rattle.model.specs.Planar.{planar}
 use borrow.Author.Needs.{needs}
 use Rattle.model.proofs.joint_rows.count_at.Statement.{statement}
 use Rattle.model.proofs.joint_rows.count_at.Tie as tie

@@ -2,7 +2,8 @@
 use native.Mathlib.Omega.{arith}
 use borrow.Author.Needs.{needs}
 use borrow.Author.Tests.{lt-ltb, le-ltb}
-use Rattle.model.specs.JointRows.{atBound, countRow}
+use Rattle.multibody.specs.JointRows.{atBound, countRow}
+use Rattle.model.specs.Planar.{planar}
 use Rattle.model.proofs.joint_rows.count_row.Statement.{statement}
 use Rattle.model.proofs.joint_rows.count_row.Tie as tie
 

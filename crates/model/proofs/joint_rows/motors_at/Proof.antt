@@ -1,6 +1,7 @@
 -- `motors_at` meets its contract, by those of `row_masks_at` and `motor_count`.
 use mathlib.Core.Path.{_∙_}
-use Rattle.model.specs.JointRows.{motorCount}
+use Rattle.multibody.specs.JointRows.{motorCount}
+use Rattle.model.specs.Planar.{planar}
 use borrow.Author.Needs.{needs}
 use Rattle.model.proofs.joint_rows.motors_at.Statement.{statement}
 use Rattle.model.proofs.joint_rows.motors_at.Tie as tie

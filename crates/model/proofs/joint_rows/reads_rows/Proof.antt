@@ -1,5 +1,5 @@
 -- `reads_rows` meets its contract, by cases of the warm coefficient.
-use Rattle.model.specs.Refusals.{readsRows}
+use Rattle.multibody.specs.Refusals.{readsRows}
 use borrow.Author.Needs.{needs}
 use Rattle.model.proofs.joint_rows.reads_rows.Statement.{statement}
 use Rattle.model.proofs.joint_rows.reads_rows.Tie as tie

@@ -1,6 +1,7 @@
 -- `warmstart_row` meets its contract, by those of its parts.
 use native.Mathlib.Omega.{arith}
-use Rattle.model.specs.JointRows.{warmstartRow}
+use Rattle.multibody.specs.JointRows.{warmstartRow}
+use Rattle.model.specs.Planar.{planar}
 use borrow.Author.Needs.{needs}
 use Rattle.model.proofs.joint_rows.warmstart_row.Statement.{statement}
 use Rattle.model.proofs.joint_rows.warmstart_row.Tie as tie

@@ -1,6 +1,7 @@
 -- `bodies_present` meets its contract: the first body is tried first.
 use borrow.Author.Needs.{needs}
-use Rattle.model.specs.Refusals.{bodiesPresent}
+use Rattle.multibody.specs.Refusals.{bodiesPresent}
+use Rattle.model.specs.Planar.{planar}
 use Rattle.model.proofs.RefusalLaws.{holds, fails}
 use Rattle.model.proofs.refusals.bodies_present.Statement.{statement}
 use Rattle.model.proofs.refusals.bodies_present.Tie as tie

@@ -1,6 +1,6 @@
 -- `finite_params` meets its contract: each test is tried where those before it hold.
 use borrow.Author.Needs.{needs}
-use Rattle.model.specs.Refusals.{finiteParams}
+use Rattle.multibody.specs.Refusals.{finiteParams}
 use Rattle.model.proofs.RefusalLaws.{holds, fails}
 use Rattle.model.proofs.refusals.finite_params.Statement.{statement}
 use Rattle.model.proofs.refusals.finite_params.Tie as tie

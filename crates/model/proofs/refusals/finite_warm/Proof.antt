@@ -1,5 +1,5 @@
 use borrow.Author.Needs.{needs}
-use Rattle.model.specs.Refusals.{finiteWarm}
+use Rattle.multibody.specs.Refusals.{finiteWarm}
 use Rattle.model.proofs.refusals.finite_warm.Statement.{statement}
 use Rattle.model.proofs.refusals.finite_warm.Tie as tie
 

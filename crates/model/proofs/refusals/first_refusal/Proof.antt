@@ -9,8 +9,13 @@ use borrow.Author.Needs.{needs}
 use borrow.Author.Tests.{lt-ltb, le-ltb, not-true, not-false}
 use lib.Ieee.{Float, lt}
 use Rattle.floats.specs.Operators.{bits}
-use Rattle.model.specs.Model.{mostBodies, mostJoints, Model, modelOf, bodyCount, jointCount, rowsBefore, totalRows}
-use Rattle.model.specs.Refusals.{Rule, rule, refusal, all, atMost, finiteParams, finiteBody, finiteJoint, allFinite, centerFits, jointRules, modelRules}
+use Rattle.model.specs.Model.{modelOf}
+use Rattle.multibody.specs.Model.{mostBodies, mostJoints, Model}
+use Rattle.multibody.specs.Counts.{bodyCount, jointCount, rowsBefore, totalRows}
+use Rattle.multibody.specs.Rules.{Rule, rule, refusal, all, atMost}
+use Rattle.multibody.specs.Refusals.{finiteParams, allFinite, modelRules}
+use Rattle.model.specs.Planar.{jointRules, planar}
+use Rattle.model.specs.Refusals.{finiteBody, finiteJoint, centerFits}
 use Rattle.model.proofs.CountLaws.{bodies-fit, joints-words, joints-numbers}
 use Rattle.model.proofs.RefusalLaws.{holds, fails, no-rules, rule-holds, rule-fails, granted-append, refused-append}
 use Rattle.model.proofs.refusals.first_refusal.Statement.{statement}
@@ -27,12 +32,12 @@ together true false true false = refl
 together true false false j = refl
 
 -- the rules in turn, from the counts that the code has
-module _ (m : Model) (arguments handed : Bool) (room : ℕ) {n joints : ℕ} (b : n ≡ bodyCount (m .bodies)) (j : joints ≡ jointCount (m .words) (m .numbers)) where
+module _ (m : Model) (arguments handed : Bool) (room : ℕ) {n joints : ℕ} (b : n ≡ bodyCount planar (m .bodies)) (j : joints ≡ jointCount planar (m .words) (m .numbers)) where
   abbrev eighth : Rule
-  eighth = rule 8 (not handed || atMost room (totalRows (m .words) (m .numbers)))
+  eighth = rule 8 (not handed || atMost room (totalRows planar (m .words) (m .numbers)))
 
   abbrev rules : List Rule
-  rules = modelRules m arguments ++ (eighth ∷ [])
+  rules = modelRules planar m arguments ++ (eighth ∷ [])
 
   many-bodies : mostBodies < n → 1 ≡ refusal rules
   unfolding modelRules
@@ -44,7 +49,7 @@ module _ (m : Model) (arguments handed : Bool) (room : ℕ) {n joints : ℕ} (b 
 
   last : List Rule
   last =
-      rule 6 (allFinite (m .params) (m .bodies) n (m .words) (m .numbers) joints arguments) ∷ rule 12 (all 0 joints (centerFits (m .words) (m .numbers)))
+      rule 6 (allFinite planar (m .params) (m .bodies) n (m .words) (m .numbers) joints arguments) ∷ rule 12 (all 0 joints (centerFits (m .words) (m .numbers)))
       ∷ rule 7 (not (lt (m .params .dt) (bits 0))) ∷ eighth ∷ []
 
   module _ (h : n ≤ mostBodies) (g : joints ≤ mostJoints) {k : ℕ} (e : k ≡ refusal (jointRules (m .bodies) (m .words) joints)) where
@@ -57,7 +62,7 @@ module _ (m : Model) (arguments handed : Bool) (room : ℕ) {n joints : ℕ} (b 
 
     module _ (z : k ≡ 0) {own t : Bool} (o : own ≡ (finiteParams (m .params) && arguments))
         (f : t ≡ (own && (all 0 n (finiteBody (m .bodies)) && all 0 joints (finiteJoint (m .words) (m .numbers))))) where
-      sixth : t ≡ allFinite (m .params) (m .bodies) n (m .words) (m .numbers) joints arguments
+      sixth : t ≡ allFinite planar (m .params) (m .bodies) n (m .words) (m .numbers) joints arguments
       sixth = f ∙ rw o (together (finiteParams (m .params)) arguments (all 0 n (finiteBody (m .bodies))) (all 0 joints (finiteJoint (m .words) (m .numbers))))
 
       joints-hold : refusal rules ≡ refusal last
@@ -86,7 +91,7 @@ module _ (m : Model) (arguments handed : Bool) (room : ℕ) {n joints : ℕ} (b 
             not-handed : handed ≡ false → 0 ≡ refusal rules
             not-handed y = sym (positive l ∙ rule-holds _ _ (rw y) ∙ no-rules)
 
-            module _ (y : handed ≡ true) {total : ℕ} (w : total ≡ rowsBefore (m .words) joints) where
+            module _ (y : handed ≡ true) {total : ℕ} (w : total ≡ rowsBefore planar (m .words) joints) where
               no-room : room < total → 8 ≡ refusal rules
               no-room s = sym (positive l ∙ rule-fails _ _ (rw y (ap not (lt-ltb _ _ (rw (w, j) at s)))))
 

@@ -3,7 +3,7 @@ use mathlib.Core.Path.{_≡_, refl, ap, _∙_}
 use mathlib.Core.Bool.{true, cond, _&&_}
 use mathlib.Core.List.{List, [], _∷_, _++_}
 use borrow.Author.Needs.{needs}
-use Rattle.model.specs.Refusals.{Rule, rule, refusal}
+use Rattle.multibody.specs.Rules.{Rule, rule, refusal}
 use Rattle.model.proofs.refusals.model_refusal.Statement.{statement}
 use Rattle.model.proofs.refusals.model_refusal.Tie as tie
 

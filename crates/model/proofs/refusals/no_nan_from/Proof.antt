@@ -6,7 +6,8 @@ use native.Mathlib.Nat.{add-zero, sub-zero}
 use borrow.Author.Needs.{needs}
 use lib.ListN.{getD}
 use lib.Ieee.{nan, isNan}
-use Rattle.model.specs.Refusals.{all, noNanFrom}
+use Rattle.model.specs.Refusals.{noNanFrom}
+use Rattle.multibody.specs.Rules.{all}
 use Rattle.model.proofs.RefusalLaws.{all-next, all-over}
 use Rattle.model.proofs.refusals.no_nan_from.Statement.{statement}
 use Rattle.model.proofs.refusals.no_nan_from.Tie as tie

@@ -1,7 +1,8 @@
 -- `present_or_world` meets its contract: the world's number is tried first.
 use borrow.Author.Tests.{eq-eqb, ne-eqb}
 use borrow.Author.Needs.{needs}
-use Rattle.model.specs.Refusals.{presentOrWorld}
+use Rattle.multibody.specs.Refusals.{presentOrWorld}
+use Rattle.model.specs.Planar.{planar}
 use Rattle.model.proofs.refusals.present_or_world.Statement.{statement}
 use Rattle.model.proofs.refusals.present_or_world.Tie as tie
 

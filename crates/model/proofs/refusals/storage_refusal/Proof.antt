@@ -2,7 +2,8 @@
 use mathlib.Core.Path.{refl, ap, _∙_}
 use mathlib.Core.Bool.{_&&_}
 use borrow.Author.Needs.{needs}
-use Rattle.model.specs.Refusals.{storageRule}
+use Rattle.multibody.specs.Refusals.{storageRule}
+use Rattle.model.specs.Planar.{planar}
 use Rattle.model.proofs.refusals.storage_refusal.Statement.{statement}
 use Rattle.model.proofs.refusals.storage_refusal.Tie as tie
 

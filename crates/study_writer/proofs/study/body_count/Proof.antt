@@ -1,5 +1,6 @@
 -- `body_count` meets its contract.
-use Rattle.model.specs.Model.{bodyCount}
+use Rattle.multibody.specs.Counts.{bodyCount}
+use Rattle.model.specs.Planar.{planar}
 use borrow.Author.Needs.{needs}
 use Rattle.study_writer.proofs.study.body_count.Statement.{statement}
 use Rattle.study_writer.proofs.study.body_count.Tie as tie

@@ -1,0 +1,202 @@
+-- The planar model has the laws of a multibody system (`planar-laws`), and so demand 3 (`planar-two-studies`).
+use Prim.Native.Nat.{ℕ, zero, suc, _+_, _*_, _/_, _≤_, _<_}
+use mathlib.Core.Path.{_≡_, refl, sym, ap, _∙_}
+use mathlib.Core.Bool.{Bool, true, false, cond}
+use mathlib.Core.List.{List, [], _∷_}
+use native.Mathlib.Omega.{arith}
+use borrow.Author.Tests.{lt-ltb}
+use lib.Dec.{ltb, lit<}
+use lib.ListN.{length}
+use lib.Ieee.{Float}
+use Rattle.floats.specs.declared.pose.Pose.{Pose}
+use Rattle.rows.specs.RowIds.{rowIds}
+use Rattle.rows.specs.Builder.{builderUpdateOf}
+use Rattle.rows.specs.declared.integration_parameters.IntegrationParameters.{IntegrationParameters}
+use Rattle.rows.specs.declared.joint_constraint_builder.SolverPose.{SolverPose}
+use Rattle.rows.specs.declared.joint_constraint_builder.ImpulseJoint.{ImpulseJoint}
+use Rattle.rows.specs.declared.joint_constraint_builder.Warmstart.{Warmstart}
+use Rattle.rows.specs.declared.joint_constraint_builder.Warmstart.the-variants.{Cold, Warm}
+use Rattle.rows.specs.declared.joint_velocity_constraint.WritebackId.{WritebackId}
+use Rattle.rows.proofs.BuilderLaws.{first-reads-no-row, cold}
+use Rattle.rows.proofs.NamedRows as Rows
+use Rattle.rows.proofs.RowArrays.{length-builderUpdateOf}
+use Rattle.rows.proofs.RowIdsLaws.{no-ids}
+use Rattle.rows.proofs.WritebackNamed.{Axes, named-written, fewer-named, named-seeds}
+use Rattle.motor_table.specs.Tables.{mostRecords, tableRefusal, readTable}
+use Rattle.motor_table.proofs.GrantedLaws.{Granted, granted-fit, refusal-cases, same-records}
+use Rattle.multibody.specs.Rules.{refusal, rule, all}
+use Rattle.multibody.specs.Model.{Model, world}
+use Rattle.multibody.specs.Counts as Any
+use Rattle.multibody.specs.Refusals.{readsRows}
+use Rattle.multibody.specs.Calls.{addedRules, addedNumbers}
+use Rattle.multibody.specs.Studies.{TwoStudies}
+use Rattle.multibody.proofs.RuleLaws.{Numbered, all-cong}
+use Rattle.multibody.proofs.Laws.{SameJoint, Given, BodyRoom, JointRoom, Laws}
+use Rattle.multibody.proofs.CountLaws as AnyCounts
+use Rattle.multibody.proofs.TwoStudies as AnyStudies
+use Rattle.model.specs.Layout.{numbersWidth}
+use Rattle.model.specs.Store.{jointAt, masksAt, enabledAt, putSeed, solverPoseAt, putPose}
+use Rattle.model.specs.Refusals.{finiteJoint, centerFits}
+use Rattle.model.specs.MotorTargets.{setRecords, setTable}
+use Rattle.model.specs.Planar.{tableRules, planar}
+use Rattle.model.proofs.StoreLaws.{withPose, length-putRow, rowAt-putRow, rowAt-putRow-other, velAt-world, solverPoseAt-world, length-putVel, velAt-putVel, velAt-putVel-other, solverPoseAt-putVel, length-putPose, solverPoseAt-putPose, solverPoseAt-putPose-other, velAt-putPose, length-putSeed, jointAt-putSeed-other}
+use Rattle.model.proofs.CallLaws.{table-refusal}
+use Rattle.model.proofs.WritebackLaws.{jointAt-putSeed-writeback}
+use Rattle.model.proofs.MotorTargetLaws.{records-steady, finiteJoint-steady, centerFits-steady, table-size, records-named}
+use Rattle.model.proofs.Keeps.{putVel-poses, finiteBody-kept, place-finite, putSeed-seeds, finiteJoint-kept, centerFits-kept}
+
+-- ---- joints
+
+jointAt-axes : (words : List ℕ) (n : List Float) (j : ℕ) → Axes (jointAt words n j)
+unfolding jointAt
+jointAt-axes words n j = record { limits = refl; motors = refl; impulses = refl }
+
+seed-named : {named : WritebackId → Type 0} (words words′ : List ℕ) (n n′ : List Float) (j : ℕ) (id : WritebackId) (p : Float) → JointRoom planar n j → JointRoom planar n′ j
+    → SameJoint planar named words n words′ n′ j → SameJoint planar named words (putSeed n j id p) words′ (putSeed n′ j id p) j
+seed-named {named} words words′ n n′ j id p room room′ s =
+    let t = named-written (jointAt words n j) (jointAt words′ n′ j) id p (jointAt-axes words n j) (jointAt-axes words′ n′ j) s in
+    let r : Rattle.rows.specs.Named.SameNamed named (jointAt words (putSeed n j id p) j) (jointAt words′ (putSeed n′ j id p) j) =
+    rw (jointAt-putSeed-writeback words n j id p room, jointAt-putSeed-writeback words′ n′ j id p room′) t in
+    r
+
+masks-same : {named : WritebackId → Type 0} (words words′ : List ℕ) (n n′ : List Float) (j : ℕ) → SameJoint planar named words n words′ n′ j → masksAt words j ≡ masksAt words′ j
+unfolding jointAt masksAt
+masks-same words words′ n n′ j s = s .masks
+
+enabled-same : {named : WritebackId → Type 0} (words words′ : List ℕ) (n n′ : List Float) (j : ℕ) → SameJoint planar named words n words′ n′ j → enabledAt words j ≡ enabledAt words′ j
+unfolding jointAt enabledAt
+enabled-same words words′ n n′ j s = s .enabled
+
+named-self : (named : WritebackId → Type 0) (a : ImpulseJoint) → Rattle.rows.specs.Named.SameNamed named a a
+named-self named a = record {
+  frame1 = refl;
+  frame2 = refl;
+  masks = refl;
+  softness = refl;
+  enabled = refl;
+  motor = λ i n. refl;
+  limits = λ i n. refl;
+  center = λ n. refl;
+  dof = λ i n. refl;
+}
+
+-- ---- rows
+
+update-length : (params : IntegrationParameters) (substep : ℕ) (warm : Warmstart) (b1 b2 : SolverPose) (words : List ℕ) (n : List Float) (j : ℕ) (last : List Float)
+    → length last ≡ 6 → length (builderUpdateOf params substep warm b1 b2 (jointAt words n j) last) ≡ length (rowIds 2 1 (masksAt words j))
+unfolding jointAt masksAt
+update-length params substep warm b1 b2 words n j last six = length-builderUpdateOf params substep warm b1 b2 (jointAt words n j) last six
+
+no-row-read : (params : IntegrationParameters) (substep : ℕ) (warm : Warmstart) (b1 b2 : SolverPose) (a : ImpulseJoint) (last last′ : List Float) → readsRows warm substep ≡ false
+    → builderUpdateOf params substep warm b1 b2 a last ≡ builderUpdateOf params substep warm b1 b2 a last′
+unfolding readsRows
+no-row-read params substep Cold b1 b2 a last last′ e = cold params b1 b2 substep a last ∙ sym (cold params b1 b2 substep a last′)
+no-row-read params zero (Warm c) b1 b2 a last last′ e = first-reads-no-row params b1 b2 (Warm c) a last last′
+no-row-read params (suc substep) (Warm c) b1 b2 a last last′ e = absurd (mathlib.Core.Bool.true≢false (sym (lt-ltb 0 (suc substep) (omega arith)) ∙ e))
+
+named-rows : (params : IntegrationParameters) (substep : ℕ) (warm : Warmstart) (b1 b2 : SolverPose) (words words′ : List ℕ) (n n′ : List Float) (j : ℕ) (last : List Float)
+    → SameJoint planar (Given planar words j) words n words′ n′ j
+    → builderUpdateOf params substep warm b1 b2 (jointAt words n j) last ≡ builderUpdateOf params substep warm b1 b2 (jointAt words′ n′ j) last
+unfolding jointAt masksAt
+named-rows params substep warm b1 b2 words words′ n n′ j last s = Rows.same-named params b1 b2 (jointAt words n j) (jointAt words′ n′ j) s substep warm last
+
+-- ---- bodies
+
+pose-placed : (b b′ : List Float) (i : ℕ) (p : Pose) → (i ≡ world → ⊥) → BodyRoom planar b i → BodyRoom planar b′ i → solverPoseAt b i ≡ solverPoseAt b′ i
+    → solverPoseAt (putPose b i p) i ≡ solverPoseAt (putPose b′ i p) i
+pose-placed b b′ i p ne room room′ e =
+    solverPoseAt-putPose b i p ne room ∙ ap (λ (q : SolverPose). withPose q p) e ∙ sym (solverPoseAt-putPose b′ i p ne room′)
+
+-- ---- tables
+
+module _ (bytes : List ℕ) (m : Model) where
+  abbrev joints : ℕ
+  joints = Any.jointCount planar (m .words) (m .numbers)
+
+  module _ (e : refusal (addedRules planar bytes m) ≡ 0) where
+    table : Granted joints (readTable joints bytes)
+    table = granted-fit joints mostRecords bytes (sym (table-refusal joints bytes) ∙ e)
+
+    table-set : addedNumbers planar bytes m ≡ setRecords (m .numbers) (table .records)
+    unfolding setTable
+    table-set = ap (setTable (m .numbers)) (table .holds)
+
+    finite-set : (j : ℕ) → finiteJoint (m .words) (m .numbers) j ≡ true → finiteJoint (m .words) (addedNumbers planar bytes m) j ≡ true
+    finite-set j f =
+        rw table-set
+        (finiteJoint-steady (m .numbers) (setRecords (m .numbers) (table .records))
+        (records-steady joints (table .records) (m .numbers) (table .fit) (AnyCounts.joints-numbers planar (m .words) (m .numbers))) j (m .words) f)
+
+    contents-set : (k : ℕ) → planar .contentRules (m .words) (addedNumbers planar bytes m) k ≡ planar .contentRules (m .words) (m .numbers) k
+    contents-set k =
+        rw table-set
+        (ap (λ t. rule 12 t ∷ [])
+        (all-cong (centerFits (m .words) (setRecords (m .numbers) (table .records))) (centerFits (m .words) (m .numbers)) 0 k
+        (λ j _ _. centerFits-steady (m .numbers) (setRecords (m .numbers) (table .records))
+        (records-steady joints (table .records) (m .numbers) (table .fit) (AnyCounts.joints-numbers planar (m .words) (m .numbers))) j (m .words))))
+
+named-set : {named : WritebackId → Type 0} (bytes : List ℕ) (m m′ : Model) → refusal (addedRules planar bytes m) ≡ 0 → refusal (addedRules planar bytes m′) ≡ 0
+    → (j : ℕ) → j < Any.jointCount planar (m .words) (m .numbers) → j < Any.jointCount planar (m′ .words) (m′ .numbers)
+    → SameJoint planar named (m .words) (m .numbers) (m′ .words) (m′ .numbers) j → SameJoint planar named (m .words) (addedNumbers planar bytes m) (m′ .words) (addedNumbers planar bytes m′) j
+named-set {named} bytes m m′ z z′ j l l′ s =
+    let g = table bytes m z in
+    let g′ = table bytes m′ z′ in
+    let same = same-records _ _ mostRecords bytes (g .records) (g′ .records) (g .holds) (g′ .holds) in
+    let r : Rattle.rows.specs.Named.SameNamed named (jointAt (m .words) (setRecords (m .numbers) (g .records)) j) (jointAt (m′ .words) (setRecords (m′ .numbers) (g .records)) j) =
+    records-named named (m .words) (m′ .words) j _ (g .records) (g .fit) (m .numbers) (m′ .numbers) (AnyCounts.joint-numbers planar (m .words) (m .numbers) j l)
+    (AnyCounts.joint-numbers planar (m′ .words) (m′ .numbers) j l′) s in
+    let q : Rattle.rows.specs.Named.SameNamed named (jointAt (m .words) (addedNumbers planar bytes m) j) (jointAt (m′ .words) (addedNumbers planar bytes m′) j) =
+    rw (table-set bytes m z, table-set bytes m′ z′, ← same) r in
+    q
+
+table-numbered : (bytes : List ℕ) (m : Model) → Numbered (addedRules planar bytes m)
+unfolding tableRules
+table-numbered bytes m = (omega arith, (omega arith, (omega arith, tt)))
+
+-- ---- the laws
+
+pub planar-laws : Laws planar
+planar-laws = record {
+  body-wide = lit< tt;
+  length-putRow = length-putRow;
+  rowAt-putRow = rowAt-putRow;
+  rowAt-putRow-other = rowAt-putRow-other;
+  velAt-world = λ b b′. velAt-world b ∙ sym (velAt-world b′);
+  solverPoseAt-world = λ b b′. solverPoseAt-world b ∙ sym (solverPoseAt-world b′);
+  length-putVel = length-putVel;
+  velAt-putVel = velAt-putVel;
+  velAt-putVel-other = velAt-putVel-other;
+  solverPoseAt-putVel = solverPoseAt-putVel;
+  length-putPose = length-putPose;
+  solverPoseAt-putPose = pose-placed;
+  solverPoseAt-putPose-other = solverPoseAt-putPose-other;
+  velAt-putPose = velAt-putPose;
+  length-putSeed = length-putSeed;
+  jointAt-putSeed-other = jointAt-putSeed-other;
+  named-putSeed = seed-named;
+  same-masks = masks-same;
+  same-enabled = enabled-same;
+  named-self = named-self;
+  fewer-named = fewer-named;
+  named-seeds = named-seeds;
+  no-ids = no-ids;
+  length-update = update-length;
+  reads-no-row = no-row-read;
+  same-named = named-rows;
+  mask-numbered = λ words joints. (omega arith, tt);
+  content-numbered = λ words n joints. (omega arith, tt);
+  finiteBody-putVel = λ b i i′ v. finiteBody-kept b (Rattle.model.specs.Store.putVel b i v) i′ (putVel-poses b i v .numbers i′);
+  finiteBody-putPose = λ b i i′ p f room was was′. place-finite p f b i room i′ was was′;
+  finiteJoint-putSeed = λ words n j j′ id p. finiteJoint-kept n (putSeed n j id p) (putSeed-seeds n j id p) j′ words;
+  contentRules-putSeed = λ words n joints j id p.
+      ap (λ t. rule 12 t ∷ []) (all-cong (centerFits words (putSeed n j id p)) (centerFits words n) 0 joints (λ j′ _ _. centerFits-kept n (putSeed n j id p) (putSeed-seeds n j id p) j′ words));
+  further-numbered = table-numbered;
+  further-size = λ bytes m. table-size (m .numbers) _;
+  further-equal = λ bytes m m′ joints. refl;
+  further-finite = finite-set;
+  further-contents = contents-set;
+  further-named = named-set;
+}
+
+pub planar-two-studies : TwoStudies planar
+planar-two-studies = AnyStudies.two-studies planar-laws

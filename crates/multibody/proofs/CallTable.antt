@@ -1,0 +1,133 @@
+-- What the table of calls says of each call: the numbers of the rules that it tries, in order (`checking-order`, `call-order`), the mark that it leaves (`granted-mark`), which call makes rows (`build-makes`,
+-- `refused-makes-none`), and what a row read answers (`read-own`). Assumes nothing.
+use Prim.Native.Nat.{ℕ}
+use mathlib.Core.Path.{_≡_, refl, ap, _∙_}
+use mathlib.Core.Logic.{_≢_}
+use mathlib.Core.Bool.{Bool, true, false}
+use mathlib.Core.List.{List, [], _∷_, _++_, map, append-assoc}
+use lib.Ieee.{Float}
+use Rattle.rows.specs.declared.joint_constraint_builder.Warmstart.{Warmstart}
+use Rattle.multibody.specs.Rules.{Rule}
+use Rattle.multibody.specs.Model.{Model}
+use Rattle.multibody.specs.System.{System}
+use Rattle.multibody.specs.JointRows.{jointIds}
+use Rattle.multibody.specs.Counts.{jointCount}
+use Rattle.multibody.specs.Refusals.{finiteWarm, modelRules, storageRule, sweepRule, builtRule, seedsRule, bodyRule, jointRule}
+use Rattle.multibody.specs.Calls.{Call, Outcome, callTable, addedRules, handedRules, rulesOf, grantedOf, run, refusalOf, rowsOf}
+use Rattle.multibody.specs.Calls.Call.{load, place, build, warmStart, sweep, removeBias, writeBack, readRows, readVelocity, further}
+use Rattle.multibody.specs.Calls.Answer.{rowsRead}
+use Rattle.multibody.specs.Studies.{MakesRows}
+
+-- ---- order
+
+abbrev numbersOf : List Rule → List ℕ
+numbersOf rs = map (λ (r : Rule). r .number) rs
+
+numbers-append : (qs rs : List Rule) → numbersOf (qs ++ rs) ≡ numbersOf qs ++ numbersOf rs
+numbers-append [] rs = refl
+numbers-append (q ∷ qs) rs = ap (λ l. q .number ∷ l) (numbers-append qs rs)
+
+module _ (sys : System) (m : Model) where
+  open System sys using (maskRules, contentRules, Further)
+
+  -- document 01's order: the rules of a kind stand where 3 stands, and right after 6
+  pub checking-order : (arguments : Bool) → let joints = jointCount sys (m .words) (m .numbers) in
+      numbersOf (modelRules sys m arguments) ≡ 1 ∷ 2 ∷ (numbersOf (maskRules (m .words) joints) ++ (4 ∷ 5 ∷ 6 ∷ (numbersOf (contentRules (m .words) (m .numbers) joints) ++ (7 ∷ []))))
+  unfolding modelRules
+  checking-order arguments =
+      let joints = jointCount sys (m .words) (m .numbers) in
+      ap (λ l. 1 ∷ 2 ∷ l)
+      (numbers-append (maskRules (m .words) joints) _
+      ∙ ap (λ l. numbersOf (maskRules (m .words) joints) ++ (4 ∷ 5 ∷ 6 ∷ l)) (numbers-append (contentRules (m .words) (m .numbers) joints) _))
+
+  -- what each call tries after 7: 8 where it is handed row storage, 9, 10 and 11; a further call its own rules
+  abbrev pub laterNumbers : Call sys → List ℕ
+  laterNumbers load = 8 ∷ []
+  laterNumbers (place i pose) = 11 ∷ []
+  laterNumbers (build warm substep) = 8 ∷ 10 ∷ []
+  laterNumbers warmStart = 8 ∷ 10 ∷ []
+  laterNumbers (sweep n) = 8 ∷ 9 ∷ 10 ∷ []
+  laterNumbers removeBias = 8 ∷ 10 ∷ []
+  laterNumbers writeBack = 8 ∷ 10 ∷ []
+  laterNumbers (readRows j) = 8 ∷ 10 ∷ 11 ∷ []
+  laterNumbers (readVelocity i) = 11 ∷ []
+  laterNumbers (further f) = numbersOf (addedRules sys f m)
+
+  module _ (rows : List Float) where
+    stored-order : (finite : Bool) (rest : List Rule)
+        → numbersOf (handedRules sys true m finite rows ++ rest) ≡ numbersOf (modelRules sys m finite) ++ (8 ∷ numbersOf rest)
+    unfolding storageRule
+    stored-order finite rest =
+        numbers-append (modelRules sys m finite ++ (storageRule sys m rows ∷ [])) rest
+        ∙ ap (λ l. l ++ numbersOf rest) (numbers-append (modelRules sys m finite) (storageRule sys m rows ∷ []))
+        ∙ append-assoc (numbersOf (modelRules sys m finite)) (8 ∷ []) (numbersOf rest)
+
+    -- a build tries 8 and 10, a sweep 9 before 10, and a further call no 8
+    pub build-order : (warm : Warmstart) (substep : ℕ) → numbersOf (rulesOf sys (build warm substep) m rows) ≡ numbersOf (modelRules sys m (finiteWarm warm)) ++ laterNumbers (build warm substep)
+    unfolding rulesOf seedsRule
+    build-order warm substep = stored-order (finiteWarm warm) _
+
+    pub sweep-order : (n : ℕ) → numbersOf (rulesOf sys (sweep n) m rows) ≡ numbersOf (modelRules sys m true) ++ laterNumbers (sweep n)
+    unfolding rulesOf sweepRule builtRule
+    sweep-order n = stored-order true _
+
+    pub further-order : (f : Further) → numbersOf (rulesOf sys (further f) m rows) ≡ numbersOf (modelRules sys m true) ++ laterNumbers (further f)
+    unfolding rulesOf
+    further-order f = numbers-append (modelRules sys m true) (addedRules sys f m)
+
+    pub call-order : (c : Call sys) → numbersOf (rulesOf sys c m rows) ≡ numbersOf (modelRules sys m (callTable sys c .finite)) ++ laterNumbers c
+    unfolding rulesOf builtRule bodyRule jointRule
+    call-order load = stored-order true []
+    call-order (place i pose) = numbers-append (modelRules sys m (sys .finitePose pose)) _
+    call-order (build warm substep) = build-order warm substep
+    call-order warmStart = stored-order true _
+    call-order (sweep n) = sweep-order n
+    call-order removeBias = stored-order true _
+    call-order writeBack = stored-order true _
+    call-order (readRows j) = stored-order true _
+    call-order (readVelocity i) = numbers-append (modelRules sys m true) _
+    call-order (further f) = further-order f
+
+module _ (sys : System) where
+  -- ---- the mark
+
+  -- a granted load clears the mark, a granted build sets it, and no other call changes it
+  abbrev pub markAfter : Call sys → Bool → Bool
+  markAfter load mark = false
+  markAfter (place i p) mark = mark
+  markAfter (build warm substep) mark = true
+  markAfter warmStart mark = mark
+  markAfter (sweep n) mark = mark
+  markAfter removeBias mark = mark
+  markAfter writeBack mark = mark
+  markAfter (readRows j) mark = mark
+  markAfter (readVelocity i) mark = mark
+  markAfter (further f) mark = mark
+
+  pub granted-mark : (c : Call sys) (m : Model) (rows : List Float) → grantedOf sys c m rows .after .built ≡ markAfter c (m .built)
+  unfolding grantedOf
+  granted-mark load m rows = refl
+  granted-mark (place i p) m rows = refl
+  granted-mark (build warm substep) m rows = refl
+  granted-mark warmStart m rows = refl
+  granted-mark (sweep n) m rows = refl
+  granted-mark removeBias m rows = refl
+  granted-mark writeBack m rows = refl
+  granted-mark (readRows j) m rows = refl
+  granted-mark (readVelocity i) m rows = refl
+  granted-mark (further f) m rows = refl
+
+  -- ---- rows made, and rows read
+
+  -- a granted build makes rows, and no refused call does
+  pub build-makes : (warm : Warmstart) (substep : ℕ) (m : Model) (rows : List Float) → refusalOf (run sys (build warm substep) m rows .answer) ≡ 0
+      → MakesRows sys (build warm substep) (run sys (build warm substep) m rows)
+  build-makes warm substep m rows e = (refl, e)
+
+  pub refused-makes-none : (c : Call sys) (o : Outcome sys) → refusalOf (o .answer) ≢ 0 → MakesRows sys c o → ⊥
+  refused-makes-none c o n h = n (h .1)
+
+  -- the joint's own ids and rows
+  pub read-own : (j : ℕ) (m : Model) (rows : List Float) → grantedOf sys (readRows j) m rows .answer ≡ rowsRead (jointIds sys (m .words) j) (rowsOf sys (m .words) rows j)
+  unfolding grantedOf
+  read-own j m rows = refl
