@@ -32,6 +32,40 @@ pub fn err_part(text: &[u8], start: usize, end: usize) {
     }
 }
 
+// Where line k of a text starts, from 0; lines end with a line feed. Where there is none, the text's end.
+fn line_start(lines: &[u8], k: u32) -> usize {
+    let mut left = k;
+    let mut at: usize = 0;
+    while at < lines.len() {
+        if left == 0 {
+            return at;
+        }
+        if lines[at] == b'\n' {
+            left -= 1;
+        }
+        at += 1;
+    }
+    at
+}
+
+// The first line feed from a place on, or the text's end.
+fn line_end(lines: &[u8], start: usize) -> usize {
+    let mut at = start;
+    while at < lines.len() {
+        if lines[at] == b'\n' {
+            return at;
+        }
+        at += 1;
+    }
+    at
+}
+
+// Line k of a text, to standard error.
+pub fn err_line(lines: &[u8], k: u32) {
+    let start = line_start(lines, k);
+    err_part(lines, start, line_end(lines, start));
+}
+
 // A number's micro report.
 pub fn out_millionths(x: f32) {
     let number = number_column(x);

@@ -1,5 +1,6 @@
 // A refused call: its rule in words, and the first setting, body or joint that broke it, with the line that gave it.
 use crate::out::err;
+use crate::out::err_line;
 use crate::out::err_number;
 use crate::out::err_part;
 use floats::scalar::is_finite;
@@ -15,38 +16,29 @@ use study_reader::storage::words_base;
 use study_reader::words::Word;
 use study_reader::words::line_of;
 
-fn say_late_rule(k: u32) {
-    match k {
-        9 => err(b"a sweep has at most 64 rounds"),
-        10 => err(
-            b"a build comes before this call (or before a build with a warm coefficient and a substep above 0)",
-        ),
-        11 => err(b"a joint or body that is asked for by index is present"),
-        12 => err(b"a typed angle of a centre is at most 1024 in size"),
-        13 => err(b"a motor table keeps RFC 4180's grammar and has at most 4096 records"),
-        14 => err(
-            b"a record of a motor table is three whole numbers, each at most 8000000 in size",
-        ),
-        15 => err(b"the joint and axis of a record of a motor table are present"),
-        _ => err(b"(no such rule)"),
-    }
-}
-
 // The rule that a refusal's number stands for: what has to hold.
 pub fn say_rule(k: u32) {
-    match k {
-        1 => err(b"a model has at most 128 bodies"),
-        2 => err(b"a model has at most 128 joints"),
-        3 => err(b"a mask is at most 7"),
-        4 => err(b"a joint's bodies are present, or the world"),
-        5 => err(b"a joint's two bodies differ, the world included"),
-        6 => err(
-            b"poses, masses, inertia, settings, centres, frames, softness, motor numbers, limit ends and warm coefficients are finite (limit ends and maximum forces may be infinite)",
-        ),
-        7 => err(b"dt is not below zero"),
-        8 => err(b"row storage holds the total count"),
-        _ => say_late_rule(k),
-    }
+    err_line(
+        b"\
+        (no such rule)\n\
+        a model has at most 128 bodies\n\
+        a model has at most 128 joints\n\
+        a mask is at most 7\n\
+        a joint's bodies are present, or the world\n\
+        a joint's two bodies differ, the world included\n\
+        poses, masses, inertia, settings, centres, frames, softness, motor numbers, limit ends and warm coefficients are finite (limit ends and maximum forces may be infinite)\n\
+        dt is not below zero\n\
+        row storage holds the total count\n\
+        a sweep has at most 64 rounds\n\
+        a build comes before this call (or before a build with a warm coefficient and a substep above 0)\n\
+        a joint or body that is asked for by index is present\n\
+        a typed angle of a centre is at most 1024 in size\n\
+        a motor table keeps RFC 4180's grammar and has at most 4096 records\n\
+        a record of a motor table is three whole numbers, each at most 8000000 in size\n\
+        the joint and axis of a record of a motor table are present\n\
+        ",
+        k,
+    );
 }
 
 fn say_line(text: &[u8], at: u32) {
@@ -80,12 +72,7 @@ fn say_last_joint(text: &[u8], names: &[u32]) {
 // ---- rules 3 and 5
 
 fn say_mask_name(m: u32) {
-    match m {
-        0 => err(b"lock"),
-        1 => err(b"limit"),
-        2 => err(b"motor"),
-        _ => err(b"couple"),
-    }
+    err_line(b"lock\nlimit\nmotor\ncouple\n", m);
 }
 
 // Joint j's first mask above 7; 4 where it has none.
@@ -153,56 +140,57 @@ fn say_first_twice(text: &[u8], names: &[u32], origins: &[u32], words: &[u32], j
 // ---- rules 6 and 12
 
 fn say_setting(i: u32) {
-    match i {
-        0 => err(b"dt"),
-        1 => err(b"length_unit"),
-        _ => err(b"normalized_max_corrective_velocity"),
-    }
+    err_line(b"dt\nlength_unit\nnormalized_max_corrective_velocity\n", i);
 }
 
 fn say_body_place(p: u32) {
-    match p {
-        0 => err(b"rotation, first number"),
-        1 => err(b"rotation, second number"),
-        2 => err(b"position x"),
-        3 => err(b"position y"),
-        4 => err(b"inverse inertia"),
-        5 => err(b"inverse mass along x"),
-        _ => err(b"inverse mass along y"),
-    }
+    err_line(
+        b"\
+        rotation, first number\n\
+        rotation, second number\n\
+        position x\n\
+        position y\n\
+        inverse inertia\n\
+        inverse mass along x\n\
+        inverse mass along y\n\
+        ",
+        p,
+    );
 }
 
 fn say_axis(axis: u32) {
-    match axis {
-        0 => err(b" x"),
-        1 => err(b" y"),
-        _ => err(b" angle"),
-    }
+    err_line(b" x\n y\n angle\n", axis);
 }
 
 fn say_motor_place(p: u32) {
-    match p % 6 {
-        0 => err(b"target_velocity"),
-        1 => err(b"target_position"),
-        2 => err(b"stiffness"),
-        3 => err(b"damping"),
-        4 => err(b"max_force"),
-        _ => err(b"motor_impulse"),
-    }
+    err_line(
+        b"\
+        target_velocity\n\
+        target_position\n\
+        stiffness\n\
+        damping\n\
+        max_force\n\
+        motor_impulse\n\
+        ",
+        p % 6,
+    );
     say_axis(p / 6);
 }
 
 fn say_frame_place(p: u32) {
-    match p {
-        0 => err(b"frame1_rotation, first number"),
-        1 => err(b"frame1_rotation, second number"),
-        2 => err(b"frame1 x"),
-        3 => err(b"frame1 y"),
-        4 => err(b"frame2_rotation, first number"),
-        5 => err(b"frame2_rotation, second number"),
-        6 => err(b"frame2 x"),
-        _ => err(b"frame2 y"),
-    }
+    err_line(
+        b"\
+        frame1_rotation, first number\n\
+        frame1_rotation, second number\n\
+        frame1 x\n\
+        frame1 y\n\
+        frame2_rotation, first number\n\
+        frame2_rotation, second number\n\
+        frame2 x\n\
+        frame2 y\n\
+        ",
+        p,
+    );
 }
 
 fn say_joint_place(p: u32) {
@@ -219,11 +207,11 @@ fn say_joint_place(p: u32) {
         say_motor_place(p - 17);
         return;
     }
-    match p {
-        35 => err(b"natural_frequency"),
-        36 => err(b"damping_ratio"),
-        _ => err(b"center"),
+    if p < 37 {
+        err_line(b"natural_frequency\ndamping_ratio\n", p - 35);
+        return;
     }
+    err(b"center");
 }
 
 // Rule 6 asks that a joint's number at this place is finite.
