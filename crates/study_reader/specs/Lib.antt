@@ -4,6 +4,7 @@ pub mod Numbers
 pub mod Storage
 pub mod Names
 pub mod Keywords
+pub mod Tables
 pub mod Calls
 pub mod Draft
 pub mod Items

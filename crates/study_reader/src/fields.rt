@@ -1,10 +1,12 @@
 // The words that start a line inside `settings`, a body or a joint, and the numbers they give.
 ghost use mathlib.Core.Path.{_≡_};
-ghost use mathlib.Core.List.{_++_};
 ghost use Rattle.study_reader.specs.Words.{bytesOf};
-ghost use Rattle.study_reader.specs.Keywords.{meaning, field, noField, bodyFields, frameFields, motorFields, softnessFields, fieldOf};
+ghost use Rattle.study_reader.specs.Keywords.{field, fieldOf};
+ghost use Rattle.study_reader.specs.Tables.{endIn, fieldAfter};
+use crate::tables::end_in;
+use crate::tables::number_after;
 use crate::words::Word;
-use crate::words::is;
+use crate::words::next_word;
 
 // What a line belongs to.
 pub const NO_ITEM: u32 = 0;
@@ -25,116 +27,59 @@ pub struct Field {
     pub stride: u32,
 }
 
-fn field_at(kind: u32, place: u32, many: u32, stride: u32) -> Field
-    ensures { λ r. ⌜ r ≡ field kind place many stride ⌝ }
+// The four numbers after a place of a table.
+fn field_after(table: &[u8], at: usize) -> Field
+    ensures { λ r. ⌜ r ≡ fieldAfter (now (table .entry)) at ⌝ }
 {
+    let kind = next_word(table, at);
+    let place = next_word(table, kind.end);
+    let many = next_word(table, place.end);
     Field {
-        kind,
-        place,
-        many,
-        stride,
+        kind: number_after(table, 0, at),
+        place: number_after(table, 0, kind.end),
+        many: number_after(table, 0, place.end),
+        stride: number_after(table, 0, many.end),
     }
 }
 
-fn softness_field(text: &[u8], w: Word) -> Field
-    ensures { λ r. ⌜ r ≡ meaning softnessFields noField (bytesOf (now (text .entry)) w) ⌝ }
+fn field_in(table: &[u8], text: &[u8], w: Word) -> Field
+    ensures { λ r. ⌜ r ≡ fieldAfter (now (table .entry)) (endIn (now (table .entry)) (bytesOf (now (text .entry)) w)) ⌝ }
 {
-    if is(text, w, b"natural_frequency") {
-        return field_at(JOINT_ITEM, 35, 1, 0);
-    }
-    if is(text, w, b"damping_ratio") {
-        return field_at(JOINT_ITEM, 36, 1, 0);
-    }
-    if is(text, w, b"impulse") {
-        return field_at(JOINT_ITEM, 37, 1, 1);
-    }
-    field_at(NO_ITEM, 0, 0, 0)
+    field_after(table, end_in(table, text, w))
 }
 
-fn motor_field(text: &[u8], w: Word) -> Field
-    ensures { λ r. ⌜ r ≡ meaning (motorFields ++ softnessFields) noField (bytesOf (now (text .entry)) w) ⌝ }
-{
-    if is(text, w, b"target_velocity") {
-        return field_at(JOINT_ITEM, 17, 1, 6);
-    }
-    if is(text, w, b"target_position") {
-        return field_at(JOINT_ITEM, 18, 1, 6);
-    }
-    if is(text, w, b"stiffness") {
-        return field_at(JOINT_ITEM, 19, 1, 6);
-    }
-    if is(text, w, b"damping") {
-        return field_at(JOINT_ITEM, 20, 1, 6);
-    }
-    if is(text, w, b"max_force") {
-        return field_at(JOINT_ITEM, 21, 1, 6);
-    }
-    if is(text, w, b"motor_impulse") {
-        return field_at(JOINT_ITEM, 22, 1, 6);
-    }
-    softness_field(text, w)
-}
-
-fn frame_field(text: &[u8], w: Word) -> Field
-    ensures { λ r. ⌜ r ≡ meaning (frameFields ++ (motorFields ++ softnessFields)) noField (bytesOf (now (text .entry)) w) ⌝ }
-{
-    if is(text, w, b"frame1_rotation") {
-        return field_at(JOINT_ITEM, 0, 2, 0);
-    }
-    if is(text, w, b"frame1") {
-        return field_at(JOINT_ITEM, 2, 2, 0);
-    }
-    if is(text, w, b"frame2_rotation") {
-        return field_at(JOINT_ITEM, 4, 2, 0);
-    }
-    if is(text, w, b"frame2") {
-        return field_at(JOINT_ITEM, 6, 2, 0);
-    }
-    if is(text, w, b"limits") {
-        return field_at(JOINT_ITEM, 8, 2, 3);
-    }
-    if is(text, w, b"limit_impulse") {
-        return field_at(JOINT_ITEM, 10, 1, 3);
-    }
-    motor_field(text, w)
-}
-
-fn body_field(text: &[u8], w: Word) -> Field
-    ensures { λ r. ⌜ r ≡ meaning (bodyFields ++ (frameFields ++ (motorFields ++ softnessFields))) noField (bytesOf (now (text .entry)) w) ⌝ }
-{
-    if is(text, w, b"rotation") {
-        return field_at(BODY_ITEM, 0, 2, 0);
-    }
-    if is(text, w, b"position") {
-        return field_at(BODY_ITEM, 2, 2, 0);
-    }
-    if is(text, w, b"inverse_inertia") {
-        return field_at(BODY_ITEM, 4, 1, 0);
-    }
-    if is(text, w, b"inverse_masses") {
-        return field_at(BODY_ITEM, 5, 2, 0);
-    }
-    if is(text, w, b"velocity") {
-        return field_at(BODY_ITEM, 7, 2, 0);
-    }
-    if is(text, w, b"angular_velocity") {
-        return field_at(BODY_ITEM, 9, 1, 0);
-    }
-    frame_field(text, w)
-}
-
-// The field that a word names; of no item where it names none.
+// The field that a word names, by its item, place, many and stride; of no item where it names none.
 pub fn field_of(text: &[u8], w: Word) -> Field
     ensures { λ r. ⌜ r ≡ fieldOf (now (text .entry)) w ⌝ }
 {
-    if is(text, w, b"dt") {
-        return field_at(SETTINGS_ITEM, 0, 1, 0);
-    }
-    if is(text, w, b"length_unit") {
-        return field_at(SETTINGS_ITEM, 1, 1, 0);
-    }
-    if is(text, w, b"normalized_max_corrective_velocity") {
-        return field_at(SETTINGS_ITEM, 2, 1, 0);
-    }
-    body_field(text, w)
+    field_in(
+        b"\
+        dt 1 0 1 0\n\
+        length_unit 1 1 1 0\n\
+        normalized_max_corrective_velocity 1 2 1 0\n\
+        rotation 2 0 2 0\n\
+        position 2 2 2 0\n\
+        inverse_inertia 2 4 1 0\n\
+        inverse_masses 2 5 2 0\n\
+        velocity 2 7 2 0\n\
+        angular_velocity 2 9 1 0\n\
+        frame1_rotation 3 0 2 0\n\
+        frame1 3 2 2 0\n\
+        frame2_rotation 3 4 2 0\n\
+        frame2 3 6 2 0\n\
+        limits 3 8 2 3\n\
+        limit_impulse 3 10 1 3\n\
+        target_velocity 3 17 1 6\n\
+        target_position 3 18 1 6\n\
+        stiffness 3 19 1 6\n\
+        damping 3 20 1 6\n\
+        max_force 3 21 1 6\n\
+        motor_impulse 3 22 1 6\n\
+        natural_frequency 3 35 1 0\n\
+        damping_ratio 3 36 1 0\n\
+        impulse 3 37 1 1\n\
+        ",
+        text,
+        w,
+    )
 }

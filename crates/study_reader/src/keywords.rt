@@ -1,10 +1,8 @@
 // The words that start any other line: items, what is no plain number, calls; and the axes.
 ghost use mathlib.Core.Path.{_≡_};
-ghost use mathlib.Core.List.{_++_};
-ghost use Rattle.study_reader.specs.Words.{bytesOf};
-ghost use Rattle.study_reader.specs.Keywords.{meaning, bodyWords, maskWords, jointWords, callWords, readWords, itemKeyword, callKeyword, axisOf};
+ghost use Rattle.study_reader.specs.Keywords.{itemKeyword, callKeyword, axisOf};
+use crate::tables::number_in;
 use crate::words::Word;
-use crate::words::is;
 
 pub const NO_KEYWORD: u32 = 0;
 
@@ -72,152 +70,76 @@ pub const END: u32 = 42;
 
 pub const TABLE: u32 = 43;
 
-fn joint_keyword(text: &[u8], w: Word) -> u32
-    ensures { λ r. ⌜ r ≡ meaning jointWords 0 (bytesOf (now (text .entry)) w) ⌝ }
-{
-    if is(text, w, b"frame1_angle") {
-        return FRAME1_ANGLE;
-    }
-    if is(text, w, b"frame2_angle") {
-        return FRAME2_ANGLE;
-    }
-    if is(text, w, b"center_angle") {
-        return CENTER_ANGLE;
-    }
-    if is(text, w, b"center") {
-        return CENTER;
-    }
-    if is(text, w, b"motor_model") {
-        return MOTOR_MODEL;
-    }
-    if is(text, w, b"enabled") {
-        return ENABLED;
-    }
-    if is(text, w, b"disabled_by_attached_body") {
-        return DISABLED_BY_ATTACHED_BODY;
-    }
-    if is(text, w, b"disabled") {
-        return DISABLED;
-    }
-    NO_KEYWORD
-}
-
-fn mask_keyword(text: &[u8], w: Word) -> u32
-    ensures { λ r. ⌜ r ≡ meaning (maskWords ++ jointWords) 0 (bytesOf (now (text .entry)) w) ⌝ }
-{
-    if is(text, w, b"lock") {
-        return LOCK;
-    }
-    if is(text, w, b"limit") {
-        return LIMIT;
-    }
-    if is(text, w, b"motor") {
-        return MOTOR;
-    }
-    if is(text, w, b"couple") {
-        return COUPLE;
-    }
-    joint_keyword(text, w)
-}
-
-fn body_keyword(text: &[u8], w: Word) -> u32
-    ensures { λ r. ⌜ r ≡ meaning (bodyWords ++ (maskWords ++ jointWords)) 0 (bytesOf (now (text .entry)) w) ⌝ }
-{
-    if is(text, w, b"mass") {
-        return MASS;
-    }
-    if is(text, w, b"inertia") {
-        return INERTIA;
-    }
-    if is(text, w, b"inverse_mass") {
-        return INVERSE_MASS;
-    }
-    if is(text, w, b"angle") {
-        return ANGLE;
-    }
-    mask_keyword(text, w)
-}
-
 // The word that starts an item or gives what is no plain number.
 pub fn item_keyword(text: &[u8], w: Word) -> u32
     ensures { λ r. ⌜ r ≡ itemKeyword (now (text .entry)) w ⌝ }
 {
-    if is(text, w, b"settings") {
-        return SETTINGS;
-    }
-    if is(text, w, b"body") {
-        return BODY;
-    }
-    if is(text, w, b"joint") {
-        return JOINT;
-    }
-    body_keyword(text, w)
-}
-
-fn read_keyword(text: &[u8], w: Word) -> u32
-    ensures { λ r. ⌜ r ≡ meaning readWords 0 (bytesOf (now (text .entry)) w) ⌝ }
-{
-    if is(text, w, b"read_rows") {
-        return READ_ROWS;
-    }
-    if is(text, w, b"read_velocity") {
-        return READ_VELOCITY;
-    }
-    if is(text, w, b"set_targets") {
-        return SET_TARGETS;
-    }
-    if is(text, w, b"repeat") {
-        return REPEAT;
-    }
-    if is(text, w, b"end") {
-        return END;
-    }
-    if is(text, w, b"table") {
-        return TABLE;
-    }
-    NO_KEYWORD
+    number_in(
+        b"\
+        settings 20\n\
+        body 21\n\
+        joint 22\n\
+        mass 1\n\
+        inertia 2\n\
+        inverse_mass 3\n\
+        angle 4\n\
+        lock 8\n\
+        limit 9\n\
+        motor 10\n\
+        couple 11\n\
+        frame1_angle 5\n\
+        frame2_angle 6\n\
+        center_angle 7\n\
+        center 16\n\
+        motor_model 12\n\
+        enabled 13\n\
+        disabled_by_attached_body 14\n\
+        disabled 15\n\
+        ",
+        NO_KEYWORD,
+        text,
+        w,
+    )
 }
 
 // The word that starts a call.
 pub fn call_keyword(text: &[u8], w: Word) -> u32
     ensures { λ r. ⌜ r ≡ callKeyword (now (text .entry)) w ⌝ }
 {
-    if is(text, w, b"load") {
-        return LOAD;
-    }
-    if is(text, w, b"place") {
-        return PLACE;
-    }
-    if is(text, w, b"build") {
-        return BUILD;
-    }
-    if is(text, w, b"warm_start") {
-        return WARM_START;
-    }
-    if is(text, w, b"sweep") {
-        return SWEEP;
-    }
-    if is(text, w, b"remove_bias") {
-        return REMOVE_BIAS;
-    }
-    if is(text, w, b"write_back") {
-        return WRITE_BACK;
-    }
-    read_keyword(text, w)
+    number_in(
+        b"\
+        load 31\n\
+        place 32\n\
+        build 33\n\
+        warm_start 34\n\
+        sweep 35\n\
+        remove_bias 36\n\
+        write_back 37\n\
+        read_rows 38\n\
+        read_velocity 39\n\
+        set_targets 40\n\
+        repeat 41\n\
+        end 42\n\
+        table 43\n\
+        ",
+        NO_KEYWORD,
+        text,
+        w,
+    )
 }
 
 // An axis's number, and 3 for no axis.
 pub fn axis_of(text: &[u8], w: Word) -> u32
     ensures { λ r. ⌜ r ≡ axisOf (now (text .entry)) w ⌝ }
 {
-    if is(text, w, b"x") {
-        return 0;
-    }
-    if is(text, w, b"y") {
-        return 1;
-    }
-    if is(text, w, b"angle") {
-        return 2;
-    }
-    3
+    number_in(
+        b"\
+        x 0\n\
+        y 1\n\
+        angle 2\n\
+        ",
+        3,
+        text,
+        w,
+    )
 }

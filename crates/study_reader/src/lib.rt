@@ -10,4 +10,5 @@ pub mod names;
 pub mod number;
 pub mod read;
 pub mod storage;
+pub mod tables;
 pub mod words;

@@ -1,61 +1,22 @@
--- `item_keyword` meets its contract, word by word.
-use mathlib.Core.Path.{refl, sym, _∙_}
-use Rattle.study_reader.proofs.KeywordLaws.{found, later}
+-- `item_keyword` meets its contract: its text has the rows of the table.
+use mathlib.Core.Path.{refl, _∙_}
+use Rattle.texts.specs.Digits.{isDigit}
+use Rattle.motor_table.specs.WholeNumber.{digitsAfter}
+use Rattle.study_reader.specs.Words.{has, isBlank, endsWord, runOf, lineCount, nextWord, nextLine, bytesOf, wholeUpTo, wholeNumber}
+use Rattle.study_reader.proofs.KeywordLaws.{rowsIn, number-by-table}
 use borrow.Author.Needs.{needs}
 use Rattle.study_reader.proofs.keywords.item_keyword.Statement.{statement}
 use Rattle.study_reader.proofs.keywords.item_keyword.Tie as tie
 
-slice-aggregate-is : tie.Need-slice-aggregate-is
-slice-aggregate-is c = search needs
+slice-aggregate-number-in : tie.Need-slice-aggregate-number-in
+slice-aggregate-number-in c = search needs
 
-is-requires : tie.Need-is-requires
-is-requires c κs = search needs
+number-in-requires : tie.Need-number-in-requires
+number-in-requires c κs = search needs
 
 returns : tie.Need-returns
-returns c = found _ _ _ _ _ _ (sym (c .before .is .ensures) ∙ c .if1 .taken) refl
-
-slice-aggregate-is-2 : tie.Need-slice-aggregate-is-2
-slice-aggregate-is-2 c = search needs
-
-is-requires-2 : tie.Need-is-requires-2
-is-requires-2 c κs = search needs
-
-returns-2 : tie.Need-returns-2
-returns-2 c = later _ _ _ _ _ _ (sym (c .before .before .before .before .is .ensures) ∙ c .before .before .before .if1 .left) (found _ _ _ _ _ _ (sym (c .before .is2 .ensures) ∙ c .if2 .taken) refl)
-
-slice-aggregate-is-3 : tie.Need-slice-aggregate-is-3
-slice-aggregate-is-3 c = search needs
-
-is-requires-3 : tie.Need-is-requires-3
-is-requires-3 c κs = search needs
-
-returns-3 : tie.Need-returns-3
-returns-3 c =
-    let s3 = c .before .before .before in
-    let s6 = s3 .before .before .before in
-    later _ _ _ _ _ _ (sym (s6 .before .is .ensures) ∙ s6 .if1 .left) (later _ _ _ _ _ _ (sym (s3 .before .is2 .ensures) ∙ s3 .if2 .left) (found _ _ _ _ _ _ (sym (c .before .is3 .ensures) ∙ c .if3 .taken) refl))
-
-body-keyword-requires : tie.Need-body-keyword-requires
-body-keyword-requires c κs = search needs
-
-returns-4 : tie.Need-returns-4
-returns-4 c =
-    let s4 = c .before .before .before .before in
-    let s7 = s4 .before .before .before in
-    later _ _ _ _ _ _ (sym (s7 .before .is .ensures) ∙ s7 .if1 .left) (later _ _ _ _ _ _ (sym (s4 .before .is2 .ensures) ∙ s4 .if2 .left) (later _ _ _ _ _ _ (sym (c .before .before .is3 .ensures) ∙ c .before .if3 .left) (c .body-keyword .ensures)))
+unfolding has isBlank endsWord runOf lineCount nextWord nextLine bytesOf wholeUpTo wholeNumber digitsAfter isDigit rowsIn
+returns c = c .number-in .ensures ∙ number-by-table _ _ _ refl _ refl
 
 pub item-keyword-spec : {M : Type 1} → statement M
-item-keyword-spec =
-    tie.close
-    (tie.spec
-    slice-aggregate-is
-    is-requires
-    returns
-    slice-aggregate-is-2
-    is-requires-2
-    returns-2
-    slice-aggregate-is-3
-    is-requires-3
-    returns-3
-    body-keyword-requires
-    returns-4)
+item-keyword-spec = tie.close (tie.spec slice-aggregate-number-in number-in-requires returns)
