@@ -1,4 +1,5 @@
 pub mod StepLaws
+pub mod ReactionLaws
 pub mod MakerShapes
 pub mod MakerLaws
 pub mod Orthogonalise

@@ -9,6 +9,7 @@ pub mod Makers
 pub mod Finalize
 pub mod Update
 pub mod Step
+pub mod Reaction
 pub mod Builder
 pub mod Writeback
 pub mod Cases

@@ -33,6 +33,10 @@ stepOf c v1 v2 =
     let total = clampOf wanted (c .«impulse_min») (c .«impulse_max») in
     record { row = withImpulse c total; vels = appliedOf c v1 v2 (total ⊖ c .impulse); side = sideOf wanted (c .«impulse_min») (c .«impulse_max») }
 
+-- the residual of a row at these velocities: the change that one more step would make to its impulse
+unfoldable pub residualOf : JointConstraint → SolverVel → SolverVel → Float
+residualOf c v1 v2 = clampOf (wantedImpulseOf c v1 v2) (c .«impulse_min») (c .«impulse_max») ⊖ c .impulse
+
 -- `warmstart_generic`: the row's impulse acts on both bodies
 unfoldable pub warmstartOf : JointConstraint → SolverVel → SolverVel → SolverVels
 warmstartOf c v1 v2 = appliedOf c v1 v2 (c .impulse)

@@ -4,7 +4,7 @@ ghost use mathlib.Core.Path.{_≡_};
 ghost use Prim.Native.Nat.{_≤_};
 ghost use Rattle.rows.specs.Makers.{twoBodies};
 ghost use Rattle.rows.specs.Update.{contextOf, motorLimitsOf, rowOf, updateOf, blankRow, rowsArray, madeRows};
-ghost use Rattle.rows.specs.Step.{wantedImpulseOf, appliedOf, stepOf, warmstartOf, removeBiasOf};
+ghost use Rattle.rows.specs.Step.{wantedImpulseOf, appliedOf, stepOf, residualOf, warmstartOf, removeBiasOf};
 ghost use Rattle.rows.specs.Row.{withImpulse};
 use crate::generic_joint::GenericJoint;
 use crate::integration_parameters::IntegrationParameters;
@@ -155,6 +155,15 @@ impl JointConstraint {
             vels: self.applied(vel1, vel2, delta_impulse),
             side: side,
         }
+    }
+
+    // The change that one more step would make to the row's impulse.
+    pub fn residual(self, vel1: SolverVel, vel2: SolverVel) -> f32
+        ensures { λ r. ⌜ r ≡ residualOf self vel1 vel2 ⌝ }
+    {
+        let wanted = self.wanted_impulse(vel1, vel2);
+        let clamped = clamp(wanted, self.impulse_min, self.impulse_max);
+        clamped.value - self.impulse
     }
 
     pub fn warmstart_generic(self, vel1: SolverVel, vel2: SolverVel) -> SolverVels

@@ -5,4 +5,5 @@ pub mod joint_constraint_builder;
 pub mod joint_constraint_helper;
 pub mod joint_velocity_constraint;
 pub mod motor_model;
+pub mod reaction;
 pub mod row_ids;

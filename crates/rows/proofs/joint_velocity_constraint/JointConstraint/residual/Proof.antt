@@ -1,0 +1,23 @@
+-- `residual` is put together from what its callees promise.
+use borrow.Author.Needs.{needs}
+use Rattle.floats.specs.Scalar.{clampedOf}
+use Rattle.rows.specs.Step.{residualOf}
+use Rattle.rows.proofs.joint_velocity_constraint.JointConstraint.residual.Statement.{
+  statement,
+}
+use Rattle.rows.proofs.joint_velocity_constraint.JointConstraint.residual.Tie as tie
+
+wanted-impulse-requires : tie.Need-wanted-impulse-requires
+wanted-impulse-requires c κs = search needs
+
+clamp-requires : tie.Need-clamp-requires
+clamp-requires c κs = search needs
+
+returns : tie.Need-returns
+unfolding residualOf clampedOf
+returns c =
+    let d = c .before .before in
+    simp (d .clamp .ensures, d .before .wanted-impulse .ensures)
+
+pub residual-spec : {M : Type 1} → statement M
+residual-spec = tie.close (tie.spec wanted-impulse-requires clamp-requires returns)
