@@ -12,7 +12,7 @@ pub fn carry(number: u32) {
 }
 
 /// Fault k is entry k − 1.
-pub const FAULTS: [&str; 86] = [
+pub const FAULTS: [&str; 93] = [
     // Leaves of the rows.
     "inv_dt is 1/dt at dt = 0 as well",
     "max_impulse is max_force·dt at dt = 0 as well",
@@ -106,6 +106,14 @@ pub const FAULTS: [&str; 86] = [
     // The angle near zero.
     "angle near zero: by the recipe",
     "angle near zero: re's sign bit not asked for",
+    // Reactions and residuals.
+    "reaction: ang_jac2 for ang_jac1",
+    "reaction: the last row left out",
+    "reaction: body 2 gets what body 1 gets",
+    "reaction: the sums start from −0",
+    "reaction: along body 1's axes for the joint's",
+    "reaction: the moment at frame 1's place",
+    "residual: past the row's bounds",
 ];
 
 /// Whether fault `number` is carried.
@@ -814,6 +822,37 @@ pub fn step(n: &mut [f32], vels: &mut [f32]) {
     r.impulse = total;
     moved(&r, delta, vels);
     put(&r, n);
+}
+
+/// The change that one more step makes to the row's impulse.
+pub fn residual(n: &[f32], vels: &[f32]) -> f32 {
+    let wanted = wanted(n, vels);
+    or!(93, clamp(wanted, n[1], n[2]), wanted) - n[0]
+}
+
+/// What a joint's rows gave its two bodies, body 1's linear part along frame 1's directions, and the moment at frame 2's place.
+pub fn reaction(body1: &[f32], body2: &[f32], joint: &[f32], rows: &[f32]) -> [f32; 9] {
+    let zero = or!(90, 0.0, -0.0);
+    let mut linear = [[zero; 2]; 2];
+    let mut angular = [zero; 2];
+    let all = rows.len() / 18;
+    for r in rows.chunks_exact(18).take(or!(88, all, all.max(1) - 1)).map(row) {
+        let by = scale(r.lin_jac, r.impulse);
+        let turns = [or!(87, r.ang_jac[0], r.ang_jac[1]), r.ang_jac[1]].map(|jac| jac * r.impulse);
+        linear[0] = add(linear[0], by);
+        linear[1] = or!(89, sub, add)(linear[1], by);
+        angular[0] += turns[0];
+        angular[1] = or!(89, angular[1] - turns[1], angular[1] + turns[1]);
+    }
+    let pair = |n: &[f32], i: usize| [n[i], n[i + 1]];
+    let axis = or!(91, product(pair(body1, 0), pair(joint, 0)), pair(body1, 0));
+    let along = [dot(axis, linear[0]), dot([-axis[1], axis[0]], linear[0])];
+    let place = |body: &[f32], frame: usize| add(turn(pair(body, 0), pair(joint, frame + 2)), pair(body, 2));
+    let point = or!(92, place(body2, 4), place(body1, 0));
+    let arm = sub(point, pair(body2, 2));
+    let moment = dot([-arm[1], arm[0]], linear[1]) - angular[1];
+    let [[x1, y1], [x2, y2]] = linear;
+    [x1, y1, angular[0], x2, y2, angular[1], along[0], along[1], moment]
 }
 
 pub fn warmstart(n: &mut [f32], vels: &mut [f32]) {

@@ -18,6 +18,8 @@ pub enum Function {
     RemoveBias,
     Writeback,
     Finalize,
+    Residual,
+    Reaction,
 }
 
 /// What a call is handed: words and numbers to read, then lent storage, which it may write. A
@@ -31,7 +33,7 @@ pub struct Call {
     pub lent: Vec<f32>,
     pub vels: Vec<f32>,
     pub ids: Vec<u32>,
-    /// What `Build` returns, and which bound a `Step` met; 0 for the others.
+    /// What `Build` and `Reaction` return, and which bound a `Step` met; 0 for the others.
     pub count: usize,
     /// Whether something was written outside the lent storage.
     pub outside: bool,
@@ -90,6 +92,11 @@ macro_rules! made_by(
             Function::RemoveBias => $by::remove_bias(lent),
             Function::Writeback => $by::writeback(w[0], n[0], lent),
             Function::Finalize => $by::finalize(w[0] as usize, lent),
+            Function::Residual => lent[0] = $by::residual(n, &$call.vels),
+            Function::Reaction => {
+                let (study, rows) = n.split_at(60);
+                lent.copy_from_slice(&$by::reaction(&study[3..10], &study[10..17], &study[17..59], rows))
+            }
         }
     }}
 );
@@ -167,7 +174,34 @@ mod exported {
         fn katydidzinc_rows_remove_bias(row: *mut f32, row_len: usize);
         fn katydidzinc_rows_writeback(id: u32, impulse: f32, numbers: *mut f32, numbers_len: usize);
         fn katydidzinc_rows_finalize(n: usize, rows: *mut f32, rows_len: usize);
+        fn katydidzinc_residual(
+            bodies: *const f32,
+            bodies_len: usize,
+            words: *const u32,
+            words_len: usize,
+            joint: u32,
+            rows: *const f32,
+            rows_len: usize,
+            k: u32,
+        ) -> f32;
+        fn katydidzinc_reaction(
+            bodies: *const f32,
+            bodies_len: usize,
+            words: *const u32,
+            words_len: usize,
+            numbers: *const f32,
+            numbers_len: usize,
+            joint: u32,
+            rows: *const f32,
+            rows_len: usize,
+            n: u32,
+            out: *mut f32,
+            out_len: usize,
+        ) -> u64;
     }
+
+    /// The words of a joint between bodies 0 and 1.
+    const TIED: [u32; 11] = [0, 1, 0, 0, 0, 0, 0, 0, 0, 0, 0];
 
     pub fn run(call: &mut Call) {
         let n = &call.numbers;
@@ -211,6 +245,39 @@ mod exported {
                 Function::RemoveBias => katydidzinc_rows_remove_bias(lent, lents),
                 Function::Writeback => katydidzinc_rows_writeback(w[0], n[0], lent, lents),
                 Function::Finalize => katydidzinc_rows_finalize(w[0] as usize, lent, lents),
+                Function::Residual => {
+                    let none = [0.0; 7];
+                    let bodies = [&none, &call.vels[..3], &none, &call.vels[3..]].concat();
+                    *lent = katydidzinc_residual(
+                        bodies.as_ptr(),
+                        bodies.len(),
+                        TIED.as_ptr(),
+                        TIED.len(),
+                        0,
+                        n.as_ptr(),
+                        n.len(),
+                        0,
+                    )
+                }
+                Function::Reaction => {
+                    let none = [0.0; 3];
+                    let bodies = [&n[3..10], &none, &n[10..17], &none].concat();
+                    let (joint, rows) = (&n[17..59], &n[60..]);
+                    call.count = katydidzinc_reaction(
+                        bodies.as_ptr(),
+                        bodies.len(),
+                        TIED.as_ptr(),
+                        TIED.len(),
+                        joint.as_ptr(),
+                        joint.len(),
+                        0,
+                        rows.as_ptr(),
+                        rows.len(),
+                        (rows.len() / 18) as u32,
+                        lent,
+                        lents,
+                    ) as usize
+                }
             }
         }
         call.outside = fenced.taken_back(&mut call.lent)

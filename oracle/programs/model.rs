@@ -5,6 +5,7 @@
 //!   model compare SEED CALLS        against the Rattle library (built with RATTLE_LIB)
 //!   model pairs SEED COUNT          two studies side by side, by the Rattle library or, without
 //!                                   it, by the oracle
+//!   model reactions SEED COUNT      how far bodies' momenta are from their joints' reactions
 //!   model answers                   a fixed list of calls with the oracle's answers
 //!   model replay < ANSWERS          the answers again, by each side that is there
 //!   model leg                       what the leg in C, Rust and Python must print (examples/leg.expected), by the oracle
@@ -40,6 +41,8 @@ mod model_rendering;
 mod motor_table_rendering;
 #[path = "model/pairs.rs"]
 mod pairs;
+#[path = "model/reactions.rs"]
+mod reactions;
 #[path = "../rendering.rs"]
 mod rendering;
 #[path = "../sines.rs"]
@@ -80,6 +83,7 @@ fn main() {
             };
             pairs::pairs(side, by, number(1, 1), number(2, 10_000))
         }
+        Some("reactions") => reactions::measure(number(1, 1), number(2, calls)),
         Some("answers") => answers::answers(),
         Some("replay") => {
             let text = std::io::read_to_string(std::io::stdin()).unwrap();
@@ -116,7 +120,7 @@ fn main() {
         Some("faults") => run::faults(number(1, 1), number(2, calls), number(3, 1_000)),
         _ => {
             eprintln!(
-                "model: cases | compare SEED CALLS | pairs SEED COUNT | answers | replay | leg | bench | study PROGRAM FILE... | reading FILE... | damaged PROGRAM SEED COUNT FILE... | \
+                "model: cases | compare SEED CALLS | pairs SEED COUNT | reactions SEED COUNT | answers | replay | leg | bench | study PROGRAM FILE... | reading FILE... | damaged PROGRAM SEED COUNT FILE... | \
                  rendering SEED CALLS | fault NUMBER SEED CALLS | faults SEED CALLS PAIRS"
             );
             exit(2)

@@ -132,18 +132,33 @@ impl Run {
         Ok(())
     }
 
-    /// Rows of no joint: one stepped, warm started and freed of its bias, some made one group.
-    fn loose_rows(&mut self, d: &mut Draw) -> Outcome<()> {
+    /// The residual of a row.
+    fn residual(&mut self, row: &[f32], vels: &[f32]) -> Outcome<()> {
+        let mut call = Call::new(Function::Residual, &[], row, &[12345.678]);
+        call.vels = vels.to_vec();
+        self.both(call).map(|_| ())
+    }
+
+    /// The reaction of the study's joint, if it has these rows.
+    fn reaction(&mut self, study: &Study, rows: &[f32]) -> Outcome<()> {
+        let numbers = [&study.numbers, rows].concat();
+        self.leaf(Function::Reaction, &[], &numbers, 9)
+    }
+
+    /// Rows of no joint: one stepped, warm started and freed of its bias, some summed to a reaction and made one group.
+    fn loose_rows(&mut self, d: &mut Draw, study: &Study) -> Outcome<()> {
         let row = studies::any_row(d);
         for function in [Function::Step, Function::Warmstart] {
             let mut call = Call::new(function, &[], &[], &row);
             call.vels = studies::vels(d).to_vec();
+            self.residual(&row, &call.vels)?;
             self.both(call)?;
         }
         self.both(Call::new(Function::RemoveBias, &[], &[], &row))?;
 
         let rows: Vec<f32> = (0..6).flat_map(|_| studies::any_row(d)).collect();
         let count = d.below(7) as u32;
+        self.reaction(study, &rows[..count as usize * ROW])?;
         self.both(Call::new(Function::Finalize, &[count], &[], &rows))?;
         Ok(())
     }
@@ -180,7 +195,7 @@ impl Run {
         self.tally.choices[choice as usize] = true;
         if self.loose {
             self.leaves(d, &study)?;
-            self.loose_rows(d)?;
+            self.loose_rows(d, &study)?;
         }
 
         // The storage holds something before the first build.
@@ -202,6 +217,10 @@ impl Run {
             for _ in 0..2 {
                 self.sweep(Function::Step, own, vels)?;
             }
+            for row in own.chunks(ROW) {
+                self.residual(row, vels)?;
+            }
+            self.reaction(&study, own)?;
             for row in own.chunks_mut(ROW) {
                 let done = self.both(Call::new(Function::RemoveBias, &[], &[], row))?;
                 row.copy_from_slice(&done.lent);

@@ -25,15 +25,15 @@ fn leg() -> Study {
         .copy_from_slice(&[1.0, 0.0, 0.0, 0.3, 20.0, 0.25, 0.25, 0.25, -0.25, -2.0]);
     s.bodies[2 * BODY..]
         .copy_from_slice(&[1.0, 0.0, 0.0625, 0.03125, 200.0, 1.0, 1.0, 0.0, -0.25, 0.5]);
-    s.words[..WORDS].copy_from_slice(&[WORLD, 0, 3, 0, 4, 0, 0, 0, 0, 0, 0]);
-    s.words[WORDS..2 * WORDS].copy_from_slice(&[0, 1, 3, 4, 0, 0, 0, 0, 0, 0, 0]);
-    s.words[2 * WORDS..].copy_from_slice(&[1, 2, 3, 4, 4, 0, 0, 0, 0, 0, 0]);
+    s.words[..WORDS].copy_from_slice(&[WORLD, 0, 3, 0, 4, 0, 0, 0, 0, 0, 1]);
+    s.words[WORDS..2 * WORDS].copy_from_slice(&[0, 1, 3, 4, 0, 0, 0, 0, 0, 0, 1]);
+    s.words[2 * WORDS..].copy_from_slice(&[1, 2, 3, 4, 4, 0, 0, 0, 0, 0, 1]);
     let joints = [
-        ([0.0, 1.0], [0.0, 0.25], [0.0, 0.0], [1.0, 0.0], [1.0, 10.0, 50.0]),
-        ([0.0, -0.25], [0.0, 0.2], [0.0, 2.4], [0.36235775, 0.9320391], [0.0; 3]),
-        ([0.0, -0.2], [-0.0625, 0.06875], [-0.5, 0.5], [1.0, 0.0], [0.0, 5.0, 30.0]),
+        ([0.0, 1.0], [0.0, 0.25], [0.0, 0.0], [1.0, 10.0, 50.0]),
+        ([0.0, -0.25], [0.0, 0.2], [0.0, 2.4], [0.0; 3]),
+        ([0.0, -0.2], [-0.0625, 0.06875], [-0.5, 0.5], [0.0, 5.0, 30.0]),
     ];
-    for (n, (at1, at2, limits, centre, motor)) in s.numbers.chunks_exact_mut(JOINT).zip(joints) {
+    for (n, (at1, at2, limits, motor)) in s.numbers.chunks_exact_mut(JOINT).zip(joints) {
         n[0] = 1.0;
         n[2..4].copy_from_slice(&at1);
         n[4] = 1.0;
@@ -42,7 +42,8 @@ fn leg() -> Study {
         n[29] = motor[0];
         n[32..34].copy_from_slice(&motor[1..]);
         n[35..37].copy_from_slice(&[1.0e6, 1.0]);
-        n[40..42].copy_from_slice(&centre);
+        // No centre is given: the middle of the limits, as the Rust takes it, an angle.
+        n[40] = (limits[0] + limits[1]) * 0.5;
     }
     s
 }

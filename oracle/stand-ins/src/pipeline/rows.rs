@@ -8,12 +8,16 @@ use crate::dynamics::solver::joint_constraint::{
 use crate::dynamics::solver::solver_body::{SolverBodies, SolverVel};
 use crate::dynamics::{JointMotor, RigidBodySet, SpringCoefficients};
 use crate::math::Real;
+use crate::utils::MatrixColumn;
 
 /// A joint's words, then whether a warm coefficient is given, then the substep.
 pub const WORDS: usize = JOINT_WORDS + 2;
 /// Settings, both bodies, the joint, the warm coefficient.
 pub const NUMBERS: usize = SETTINGS + 2 * BODY + JOINT + 1;
 pub const ROWS: usize = MAX_ROWS * ROW;
+
+/// Two bodies' linear x, y and angular; along x, y; moment.
+pub const REACTION: usize = 9;
 
 const JOINT_AT: usize = SETTINGS + 2 * BODY;
 
@@ -104,6 +108,42 @@ pub fn side(n: &[Real], vels: &[Real]) -> usize {
 
 pub fn step(n: &mut [Real], vels: &mut [Real]) {
     moved(n, vels, JointConstraint::solve_generic)
+}
+
+/// The change that one more step makes to the row's impulse: the Rust's own step.
+pub fn residual(n: &[Real], vels: &[Real]) -> Real {
+    let (mut row, mut moved_vels) = (n.to_vec(), vels.to_vec());
+    step(&mut row, &mut moved_vels);
+    row[0] - n[0]
+}
+
+/// What a joint's rows gave its two bodies (linear x, y and angular, of body 1 and then of body 2), body 1's linear part along
+/// the Rust's basis, and the moment at frame 2's place. The bodies' numbers begin with their poses, and the joint's with its frames.
+pub fn reaction(body1: &[Real], body2: &[Real], joint: &[Real], rows: &[Real]) -> [Real; REACTION] {
+    let (pose1, pose2) = (records::body(body1), records::body(body2));
+    let data = records::joint(&[0; JOINT_WORDS], joint, [0, 1]).weight.data;
+    let frame1 = pose1.pose() * data.local_frame1;
+    let frame2 = pose2.pose() * data.local_frame2;
+    let (com1, com2) = (pose1.translation, pose2.translation);
+    let basis = JointConstraintHelper::<Real>::new(&frame1, &frame2, &com1, &com2, 0).basis;
+    let mut given = [0.0; 6];
+    for row in rows.chunks_exact(ROW).map(records::row) {
+        let linear = row.lin_jac * row.impulse;
+        given[0] += linear.x;
+        given[1] += linear.y;
+        given[2] += row.ang_jac1 * row.impulse;
+        given[3] -= linear.x;
+        given[4] -= linear.y;
+        given[5] -= row.ang_jac2 * row.impulse;
+    }
+    let [x, y, angular1, x2, y2, angular2] = given;
+    let along = [0, 1].map(|i| {
+        let axis = basis.column(i);
+        axis.x * x + axis.y * y
+    });
+    let arm = frame2.translation - com2;
+    let moment = -arm.y * x2 + arm.x * y2 - angular2;
+    [x, y, angular1, x2, y2, angular2, along[0], along[1], moment]
 }
 
 pub fn warmstart(n: &mut [Real], vels: &mut [Real]) {
