@@ -5,6 +5,7 @@ pub mod WritebackLaws
 pub mod JointRowsLaws
 pub mod CountLaws
 pub mod SingleRecordsLaws
+pub mod ReactionsLaws
 pub mod RefusalLaws
 pub mod AllJointsLaws
 pub mod CallLaws

@@ -4,6 +4,7 @@ pub mod Store
 pub mod JointRows
 pub mod Model
 pub mod SingleRecords
+pub mod Reactions
 pub mod Refusals
 pub mod MotorTargets
 pub mod Answers
