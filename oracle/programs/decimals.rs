@@ -174,6 +174,7 @@ mod rattle {
     unsafe extern "C" {
         fn katydidzinc_decimals_read(word: *const u8, word_len: usize) -> u64;
         fn katydidzinc_decimals_text(bits: u32, i: usize) -> u8;
+        fn katydidzinc_decimals_spelled(bits: u32, i: usize) -> u8;
     }
 
     pub fn read(word: &[u8]) -> Reading {
@@ -184,9 +185,41 @@ mod rattle {
         }
     }
 
+    pub fn spelled(bits: u32) -> Vec<u8> {
+        (0..).map(|i| unsafe { katydidzinc_decimals_spelled(bits, i) }).take_while(|b| *b != 0).collect()
+    }
+
     pub fn text(bits: u32) -> Vec<u8> {
         (0..).map(|i| unsafe { katydidzinc_decimals_text(bits, i) }).take_while(|b| *b != 0).collect()
     }
+}
+
+/// Nine digits as C writes them, by the host's formatting; the bits of a NaN.
+#[cfg(rattle)]
+fn nine_digits(bits: u32) -> String {
+    let x = f32::from_bits(bits);
+    if x.is_nan() {
+        return format!("0x{NAN:08X}");
+    }
+    if x.is_infinite() {
+        return format!("{x}");
+    }
+    let text = format!("{x:.8e}");
+    let (digits, exponent) = text.split_once('e').unwrap();
+    let exponent: i32 = exponent.parse().unwrap();
+    format!("{digits}e{}{:02}", if exponent < 0 { '-' } else { '+' }, exponent.abs())
+}
+
+/// What is written of a number is nine digits, and reads as it.
+#[cfg(rattle)]
+fn spelled(bits: u32) {
+    let text = rattle::spelled(bits);
+    if text != nine_digits(bits).as_bytes() {
+        println!("{bits:08X} is written {}, not {}", shown(&text), nine_digits(bits));
+        exit(1)
+    }
+    expected(&text, number(f32::from_bits(bits)), rendering(&text), "the rendering");
+    expected(&text, number(f32::from_bits(bits)), rattle::read(&text), "the library");
 }
 
 /// The point half way between two neighbours, exactly: f64 holds it, and the value past the largest is taken as 2^128.
@@ -281,6 +314,13 @@ fn compare(seed: u64, count: u64) {
         expected(word.as_bytes(), Number(0xBFC0_0000), rendering(word.as_bytes()), "the rendering");
         expected(word.as_bytes(), Number(0xBFC0_0000), rattle::read(word.as_bytes()), "the library");
     }
+    // the numbers about each power of two and of ten, and the ends
+    let mut about: Vec<u32> = (0..=255).map(|e| e << 23).chain([1, 0x7F_FFFF, 0x7F7F_FFFF]).collect();
+    about.extend((-45..=38).map(|e| format!("1e{e}").parse::<f32>().unwrap().to_bits()));
+    for bits in about.iter().flat_map(|b| (0..33).map(move |i| b.wrapping_add(i).wrapping_sub(16))) {
+        spelled(bits & 0x7FFF_FFFF);
+        spelled(bits | 0x8000_0000);
+    }
     let mut d = Draw::new(seed);
     let (mut kinds, mut answers) = ([0u64; 11], [0u64; 5]);
     for _ in 0..count {
@@ -302,13 +342,14 @@ fn compare(seed: u64, count: u64) {
             exit(1)
         }
         expected(&text, number(f32::from_bits(bits)), rattle::read(&text), "the library");
+        spelled(bits);
     }
     println!(
         "{count} words: digits {}, f32 shown {}, half way {}, about the ends {}, exact ties {}, exponents at the ends {}, zeros {}, long exponents {}, short {}, bits {}, damaged {}",
         kinds[0], kinds[1], kinds[2], kinds[3], kinds[4], kinds[5], kinds[6], kinds[7], kinds[8], kinds[9], kinds[10]
     );
     println!(
-        "answers: {} zeros, {} infinities and NaNs, {} other numbers, {} with too many digits, {} no numbers; {count} words of bits written and read back",
+        "answers: {} zeros, {} infinities and NaNs, {} other numbers, {} with too many digits, {} no numbers; {count} words of bits written and read back, and {count} of nine digits, the host's",
         answers[0], answers[1], answers[2], answers[3], answers[4]
     )
 }

@@ -7,5 +7,6 @@ pub mod CapLaws
 pub mod ReadLaws
 pub mod WordLaws
 pub mod TextLaws
+pub mod SpelledLaws
 pub mod Cases
 pub mod NearestLaws

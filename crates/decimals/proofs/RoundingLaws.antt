@@ -3,7 +3,7 @@ use mathlib.Core.Path.{_≡_, refl, sym, ap, _∙_, subst}
 use mathlib.Core.Logic.{_⊎_, inl, inr}
 use mathlib.Core.Bool.{not}
 use Prim.Native.Nat.{ℕ, zero, suc, _+_, _-_, _*_, _/_, _%_, _^_, _≤_, _<_, compare, Ordering, Ordering·lt, Ordering·eq, Ordering·gt}
-use native.Mathlib.Nat.{le-trans, le-of-eq, lt-of-lt-of-le, lt-of-le-of-lt, lt-of-not-le, lt-irrefl, mul-comm, mul-assoc, mul-add, mul-one, one-mul, mul-pos, mul-le-mul-left, mul-le-mul-right, mul-lt-mul-of-pos-right, div-add-mod', le-div-iff-mul-le, div-lt-iff-lt-mul, div-eq-of-lt-le}
+use native.Mathlib.Nat.{le-trans, le-of-eq, lt-of-lt-of-le, lt-of-le-of-lt, lt-of-not-le, lt-irrefl, mul-comm, mul-assoc, mul-add, mul-one, mul-zero, one-mul, mul-pos, mul-le-mul-left, mul-le-mul-right, mul-lt-mul-of-pos-right, div-add-mod', le-div-iff-mul-le, div-lt-iff-lt-mul, div-eq-of-lt-le}
 use native.Mathlib.Omega.{arith}
 use lib.Dec.{T, isLe, isEq, eqb, leb→le, nleb→lt, eqb→eq, eqb-refl}
 use lib.Pow.{pow-add, pow-pos, pow-mono}
@@ -15,6 +15,10 @@ use lib.Ieee.Nearest.{closest, nearest-ge}
 -- ---- the quotient
 pub product-room : (d k m b : ℕ) → k ≤ b → d * b < m → d * k < m
 product-room d k m b h l = lt-of-le-of-lt (mul-le-mul-left d h) l
+
+pub most-pos : (n d most : ℕ) → n < d * most → 0 < most
+most-pos n d zero h = omega (arith, mul-zero d)
+most-pos n d (suc m) h = omega arith
 
 pub quotient-is : (n d low high : ℕ) → high ≡ low + 1 → d * low ≤ n → n < d * high → low ≡ n / d
 quotient-is n d low high e lo hi =
@@ -131,14 +135,14 @@ module _ (n den k : ℕ) (pos : 0 < den) (e : k ≡ size (n / den) - 24) where
           (le-div-iff-mul-le pos .0 (size-reaches (n / den) (suc j + 23) (omega arith))))
 
 -- ---- room for the middle and for twice the number
-pub quotient-below : (n d q : ℕ) → 0 < d → n < d * 2 ^ 24 → q ≡ n / d → q < 2 ^ 24
-quotient-below n d q pos h e = subst (λ (x : ℕ). x < 2 ^ 24) (sym e) (div-lt-iff-lt-mul pos .1 (subst (λ (x : ℕ). n < x) (mul-comm d (2 ^ 24)) h))
+pub quotient-below : (n d q most : ℕ) → 0 < d → n < d * most → q ≡ n / d → q < most
+quotient-below n d q most pos h e = subst (λ (x : ℕ). x < most) (sym e) (div-lt-iff-lt-mul pos .1 (subst (λ (x : ℕ). n < x) (mul-comm d most) h))
 
-pub twice-room : (n d m : ℕ) → n < d * 2 ^ 24 → d * 2 ^ 25 < m → n * 2 < m
-twice-room n d m h l = omega arith
+pub twice-room : (n d most m : ℕ) → n < d * most → d * (most * 2) < m → n * 2 < m
+twice-room n d most m h l = omega (arith, mul-assoc d most 2)
 
-pub smaller-room : (d m : ℕ) → d * 2 ^ 25 < m → d * 2 ^ 24 < m
-smaller-room d m h = omega arith
+pub smaller-room : (d most m : ℕ) → d * (most * 2) < m → d * most < m
+smaller-room d most m h = omega (arith, mul-assoc d most 2)
 
 -- ---- room for the next shift
 pub next-room : (n den k : ℕ) → den * 2 ^ (k + 24) ≤ n → n < 2 ^ 400 → den * 2 ^ (k + 1 + 24) < 2 ^ 448

@@ -4,4 +4,5 @@ pub mod Nearest
 pub mod Words
 pub mod Capped
 pub mod Text
+pub mod Spelled
 pub mod Exports

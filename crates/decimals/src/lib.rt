@@ -4,4 +4,5 @@ mod digits;
 pub mod exports;
 pub mod number;
 mod rounding;
+pub mod spelled;
 pub mod text;

@@ -13,13 +13,13 @@ use crate::big::shifted;
 use crate::big::times;
 use crate::big::times_ten;
 
-// n / d without its fraction, in 24 halvings of the numbers below 2^24
-fn quotient(n: [u32; 14], d: [u32; 14]) -> u32
-    requires { ⌜ (0 < value d) × (value n < value d * 2 ^ 24) × (value d * 2 ^ 24 < 2 ^ 448) ⌝ }
+// n / d without its fraction, in halvings of the numbers below `most`
+fn quotient(n: [u32; 14], d: [u32; 14], most: u32) -> u32
+    requires { ⌜ (value n < value d * most) × (value d * most < 2 ^ 448) × (most ≤ 2 ^ 30) ⌝ }
     ensures { λ r. ⌜ r ≡ value n / value d ⌝ }
 {
     let mut low: u32 = 0;
-    let mut high: u32 = 16777216;
+    let mut high = most;
     while low + 1 < high {
         let middle = (low + high) / 2;
         if at_most(times(d, middle), n) {
@@ -31,12 +31,12 @@ fn quotient(n: [u32; 14], d: [u32; 14]) -> u32
     low
 }
 
-// n / d to the nearest whole number, and half way between two to the even one
-fn nearest(n: [u32; 14], d: [u32; 14]) -> u32
-    requires { ⌜ (0 < value d) × (value n < value d * 2 ^ 24) × (value d * 2 ^ 25 < 2 ^ 448) ⌝ }
+// n / d to the nearest whole number, and half way between two to the even one, where it is below `most`
+pub fn nearest(n: [u32; 14], d: [u32; 14], most: u32) -> u32
+    requires { ⌜ (0 < value d) × (value n < value d * most) × (value d * (most * 2) < 2 ^ 448) × (most ≤ 2 ^ 30) ⌝ }
     ensures { λ r. ⌜ r ≡ closest (value n) (value d) ⌝ }
 {
-    let q = quotient(n, d);
+    let q = quotient(n, d, most);
     let middle = times(d, 2 * q + 1);
     let twice = times(n, 2);
     if at_most(middle, twice) {
@@ -80,7 +80,7 @@ fn pattern(n: [u32; 14], den: [u32; 14], guess: u32) -> u32
     if 253 < k {
         return 0x7f80_0000;
     }
-    k * 8388608 + nearest(n, shifted(den, k))
+    k * 8388608 + nearest(n, shifted(den, k), 16777216)
 }
 
 // About how many binary digits beyond 24 w·10^-n units of 2^-149 have. A guess that is off costs time only.

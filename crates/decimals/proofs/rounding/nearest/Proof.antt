@@ -10,8 +10,8 @@ use borrow.Author.Needs.{needs}
 use Rattle.decimals.proofs.rounding.nearest.Statement.{statement}
 use Rattle.decimals.proofs.rounding.nearest.Tie as tie
 
-small : (c : tie.After-quotient) → c .quotient .result < 2 ^ 24
-small c = quotient-below (value (c .before .args .n)) (value (c .before .args .d)) (c .quotient .result) (c .before .pre .0) (c .before .pre .1) (c .quotient .ensures)
+small : (c : tie.After-quotient) → c .quotient .result < c .before .args .most
+small c = quotient-below (value (c .before .args .n)) (value (c .before .args .d)) (c .quotient .result) (c .before .args .most) (c .before .pre .0) (c .before .pre .1) (c .quotient .ensures)
 
 -- the two numbers compared are twice n and the middle
 module _ (a : tie.After-at-most) where
@@ -34,7 +34,7 @@ module _ (a : tie.After-at-most) where
   more h = rw (a .before .before .times .ensures, a .before .times2 .ensures) at h
 
 quotient-requires : tie.Need-quotient-requires
-quotient-requires c κs = (c .pre .0, c .pre .1, smaller-room (value (c .args .d)) _ (c .pre .2))
+quotient-requires c κs = (c .pre .1, smaller-room (value (c .args .d)) (c .args .most) _ (c .pre .2), c .pre .3)
 
 mul-times : tie.Need-mul-times
 mul-times c = omega (arith, small c)
@@ -43,10 +43,10 @@ add-times : tie.Need-add-times
 add-times c = omega (arith, small c)
 
 times-requires : tie.Need-times-requires
-times-requires c κs = product-room (value (c .before .args .d)) (2 * c .quotient .result + 1) _ (2 ^ 25) (omega (arith, small c)) (c .before .pre .2)
+times-requires c κs = product-room (value (c .before .args .d)) (2 * c .quotient .result + 1) _ (c .before .args .most * 2) (omega (arith, small c)) (c .before .pre .2)
 
 times-requires-2 : tie.Need-times-requires-2
-times-requires-2 c κs = twice-room (value (c .before .before .args .n)) (value (c .before .before .args .d)) _ (c .before .before .pre .1) (c .before .before .pre .2)
+times-requires-2 c κs = twice-room (value (c .before .before .args .n)) (value (c .before .before .args .d)) (c .before .before .args .most) _ (c .before .before .pre .1) (c .before .before .pre .2)
 
 at-most-requires : tie.Need-at-most-requires
 at-most-requires c κs = search needs

@@ -72,7 +72,7 @@ shifted-requires : tie.Need-shifted-requires
 shifted-requires c κs = alone (c .before)
 
 nearest-requires : tie.Need-nearest-requires
-nearest-requires c κs = rw (c .shifted .ensures) (pos (c .before .before), kept (c .before .before), room (c .before .before))
+nearest-requires c κs = rw (c .shifted .ensures) (pos (c .before .before), kept (c .before .before), room (c .before .before), omega arith)
 
 -- the nearest whole number, with the shift as a product
 rounded : (c : tie.After-nearest) → c .nearest .result ≡ closest (n (c .before .before .before)) (den (c .before .before .before) * 2 ^ k (c .before .before .before))

@@ -6,18 +6,18 @@ use native.Mathlib.Omega.{arith}
 use borrow.Author.Needs.{needs}
 use borrow.Author.Tests.{leb-true, leb-false}
 use Rattle.decimals.specs.Limbs.{value}
-use Rattle.decimals.proofs.RoundingLaws.{product-room, quotient-is}
+use Rattle.decimals.proofs.RoundingLaws.{product-room, most-pos, quotient-is}
 use Rattle.decimals.proofs.rounding.quotient.Statement.{statement}
 use Rattle.decimals.proofs.rounding.quotient.Tie as tie
 
 abbrev Inv-loop : tie.InvT-loop
-Inv-loop n d low₀ high₀ low high = (low < high) × (high ≤ 16777216) × (value d * low ≤ value n) × (value n < value d * high)
+Inv-loop n d most low₀ high₀ low high = (low < high) × (high ≤ most) × (value d * low ≤ value n) × (value n < value d * high)
 
 abbrev μ-loop : tie.MeasureT-loop
-μ-loop n d low₀ high₀ low high = high - low
+μ-loop n d most low₀ high₀ low high = high - low
 
 loop-holds : tie.Need-loop-holds Inv-loop μ-loop
-loop-holds c = (omega arith, omega arith, omega (arith, mul-zero (value (c .args .d))), c .pre .1)
+loop-holds c = (most-pos (value (c .args .n)) (value (c .args .d)) (c .args .most) (c .pre .0), omega arith, omega (arith, mul-zero (value (c .args .d))), c .pre .0)
 
 add-loop : tie.Need-add-loop Inv-loop μ-loop
 add-loop c = omega arith
@@ -26,7 +26,7 @@ add-middle : tie.Need-add-middle Inv-loop μ-loop
 add-middle c = omega arith
 
 times-requires : tie.Need-times-requires Inv-loop μ-loop
-times-requires c κs = product-room (value (c .before .before .args .d)) ((c .before .loop .low + c .before .loop .high) / 2) _ 16777216 (omega arith) (c .before .before .pre .2)
+times-requires c κs = product-room (value (c .before .before .args .d)) ((c .before .loop .low + c .before .loop .high) / 2) _ (c .before .before .args .most) (omega arith) (c .before .before .pre .1)
 
 at-most-requires : tie.Need-at-most-requires Inv-loop μ-loop
 at-most-requires c κs = search needs
