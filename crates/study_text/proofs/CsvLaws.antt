@@ -27,7 +27,7 @@ use Rattle.study_text.specs.declared.number.Column.{Column}
 use Rattle.study_text.specs.declared.rules.Rule.{Rule}
 use Rattle.study_text.specs.declared.words.Word.{Word}
 use Rattle.study_text.specs.declared.words.Bound.{Bound}
-use Rattle.study_text.specs.declared.words.Bound.the-variants.{Low, High, Both, No}
+use Rattle.study_text.specs.declared.words.Bound.the-variants.{Low, High, No}
 use Rattle.study_text.proofs.RowLaws.{three-long, definition-short, millionths-short}
 
 -- ---- two texts, one after the other
@@ -114,7 +114,6 @@ id-six (Motor i) = omega arith
 at-four : (b : Bound) → length (atText b) ≤ 4
 at-four Low = omega arith
 at-four High = omega arith
-at-four Both = omega arith
 at-four No = omega arith
 
 csv-number-short : (x : Float) → length (csvNumber x) ≤ 23

@@ -5,3 +5,4 @@ pub mod CsvLaws
 pub mod PartsLaws
 pub mod CitationsLaws
 pub mod VelocityLaws
+pub mod SaysLaws

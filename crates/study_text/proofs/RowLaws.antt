@@ -29,7 +29,7 @@ use Rattle.study_text.specs.declared.rules.Rule.{Rule}
 use Rattle.study_text.specs.declared.rules.Rule.the-variants.{Motor2, Motor0, Motor1, MotorF, Dof2, Dof0, Dof1, Limit2, Limit0, Limit1, LimitF}
 use Rattle.study_text.specs.declared.words.Word.{Word}
 use Rattle.study_text.specs.declared.words.Bound.{Bound}
-use Rattle.study_text.specs.declared.words.Bound.the-variants.{Low, High, Both, No}
+use Rattle.study_text.specs.declared.words.Bound.the-variants.{Low, High, No}
 use Rattle.study_text.proofs.NumberLaws.{take-blanks, signed-size, number-short}
 
 -- ---- three texts, one after the other
@@ -117,14 +117,12 @@ id-column (Motor i) = refl
 pub bound-short : (b : Bound) → length (boundText b) ≤ 20
 bound-short Low = omega arith
 bound-short High = omega arith
-bound-short Both = omega arith
 bound-short No = omega arith
 
 pub bound-column : (b : Bound) → take 5 (filled 20 (boundText b)) ≡ column 4 (boundText b)
 unfolding column
 bound-column Low = refl
 bound-column High = refl
-bound-column Both = refl
 bound-column No = refl
 
 pub three-long : (r : Rule) → length (numberOf r) ≡ 3

@@ -16,7 +16,7 @@ use Rattle.study_text.specs.Words.{boundOf, numberOf, definitionText}
 use Rattle.study_text.specs.Row.{areNames}
 use Rattle.study_text.specs.declared.rules.Rule.{Rule}
 use Rattle.study_text.specs.declared.words.Bound.{Bound}
-use Rattle.study_text.specs.declared.words.Bound.the-variants.{Low, High, Both, No}
+use Rattle.study_text.specs.declared.words.Bound.the-variants.{Low, High, No}
 
 -- a text and a comma
 unfoldable pub field : List ℕ → List ℕ
@@ -34,7 +34,6 @@ unitText id = unitOf (axisOf id)
 abbrev pub atText : Bound → List ℕ
 atText Low = ascii "low"
 atText High = ascii "high"
-atText Both = ascii "both"
 atText No = ascii "no"
 
 -- the bits of a number, a to f not in capitals

@@ -1,9 +1,11 @@
 pub mod Number
 pub mod Rules
+pub mod Definitions
 pub mod Words
 pub mod Row
 pub mod Made
 pub mod Csv
 pub mod Heading
 pub mod Citations
+pub mod Says
 pub mod Velocity

@@ -6,20 +6,20 @@ use lib.Ieee.{Float, eq}
 use lib.ListN.{length}
 use Rattle.texts.specs.Ascii.{ascii}
 use Rattle.study_text.specs.Number.{filled}
+use Rattle.study_text.specs.Definitions.{definitionOf}
 use Rattle.study_text.specs.declared.rules.Rule.{Rule}
 use Rattle.study_text.specs.declared.rules.Rule.the-variants.{Motor2, Motor0, Motor1, MotorF, Dof2, Dof0, Dof1, Limit2, Limit0, Limit1, LimitF}
 use Rattle.study_text.specs.declared.words.Word.{Word}
 use Rattle.study_text.specs.declared.words.Bound.{Bound}
-use Rattle.study_text.specs.declared.words.Bound.the-variants.{Low, High, Both, No}
+use Rattle.study_text.specs.declared.words.Bound.the-variants.{Low, High, No}
 
--- the bounds that an impulse is equal to, by IEEE 754's equality
+-- the bound that an impulse is equal to, by IEEE 754's equality; none where the two bounds are equal, as those of an idle stop are
 abbrev pub boundOf : Float → Float → Float → Bound
-boundOf impulse low high = cond (eq impulse low) (cond (eq impulse high) Both Low) (cond (eq impulse high) High No)
+boundOf impulse low high = cond (eq low high) No (cond (eq impulse low) Low (cond (eq impulse high) High No))
 
 abbrev pub boundText : Bound → List ℕ
 boundText Low = ascii "low"
 boundText High = ascii "high"
-boundText Both = ascii "both"
 boundText No = ascii "-"
 
 -- the rule's number: the group and the place in it
@@ -36,19 +36,9 @@ numberOf Limit0 = ascii "2.5"
 numberOf Limit1 = ascii "2.6"
 numberOf LimitF = ascii "2.7"
 
--- the name of the definition in rows/specs/Makers
+-- the name of the definition that makes the rule's rows
 abbrev pub definitionText : Rule → List ℕ
-definitionText Motor2 = ascii "motorAngularOf"
-definitionText Motor0 = ascii "motorLinearOf"
-definitionText Motor1 = ascii "motorLinearOf"
-definitionText MotorF = ascii "motorLinearCoupledOf"
-definitionText Dof2 = ascii "lockAngularOf"
-definitionText Dof0 = ascii "lockLinearOf"
-definitionText Dof1 = ascii "lockLinearOf"
-definitionText Limit2 = ascii "limitAngularOf"
-definitionText Limit0 = ascii "limitLinearOf"
-definitionText Limit1 = ascii "limitLinearOf"
-definitionText LimitF = ascii "limitLinearCoupledOf"
+definitionText rule = definitionOf rule .name
 
 -- a word at the left of 20 bytes, and its length
 abbrev pub wordOf : List ℕ → Word

@@ -61,10 +61,6 @@ fn at_word(bound: Bound) -> Word
             bytes: *b"high                ",
             len: 4,
         },
-        Bound::Both => Word {
-            bytes: *b"both                ",
-            len: 4,
-        },
         Bound::No => Word {
             bytes: *b"no                  ",
             len: 2,

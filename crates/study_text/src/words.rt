@@ -25,11 +25,10 @@ pub fn put_word(out: &mut [u8], at: usize, w: Word) -> usize
     put_text(&mut *out, at, &bytes[..len])
 }
 
-// Whether an impulse stands at a bound.
+// The bound that an impulse stands at.
 pub enum Bound {
     Low,
     High,
-    Both,
     No,
 }
 
@@ -58,10 +57,10 @@ pub fn id_word(id: WritebackId) -> Word
 pub fn bound_of(impulse: f32, low: f32, high: f32) -> Bound
     ensures { λ r. ⌜ r ≡ boundOf impulse low high ⌝ }
 {
+    if low == high {
+        return Bound::No;
+    }
     if impulse == low {
-        if impulse == high {
-            return Bound::Both;
-        }
         return Bound::Low;
     }
     if impulse == high {
@@ -80,10 +79,6 @@ pub fn bound_word(bound: Bound) -> Word
         },
         Bound::High => Word {
             bytes: *b"high                ",
-            len: 4,
-        },
-        Bound::Both => Word {
-            bytes: *b"both                ",
             len: 4,
         },
         Bound::No => Word {

@@ -517,11 +517,14 @@ const DEFINITIONS: [&str; 11] = [
 ];
 
 fn stands(x: f32, low: f32, high: f32) -> &'static str {
-    match (x == low, x == high) {
-        (true, true) => "both",
-        (true, false) => "low",
-        (false, true) => "high",
-        _ => "",
+    if low == high {
+        ""
+    } else if x == low {
+        "low"
+    } else if x == high {
+        "high"
+    } else {
+        ""
     }
 }
 

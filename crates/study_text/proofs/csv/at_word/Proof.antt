@@ -15,9 +15,6 @@ enum-told-2 c = search needs
 enum-told-3 : tie.Need-enum-told-3
 enum-told-3 c = search needs
 
-enum-told-4 : tie.Need-enum-told-4
-enum-told-4 c = search needs
-
 returns : tie.Need-returns
 returns c = sym (ap (λ b. wordOf (atText b)) (c .before .before .enum-told .given .1))
 
@@ -27,10 +24,7 @@ returns-2 c = sym (ap (λ b. wordOf (atText b)) (c .before .before .enum-told2 .
 returns-3 : tie.Need-returns-3
 returns-3 c = sym (ap (λ b. wordOf (atText b)) (c .before .before .enum-told3 .given .1))
 
-returns-4 : tie.Need-returns-4
-returns-4 c = sym (ap (λ b. wordOf (atText b)) (c .before .before .enum-told4 .given .1))
-
 pub at-word-spec : {M : Type 1} → statement M
 at-word-spec =
     tie.close
-    (tie.spec enum-told enum-told-2 enum-told-3 enum-told-4 returns returns-2 returns-3 returns-4)
+    (tie.spec enum-told enum-told-2 enum-told-3 returns returns-2 returns-3)

@@ -3,16 +3,16 @@ use Rattle.study_text.proofs.words.bound_of.Statement.{statement}
 use Rattle.study_text.proofs.words.bound_of.Tie as tie
 
 returns : tie.Need-returns
-returns c = simp (c .before .if1 .taken, c .if2 .taken)
+returns c = simp (c .if1 .taken)
 
 returns-2 : tie.Need-returns-2
-returns-2 c = simp (c .before .if1 .taken, c .if2 .left)
+returns-2 c = simp (c .before .if1 .left, c .if2 .taken)
 
 returns-3 : tie.Need-returns-3
-returns-3 c = simp (c .before .if1 .left, c .if3 .taken)
+returns-3 c = simp (c .before .before .if1 .left, c .before .if2 .left, c .if3 .taken)
 
 returns-4 : tie.Need-returns-4
-returns-4 c = simp (c .before .if1 .left, c .if3 .left)
+returns-4 c = simp (c .before .before .if1 .left, c .before .if2 .left, c .if3 .left)
 
 pub bound-of-spec : {M : Type 1} → statement M
 bound-of-spec = tie.close (tie.spec returns returns-2 returns-3 returns-4)
