@@ -1,7 +1,7 @@
 -- What an export reads off the equation that its call promises: the answer's number, and what is left in the storage.
 use Prim.Native.Nat.{ℕ}
-use mathlib.Core.Path.{_≡_, sym, ap, _∙_}
-use mathlib.Core.List.{List, _++_}
+use mathlib.Core.Path.{_≡_, refl, sym, ap, _∙_}
+use mathlib.Core.List.{List, [], _∷_, _++_}
 use lib.ListN.{drop}
 use lib.Ieee.{Float}
 use Rattle.multibody.specs.Model.{Model}
@@ -10,7 +10,11 @@ use Rattle.model.specs.Planar.{planar}
 use Rattle.model.specs.Answers.{sweepAnswerOf}
 use Rattle.model.specs.declared.calls.Plain.{Plain}
 use Rattle.model.specs.declared.calls.SweepAnswer.{SweepAnswer}
-use Rattle.capi.specs.CallExports.{number, marked, markedNumber, countsIf, countsOut, velocityNumber, velocityOut}
+use Rattle.capi.specs.CallExports.{settingsOf, headerOf, number, marked, markedNumber, countsIf, countsOut, velocityNumber, velocityOut}
+
+-- what a caller hands over as a header's settings is read back from it
+pub settings-kept : (dt unit normalized : Float) (built : ℕ) → settingsOf (headerOf dt unit normalized built .params) ≡ dt ∷ unit ∷ normalized ∷ []
+settings-kept dt unit normalized built = refl
 
 -- a number that shows the answer shows that of the outcome
 pub number-told : {a : Answer planar} {m : Model} {rows : List Float} {o : Outcome planar} (r : ℕ) → r ≡ number a → outcome a m rows ≡ o → r ≡ number (o .answer)

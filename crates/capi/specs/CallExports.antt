@@ -1,7 +1,7 @@
 -- The exported calls of the model: a header from its numbers, an answer as a number, and what is stored of a row read and of a velocity read.
 use Prim.Native.Nat.{ℕ, _+_, _%_}
 use mathlib.Core.Bool.{Bool, true, false, not, cond, _&&_}
-use mathlib.Core.List.{List, _++_}
+use mathlib.Core.List.{List, [], _∷_, _++_}
 use lib.Dec.{leb, eqb}
 use lib.ListN.{length, drop}
 use lib.Ieee.{Float}
@@ -31,6 +31,10 @@ use Rattle.capi.specs.Stored.{putThree, putFirst, putIds}
 -- the settings that a row reads
 abbrev pub paramsOf : Float → Float → Float → IntegrationParameters
 paramsOf dt unit normalized = record { dt = dt; «length_unit» = unit; «normalized_max_corrective_velocity» = normalized }
+
+-- the settings in the order in which a caller hands them over. That those of a header are the caller's is a theorem of proofs/CallExportsLaws.antt.
+abbrev pub settingsOf : IntegrationParameters → List Float
+settingsOf params = params .dt ∷ params .«length_unit» ∷ params .«normalized_max_corrective_velocity» ∷ []
 
 -- a flag is a word: 0 is false, and every other word true
 unfoldable pub flag : ℕ → Bool
