@@ -9,7 +9,10 @@ use crate::table::Heading;
 use crate::table::Printed;
 use crate::table::joint_lines;
 use crate::table::out_heading;
+use crate::table::out_reaction_heading;
+use crate::table::out_reaction_notes;
 use crate::table::out_rules;
+use crate::table::reaction_line;
 use floats::pose::Pose;
 use floats::rotation_ops::Rotation;
 use floats::vector::Vector;
@@ -257,6 +260,27 @@ fn all_lines(
     p
 }
 
+// The joints' reactions, a line each, under the rows.
+fn all_reactions(
+    text: &[u8],
+    names: &[u32],
+    header: Header,
+    bodies: &[f32],
+    words: &[u32],
+    numbers: &[f32],
+    rows: &[f32],
+    joints: u32,
+) {
+    out_reaction_heading();
+    let mut j: u32 = 0;
+    while j < joints {
+        let h = heading_of(words, j, false);
+        reaction_line(text, names, header, bodies, words, numbers, rows, h);
+        j += 1;
+    }
+    out_reaction_notes();
+}
+
 fn run_table(
     text: &[u8],
     names: &[u32],
@@ -288,6 +312,7 @@ fn run_table(
     );
     if p.refused == 0 {
         if !csv {
+            all_reactions(text, names, header, bodies, words, numbers, rows, joints);
             out_rules(p.used);
         }
     }

@@ -4,8 +4,10 @@ use model::calls::Plain;
 use model::calls::read_rows;
 use model::header::Header;
 use model::layout::WORLD;
+use model::reactions::reaction_at;
 use rows::joint_velocity_constraint::Rows;
 use rows::joint_velocity_constraint::WritebackId;
+use rows::reaction::Reaction;
 use rows::row_ids::RowIds;
 use study_reader::names::body_name;
 use study_reader::names::joint_name;
@@ -13,6 +15,9 @@ use study_text::citations::write_rules;
 use study_text::csv::write_csv_row;
 use study_text::heading::write_csv_heading;
 use study_text::heading::write_heading;
+use study_text::reaction::write_reaction;
+use study_text::reaction::write_reaction_heading;
+use study_text::reaction::write_reaction_notes;
 use study_text::row::write_row;
 use study_text::rules::rule_index;
 use study_text::rules::rule_of;
@@ -25,19 +30,23 @@ pub fn out_id(id: WritebackId) {
     out_part(&bytes, 0, word.len);
 }
 
-// ---- one row, as text or as comma-separated values
+// ---- one line, as text or as comma-separated values
+
+// What a line has beside the names of its joint and bodies: a row's id, impulse and bounds, or the joint's reaction.
+pub struct Values {
+    pub id: WritebackId,
+    pub impulse: f32,
+    pub low: f32,
+    pub high: f32,
+}
+
+pub enum Line {
+    Row(Values),
+    Reaction(Reaction),
+}
 
 // One row, by the names of its joint and bodies. A name has at most 64 bytes, so that the line fits.
-fn text_row(
-    joint: &[u8],
-    body1: &[u8],
-    body2: &[u8],
-    h: Heading,
-    id: WritebackId,
-    impulse: f32,
-    low: f32,
-    high: f32,
-) {
+fn out_row(joint: &[u8], body1: &[u8], body2: &[u8], h: Heading, v: Values) {
     let mut line = io::buffer();
     if h.csv {
         let n = write_csv_row(
@@ -45,11 +54,11 @@ fn text_row(
             joint,
             body1,
             body2,
-            id,
+            v.id,
             h.coupled,
-            impulse,
-            low,
-            high,
+            v.impulse,
+            v.low,
+            v.high,
         );
         out_part(&line, 0, n);
         return;
@@ -59,28 +68,31 @@ fn text_row(
         joint,
         body1,
         body2,
-        id,
+        v.id,
         h.coupled,
-        impulse,
-        low,
-        high,
+        v.impulse,
+        v.low,
+        v.high,
     );
     out_part(&line, 0, n);
 }
 
-fn text_body2(
-    text: &[u8],
-    names: &[u32],
-    joint: &[u8],
-    body1: &[u8],
-    h: Heading,
-    id: WritebackId,
-    impulse: f32,
-    low: f32,
-    high: f32,
-) {
+fn out_reaction(joint: &[u8], body1: &[u8], body2: &[u8], reaction: Reaction) {
+    let mut line = io::buffer();
+    let n = write_reaction(&mut line, joint, body1, body2, reaction);
+    out_part(&line, 0, n);
+}
+
+fn out_line(joint: &[u8], body1: &[u8], body2: &[u8], h: Heading, line: Line) {
+    match line {
+        Line::Row(v) => out_row(joint, body1, body2, h, v),
+        Line::Reaction(r) => out_reaction(joint, body1, body2, r),
+    }
+}
+
+fn text_body2(text: &[u8], names: &[u32], joint: &[u8], body1: &[u8], h: Heading, line: Line) {
     if h.body2 == WORLD {
-        text_row(joint, body1, b"world", h, id, impulse, low, high);
+        out_line(joint, body1, b"world", h, line);
         return;
     }
     let w = body_name(names, h.body2);
@@ -92,21 +104,12 @@ fn text_body2(
     if end < start {
         return;
     }
-    text_row(joint, body1, &text[start..end], h, id, impulse, low, high);
+    out_line(joint, body1, &text[start..end], h, line);
 }
 
-fn text_body1(
-    text: &[u8],
-    names: &[u32],
-    joint: &[u8],
-    h: Heading,
-    id: WritebackId,
-    impulse: f32,
-    low: f32,
-    high: f32,
-) {
+fn text_body1(text: &[u8], names: &[u32], joint: &[u8], h: Heading, line: Line) {
     if h.body1 == WORLD {
-        text_body2(text, names, joint, b"world", h, id, impulse, low, high);
+        text_body2(text, names, joint, b"world", h, line);
         return;
     }
     let w = body_name(names, h.body1);
@@ -118,28 +121,10 @@ fn text_body1(
     if end < start {
         return;
     }
-    text_body2(
-        text,
-        names,
-        joint,
-        &text[start..end],
-        h,
-        id,
-        impulse,
-        low,
-        high,
-    );
+    text_body2(text, names, joint, &text[start..end], h, line);
 }
 
-fn text_joint(
-    text: &[u8],
-    names: &[u32],
-    h: Heading,
-    id: WritebackId,
-    impulse: f32,
-    low: f32,
-    high: f32,
-) {
+fn text_joint(text: &[u8], names: &[u32], h: Heading, line: Line) {
     let w = joint_name(names, h.joint);
     let start = w.start;
     let end = w.end;
@@ -149,7 +134,7 @@ fn text_joint(
     if end < start {
         return;
     }
-    text_body1(text, names, &text[start..end], h, id, impulse, low, high);
+    text_body1(text, names, &text[start..end], h, line);
 }
 
 // ---- rows
@@ -161,20 +146,6 @@ pub struct Heading {
     pub body2: u32,
     pub coupled: u32,
     pub csv: bool,
-}
-
-// One row; the rules that were used before it and its own, a bit each.
-fn row_line(
-    text: &[u8],
-    names: &[u32],
-    h: Heading,
-    id: WritebackId,
-    impulse: f32,
-    low: f32,
-    high: f32,
-) -> u32 {
-    text_joint(text, names, h, id, impulse, low, high);
-    rule_index(rule_of(id, h.coupled))
 }
 
 fn bit(rule: u32) -> u32 {
@@ -192,16 +163,14 @@ fn row_lines(text: &[u8], names: &[u32], h: Heading, named: RowIds, made: Rows, 
             let one = named.ids[i];
             let id = one.id;
             let row = made.rows[i];
-            let rule = row_line(
-                text,
-                names,
-                h,
+            let values = Values {
                 id,
-                row.impulse,
-                row.impulse_min,
-                row.impulse_max,
-            );
-            all = all | bit(rule);
+                impulse: row.impulse,
+                low: row.impulse_min,
+                high: row.impulse_max,
+            };
+            text_joint(text, names, h, Line::Row(values));
+            all = all | bit(rule_index(rule_of(id, h.coupled)));
         }
         i += 1;
     }
@@ -245,6 +214,35 @@ pub fn joint_lines(
         refused: 0,
         used: row_lines(text, names, h, named, made, used),
     }
+}
+
+// The reaction of one joint: what its rows together gave its bodies.
+pub fn reaction_line(
+    text: &[u8],
+    names: &[u32],
+    header: Header,
+    bodies: &[f32],
+    words: &[u32],
+    numbers: &[f32],
+    rows: &[f32],
+    h: Heading,
+) {
+    let read = read_rows(header, bodies, words, numbers, rows, h.joint);
+    let made = read.rows;
+    let reaction = reaction_at(bodies, words, numbers, made, h.joint as usize);
+    text_joint(text, names, h, Line::Reaction(reaction));
+}
+
+pub fn out_reaction_heading() {
+    let mut line = io::buffer();
+    let n = write_reaction_heading(&mut line);
+    out_part(&line, 0, n);
+}
+
+pub fn out_reaction_notes() {
+    let mut lines = io::buffer();
+    let n = write_reaction_notes(&mut lines);
+    out_part(&lines, 0, n);
 }
 
 pub fn out_heading(csv: bool) {

@@ -5,4 +5,5 @@ pub mod CsvLaws
 pub mod PartsLaws
 pub mod CitationsLaws
 pub mod VelocityLaws
+pub mod ReactionLaws
 pub mod SaysLaws

@@ -211,7 +211,7 @@ millionths-short nan = omega arith
 millionths-short (inf s) = over-short (inf s)
 millionths-short (fin s m e) = whole-short (fin s m e) s (halfEven (m * up e * 10 ^ 6) (down e)) (over-short (fin s m e))
 
-number-length : (x : Float) → length (numberColumn x) ≡ 12
+pub number-length : (x : Float) → length (numberColumn x) ≡ 12
 unfolding numberColumn
 number-length x =
     let n = 11 - length (millionthsText x) in
@@ -225,32 +225,41 @@ number-length x =
 
 -- ---- the line
 
-module _ (joint body1 body2 : List ℕ) (id : WritebackId) (rule : Rule) (impulse low high : Float) where
-  names-length : length (namesText joint body1 body2) ≡ length joint + (11 - length joint + 1) + (length body1 + (9 - length body1 + 1)) + (length body2 + (9 - length body2 + 1))
-  unfolding namesText
-  names-length =
-      omega (
-        arith,
-        length-append (column 11 joint ++ column 9 body1) (column 9 body2),
-        length-append (column 11 joint) (column 9 body1),
-        column-length 11 joint,
-        column-length 9 body1,
-        column-length 9 body2,
-      )
+pub numbers-length : (a b c : Float) → length (numbersText a b c) ≡ 36
+unfolding numbersText
+numbers-length a b c =
+    omega (
+      arith,
+      length-append (numberColumn a ++ numberColumn b) (numberColumn c),
+      length-append (numberColumn a) (numberColumn b),
+      number-length a,
+      number-length b,
+      number-length c,
+    )
 
+pub names-length : (joint body1 body2 : List ℕ)
+    → length (namesText joint body1 body2) ≡ length joint + (11 - length joint + 1) + (length body1 + (9 - length body1 + 1)) + (length body2 + (9 - length body2 + 1))
+unfolding namesText
+names-length joint body1 body2 =
+    omega (
+      arith,
+      length-append (column 11 joint ++ column 9 body1) (column 9 body2),
+      length-append (column 11 joint) (column 9 body1),
+      column-length 11 joint,
+      column-length 9 body1,
+      column-length 9 body2,
+    )
+
+module _ (joint body1 body2 : List ℕ) (id : WritebackId) (rule : Rule) (impulse low high : Float) where
   values-length : length (valuesText id impulse low high) ≡ 48
-  unfolding valuesText numbersText
+  unfolding valuesText
   values-length =
       let bound = column 4 (boundText (boundOf impulse low high)) in
       omega (
         arith,
         length-append (column 6 (idText id) ++ numbersText impulse low high) bound,
         length-append (column 6 (idText id)) (numbersText impulse low high),
-        length-append (numberColumn impulse ++ numberColumn low) (numberColumn high),
-        length-append (numberColumn impulse) (numberColumn low),
-        number-length impulse,
-        number-length low,
-        number-length high,
+        numbers-length impulse low high,
         id-long id,
         bound-long (boundOf impulse low high),
       )
@@ -279,7 +288,7 @@ module _ (joint body1 body2 : List ℕ) (id : WritebackId) (rule : Rule) (impuls
         arith,
         length-append (namesText joint body1 body2 ++ valuesText id impulse low high) (ruleText rule),
         length-append (namesText joint body1 body2) (valuesText id impulse low high),
-        names-length,
+        names-length joint body1 body2,
         values-length,
         rule-length,
       )

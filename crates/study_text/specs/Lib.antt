@@ -3,6 +3,7 @@ pub mod Rules
 pub mod Definitions
 pub mod Words
 pub mod Row
+pub mod Reaction
 pub mod Made
 pub mod Csv
 pub mod Heading

@@ -4,6 +4,7 @@ pub mod citations;
 pub mod csv;
 pub mod heading;
 pub mod number;
+pub mod reaction;
 pub mod row;
 pub mod rules;
 pub mod velocity;

@@ -52,7 +52,7 @@ fn put_id(out: &mut [u8], at: usize, id: WritebackId) -> usize
     put_text(&mut *out, at, &bytes[..7])
 }
 
-fn put_number(out: &mut [u8], at: usize, x: f32) -> usize
+pub(crate) fn put_number(out: &mut [u8], at: usize, x: f32) -> usize
     requires { ⌜ at + length (numberColumn x) ≤ length (now out) ⌝ }
     ensures { λ r. ⌜ Put (now (out .entry)) at (numberColumn x) (now (out .exit)) r ⌝ }
 {
@@ -91,7 +91,13 @@ pub fn put_definition(out: &mut [u8], at: usize, rule: Rule) -> usize
 
 // ---- the line
 
-fn put_names(out: &mut [u8], at: usize, joint: &[u8], body1: &[u8], body2: &[u8]) -> usize
+pub(crate) fn put_names(
+    out: &mut [u8],
+    at: usize,
+    joint: &[u8],
+    body1: &[u8],
+    body2: &[u8],
+) -> usize
     requires { ⌜ at + length (namesText (now joint) (now body1) (now body2)) ≤ length (now out) ⌝ }
     ensures { λ r. ⌜ Put (now (out .entry)) at (namesText (now (joint .entry)) (now (body1 .entry)) (now (body2 .entry))) (now (out .exit)) r ⌝ }
 {
@@ -100,7 +106,7 @@ fn put_names(out: &mut [u8], at: usize, joint: &[u8], body1: &[u8], body2: &[u8]
     put_column(&mut *out, b, body2, 9)
 }
 
-fn put_numbers(out: &mut [u8], at: usize, impulse: f32, low: f32, high: f32) -> usize
+pub(crate) fn put_numbers(out: &mut [u8], at: usize, impulse: f32, low: f32, high: f32) -> usize
     requires { ⌜ at + length (numbersText impulse low high) ≤ length (now out) ⌝ }
     ensures { λ r. ⌜ Put (now (out .entry)) at (numbersText impulse low high) (now (out .exit)) r ⌝ }
 {
@@ -168,16 +174,24 @@ pub fn are_names(a: usize, b: usize, c: usize) -> bool
     c <= LONGEST_NAME
 }
 
+// The length of the columns of names that are so long.
+pub(crate) fn names_length(a: usize, b: usize, c: usize) -> usize
+    requires { ⌜ (a ≤ longestName) × (b ≤ longestName) × (c ≤ longestName) ⌝ }
+    ensures { λ r. ⌜ r ≡ a + (11 - a + 1) + (b + (9 - b + 1)) + (c + (9 - c + 1)) ⌝ }
+{
+    let joint = a + blanks_after(a, 11);
+    let body1 = b + blanks_after(b, 9);
+    let body2 = c + blanks_after(c, 9);
+    joint + body1 + body2
+}
+
 // The length of a line whose names are so long.
 fn line_length(a: usize, b: usize, c: usize, rule: Rule) -> usize
     requires { ⌜ (a ≤ longestName) × (b ≤ longestName) × (c ≤ longestName) ⌝ }
     ensures { λ r. ⌜ r ≡ a + (11 - a + 1) + (b + (9 - b + 1)) + (c + (9 - c + 1)) + 53 + length (definitionText rule) ⌝ }
 {
     let word = definition_word(rule);
-    let joint = a + blanks_after(a, 11);
-    let body1 = b + blanks_after(b, 9);
-    let body2 = c + blanks_after(c, 9);
-    joint + body1 + body2 + 53 + word.len
+    names_length(a, b, c) + 53 + word.len
 }
 
 // ---- what a caller asks for

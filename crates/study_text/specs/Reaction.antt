@@ -1,0 +1,36 @@
+-- A joint's reaction, a line under the table's rows: what the rows of the joint together gave its two bodies, with the definition (rows, `reactionOf`).
+use Prim.Native.Nat.{ℕ}
+use mathlib.Core.Bool.{cond}
+use mathlib.Core.List.{List, [], _++_}
+use lib.Ieee.{Float}
+use lib.ListN.{length}
+use Rattle.rows.specs.declared.reaction.Reaction.{Reaction}
+use Rattle.texts.specs.Ascii.{ascii}
+use Rattle.study_text.specs.Row.{numberColumn, numbersText, namesText, areNames}
+
+-- what body 1 got: the linear impulse in the world, the same along frame 1's axes; the moment at frame 2's place, and what turned body 1 about its centre of mass
+unfoldable pub forcesText : Reaction → List ℕ
+forcesText r =
+    let force = r .impulses .body1 .linear in
+    numbersText (force .x) (force .y) (r .along .x) ++ numbersText (r .along .y) (r .moment) (r .impulses .body1 .angular)
+
+-- what turned body 2 about its centre of mass, and the definition
+unfoldable pub turnedText : Float → List ℕ
+turnedText angular = numberColumn angular ++ ascii "reactionOf\n"
+
+unfoldable pub reactionValues : Reaction → List ℕ
+reactionValues r = forcesText r ++ turnedText (r .impulses .body2 .angular)
+
+unfoldable pub reactionLine : List ℕ → List ℕ → List ℕ → Reaction → List ℕ
+reactionLine joint body1 body2 r = namesText joint body1 body2 ++ reactionValues r
+
+-- the line; none where a name is longer than a study's can be
+unfoldable pub reactionText : List ℕ → List ℕ → List ℕ → Reaction → List ℕ
+reactionText joint body1 body2 r = cond (areNames (length joint) (length body1) (length body2)) (reactionLine joint body1 body2 r) []
+
+-- the line above these lines, and what stands below them
+unfoldable pub reactionHeading : List ℕ
+reactionHeading = ascii "\njoint       body 1    body 2        force x     force y     along x     along y      moment      turn 1      turn 2 definition\n"
+
+unfoldable pub reactionNotes : List ℕ
+reactionNotes = ascii "\nThe reaction of a joint is what its rows together gave body 1, and body 2 the opposite, in millionths: force x, y the linear impulse in the world [N*s]; along x, y the same along the axes of frame 1;\nmoment the angular impulse at the place of frame 2 [N*m*s]; turn 1, turn 2 what each body got about its own centre of mass. A row's impulse multiplies the row as it was made orthogonal to the locks before it\n(finalizeOf): it is the reaction along an axis only where no lock stands before it in its group.\n"

@@ -1,0 +1,105 @@
+// A joint's reaction, a line under the table's rows: what its rows together gave its two bodies.
+ghost use mathlib.Core.Path.{_≡_};
+ghost use Prim.Native.Nat.{_+_, _-_, _≤_};
+ghost use lib.ListN.{length};
+ghost use Rattle.texts.specs.Written.{written, Put};
+ghost use Rattle.study_text.specs.Row.{longestName};
+ghost use Rattle.study_text.specs.Reaction.{forcesText, turnedText, reactionValues, reactionLine, reactionText, reactionHeading, reactionNotes};
+use crate::row::are_names;
+use crate::row::names_length;
+use crate::row::put_names;
+use crate::row::put_number;
+use crate::row::put_numbers;
+use rows::reaction::Reaction;
+use texts::put::put_text;
+use texts::put::write_text;
+
+fn put_forces(out: &mut [u8], at: usize, reaction: Reaction) -> usize
+    requires { ⌜ at + length (forcesText reaction) ≤ length (now out) ⌝ }
+    ensures { λ r. ⌜ Put (now (out .entry)) at (forcesText reaction) (now (out .exit)) r ⌝ }
+{
+    let force = reaction.impulses.body1.linear;
+    let along = reaction.along;
+    let a = put_numbers(&mut *out, at, force.x, force.y, along.x);
+    put_numbers(
+        &mut *out,
+        a,
+        along.y,
+        reaction.moment,
+        reaction.impulses.body1.angular,
+    )
+}
+
+fn put_turned(out: &mut [u8], at: usize, angular: f32) -> usize
+    requires { ⌜ at + length (turnedText angular) ≤ length (now out) ⌝ }
+    ensures { λ r. ⌜ Put (now (out .entry)) at (turnedText angular) (now (out .exit)) r ⌝ }
+{
+    let a = put_number(&mut *out, at, angular);
+    put_text(&mut *out, a, b"reactionOf\n")
+}
+
+fn put_reaction_values(out: &mut [u8], at: usize, reaction: Reaction) -> usize
+    requires { ⌜ at + length (reactionValues reaction) ≤ length (now out) ⌝ }
+    ensures { λ r. ⌜ Put (now (out .entry)) at (reactionValues reaction) (now (out .exit)) r ⌝ }
+{
+    let a = put_forces(&mut *out, at, reaction);
+    put_turned(&mut *out, a, reaction.impulses.body2.angular)
+}
+
+fn put_reaction(
+    out: &mut [u8],
+    at: usize,
+    joint: &[u8],
+    body1: &[u8],
+    body2: &[u8],
+    reaction: Reaction,
+) -> usize
+    requires { ⌜ at + length (reactionLine (now joint) (now body1) (now body2) reaction) ≤ length (now out) ⌝ }
+    ensures { λ r. ⌜ Put (now (out .entry)) at (reactionLine (now (joint .entry)) (now (body1 .entry)) (now (body2 .entry)) reaction) (now (out .exit)) r ⌝ }
+{
+    let a = put_names(&mut *out, at, joint, body1, body2);
+    put_reaction_values(&mut *out, a, reaction)
+}
+
+// Writes the line of a joint's reaction to the front of `out` and answers its length: the joint and its bodies by name, the numbers, the definition. Where `out` is shorter nothing is
+// written, and the length is answered all the same. Where a name is longer than a study's can be there is no line: 0 is answered.
+pub fn write_reaction(
+    out: &mut [u8],
+    joint: &[u8],
+    body1: &[u8],
+    body2: &[u8],
+    reaction: Reaction,
+) -> usize
+    ensures { λ r. ⌜ (r ≡ length (reactionText (now (joint .entry)) (now (body1 .entry)) (now (body2 .entry)) reaction))
+        × (now (out .exit) ≡ written (now (out .entry)) (reactionText (now (joint .entry)) (now (body1 .entry)) (now (body2 .entry)) reaction)) ⌝ }
+{
+    if are_names(joint.len(), body1.len(), body2.len()) {
+        let len = names_length(joint.len(), body1.len(), body2.len()) + 95;
+        if len <= out.len() {
+            put_reaction(&mut *out, 0, joint, body1, body2, reaction);
+            return len;
+        }
+        return len;
+    }
+    0
+}
+
+// The heading of these lines.
+pub fn write_reaction_heading(out: &mut [u8]) -> usize
+    ensures { λ r. ⌜ (r ≡ length reactionHeading) × (now (out .exit) ≡ written (now (out .entry)) reactionHeading) ⌝ }
+{
+    write_text(
+        &mut *out,
+        b"\njoint       body 1    body 2        force x     force y     along x     along y      moment      turn 1      turn 2 definition\n",
+    )
+}
+
+// What their numbers are, in words.
+pub fn write_reaction_notes(out: &mut [u8]) -> usize
+    ensures { λ r. ⌜ (r ≡ length reactionNotes) × (now (out .exit) ≡ written (now (out .entry)) reactionNotes) ⌝ }
+{
+    write_text(
+        &mut *out,
+        b"\nThe reaction of a joint is what its rows together gave body 1, and body 2 the opposite, in millionths: force x, y the linear impulse in the world [N*s]; along x, y the same along the axes of frame 1;\nmoment the angular impulse at the place of frame 2 [N*m*s]; turn 1, turn 2 what each body got about its own centre of mass. A row's impulse multiplies the row as it was made orthogonal to the locks before it\n(finalizeOf): it is the reaction along an axis only where no lock stands before it in its group.\n",
+    )
+}
