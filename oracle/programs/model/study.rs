@@ -1,9 +1,11 @@
 //! A second reading of studies as text (docs/STUDY.md): what the program `study` must print for them, rows by the unchanged Rust
 //! and decimals by Rust's own parser.
 
+use crate::generator::body_of;
 use crate::model::{BODY, Call, GRANTED, JOINT, ROW, Study, WORDS, WORLD, call};
 use crate::sines;
 use rapier2d::pipeline::leaves::{inv, micro_report};
+use rapier2d::pipeline::rows::reaction;
 use std::os::unix::ffi::OsStrExt;
 
 /// How a study ends.
@@ -577,6 +579,21 @@ fn canonical(x: f32) -> u32 {
     if x.is_nan() { 0x7FC0_0000 } else { x.to_bits() }
 }
 
+/// A joint's reaction: what its rows together gave its bodies. The notes below these lines are not rendered anew.
+fn reaction_line(d: &mut Draft, j: usize, out: &mut String) {
+    let s = &d.study;
+    let rows = &s.rows[s.first_row(j) * ROW..][..s.ids(j).len() * ROW];
+    let bodies = [0, 1].map(|k| s.joint(j)[k]);
+    let [one, two] = bodies.map(|i| body_of(s, i));
+    let [x, y, turn1, _, _, turn2, along_x, along_y, moment] = reaction(&one, &two, &s.numbers[j * JOINT..][..JOINT], rows);
+    let joint = String::from_utf8_lossy(&d.joints[j]).into_owned();
+    out.push_str(&format!("{joint:11} {:9} {:9}", name(d, bodies[0]), name(d, bodies[1])));
+    for v in [x, y, along_x, along_y, moment, turn1, turn2] {
+        out.push_str(&format!(" {:>11}", millionths(v)));
+    }
+    out.push_str(" reactionOf\n");
+}
+
 /// The rules' words are not rendered anew: the table's last lines are named by their numbers alone.
 fn table(d: &mut Draft, csv: bool, out: &mut String) -> u64 {
     if !d.study.built {
@@ -595,6 +612,10 @@ fn table(d: &mut Draft, csv: bool, out: &mut String) -> u64 {
         }
     }
     if !csv {
+        out.push_str("\njoint       body 1    body 2        force x     force y     along x     along y      moment      turn 1      turn 2 definition\n");
+        for j in 0..d.joints.len() {
+            reaction_line(d, j, out);
+        }
         out.push_str("rules:");
         for i in 0..11 {
             if used >> i & 1 == 1 {

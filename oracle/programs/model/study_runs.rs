@@ -10,13 +10,20 @@ struct Said {
     errors: String,
 }
 
-/// Standard output without the rules' words: `rules:` and their numbers.
+/// Standard output without the words below reactions and without the rules' words: `rules:` and their numbers.
 fn without_words(out: &str) -> String {
     let mut text = String::new();
     let mut rules: Option<String> = None;
+    let mut notes = false;
     for line in out.split_inclusive('\n') {
+        if line.starts_with("The reaction of a joint is") {
+            notes = true;
+            text.truncate(text.len() - 1);
+        }
         if line.starts_with("impulses and bounds in millionths") {
+            notes = false;
             rules = Some("rules:".to_string());
+        } else if notes {
         } else if let (Some(r), Some(n)) = (&mut rules, line.strip_prefix("  ")) {
             if !line.starts_with("       Definition") {
                 r.push_str(&format!(" {}", &n[..3]));
