@@ -113,7 +113,8 @@ extern "C" {
 
 /* A row, in `rows` and in what a row read writes: 18 numbers, the Rust's JointConstraint. Joint j's rows stand in `rows` after those of the
  * joints before it. A positive impulse moves body 1 along lin_jac and body 2 the other way; with lengths in metres, a linear
- * row's impulse is in N s and an angular row's in N m s. */
+ * row's impulse is in N s and an angular row's in N m s. The lin_jac of a row is no more its axis once the row has been made orthogonal to the locks before it, so
+ * its impulse is not the joint's reaction along that axis: katydidzinc_reaction says that. */
 #define KATYDIDZINC_ROW_WIDTH 18
 #define KATYDIDZINC_ROW_IMPULSE 0
 #define KATYDIDZINC_ROW_IMPULSE_MIN 1
@@ -136,10 +137,11 @@ extern "C" {
 #define KATYDIDZINC_ID_LIMIT 4
 #define KATYDIDZINC_ID_MOTOR 8
 
-/* What a row read and a velocity read are lent: room for so many numbers and ids. */
+/* What a row read, a velocity read and a reaction are lent: room for so many numbers and ids. */
 #define KATYDIDZINC_READ_NUMBERS 108
 #define KATYDIDZINC_READ_IDS 6
 #define KATYDIDZINC_VELOCITY_NUMBERS 3 /* x, y, angular */
+#define KATYDIDZINC_REACTION_NUMBERS 9 /* what body 1 got: x, y, angular; what body 2 got; along the joint's axes x, y; the moment */
 
 /* A motor table holds at most so many records. Its numbers are at most so large in size. */
 #define KATYDIDZINC_MOST_RECORDS 4096
@@ -265,6 +267,19 @@ uint64_t katydidzinc_read_velocity(float dt, float length_unit, float normalized
 uint64_t katydidzinc_set_targets(float dt, float length_unit, float normalized_max_corrective_velocity, uint32_t built,
                                  const float *bodies, size_t bodies_len, const uint32_t *words, size_t words_len,
                                  float *numbers, size_t numbers_len, const uint8_t *table, size_t table_len);
+
+/* ---- Reactions and residuals: functions of the rows that a row read wrote, no calls on a model. They refuse nothing: a joint that is not there counts as one of zeros between the world and the
+ * world, a body as the world, a row as a row of zeros. */
+
+/* The reaction of a joint: what the first n of `rows`, at most 6, together gave its bodies, the angular parts about their centres of mass; what body 1 got along the joint's own axes, the directions of
+ * frame 1; and the moment that body 1 got at the place of frame 2, where the rows act on body 2 (body 2 the opposite). Frames are taken at the poses that `bodies` has. Writes KATYDIDZINC_REACTION_NUMBERS numbers
+ * to `out` and answers KATYDIDZINC_GRANTED; where `out` has fewer, it answers KATYDIDZINC_SHORT_SLICE and writes nothing. */
+uint64_t katydidzinc_reaction(const float *bodies, size_t bodies_len, const uint32_t *words, size_t words_len, const float *numbers, size_t numbers_len,
+                              uint32_t joint, const float *rows, size_t rows_len, uint32_t n, float *out, size_t out_len);
+
+/* The residual of row k of `rows`, a row of that joint: the change that one more step would make to its impulse, at the velocities that `bodies` has. */
+float katydidzinc_residual(const float *bodies, size_t bodies_len, const uint32_t *words, size_t words_len, uint32_t joint,
+                           const float *rows, size_t rows_len, uint32_t k);
 
 /* A number in millionths, exactly, rounded half to even: a whole number below 2^31 in size, KATYDIDZINC_MICRO_OVER where it is larger, KATYDIDZINC_MICRO_NAN. */
 int64_t katydidzinc_micro_report(float x);
@@ -514,6 +529,40 @@ static inline uint64_t katydidzinc_study_read_velocity(const katydidzinc_study *
     return answer != KATYDIDZINC_GRANTED ? answer : katydidzinc_read_velocity(KATYDIDZINC_MODEL_OF(s), body, katydidzinc_numbers_at(out), out_len);
 }
 
+/* A row read, then the joint's reaction: writes it to `out`, which has at least KATYDIDZINC_REACTION_NUMBERS numbers, and answers as the row read does, a granted one as KATYDIDZINC_GRANTED. */
+static inline uint64_t katydidzinc_study_reaction(const katydidzinc_study *s, uint32_t joint, float *out, size_t out_len)
+{
+    float rows[KATYDIDZINC_READ_NUMBERS];
+    uint32_t ids[KATYDIDZINC_READ_IDS];
+    uint64_t answer = katydidzinc_study_check(s, out, out_len, NULL, 0, NULL, 0);
+    if (answer == KATYDIDZINC_GRANTED) {
+        answer = katydidzinc_study_read_rows(s, joint, rows, KATYDIDZINC_READ_NUMBERS, ids, KATYDIDZINC_READ_IDS);
+    }
+    if (answer < KATYDIDZINC_ROWS_GRANTED) {
+        return answer;
+    }
+    return katydidzinc_reaction(katydidzinc_numbers_at(s->bodies), s->bodies_len, katydidzinc_words_at(s->words), s->words_len, katydidzinc_numbers_at(s->numbers), s->numbers_len,
+                                joint, rows, KATYDIDZINC_READ_NUMBERS, katydidzinc_rows_of(answer), katydidzinc_numbers_at(out), out_len);
+}
+
+/* A row read, then the residual of each of the joint's rows: writes them to `out`, which has at least KATYDIDZINC_MOST_ROWS numbers, and answers as the row read does. */
+static inline uint64_t katydidzinc_study_residuals(const katydidzinc_study *s, uint32_t joint, float *out, size_t out_len)
+{
+    float rows[KATYDIDZINC_READ_NUMBERS];
+    uint32_t ids[KATYDIDZINC_READ_IDS], k;
+    uint64_t answer = katydidzinc_study_check(s, out, out_len, NULL, 0, NULL, 0);
+    if (answer == KATYDIDZINC_GRANTED) {
+        answer = katydidzinc_study_read_rows(s, joint, rows, KATYDIDZINC_READ_NUMBERS, ids, KATYDIDZINC_READ_IDS);
+    }
+    if (answer >= KATYDIDZINC_ROWS_GRANTED && out_len < KATYDIDZINC_MOST_ROWS) {
+        return KATYDIDZINC_SHORT_SLICE;
+    }
+    for (k = 0; k < katydidzinc_rows_of(answer); k++) {
+        out[k] = katydidzinc_residual(katydidzinc_numbers_at(s->bodies), s->bodies_len, katydidzinc_words_at(s->words), s->words_len, joint, rows, KATYDIDZINC_READ_NUMBERS, k);
+    }
+    return answer;
+}
+
 static inline uint64_t katydidzinc_study_set_targets(katydidzinc_study *s, const uint8_t *table, size_t table_len)
 {
     static const uint8_t none[1] = {0};
@@ -562,6 +611,22 @@ static inline void katydidzinc_default_joint(uint32_t *words, float *numbers, ui
     numbers[KATYDIDZINC_NATURAL_FREQUENCY] = 1.0e6f;
     numbers[KATYDIDZINC_DAMPING_RATIO] = 1.0f;
     numbers[KATYDIDZINC_CENTER_RE] = 1.0f;
+}
+
+/* The Rust's `set_limits`: limits an axis, 0, 1 or 2, of a joint. A centre of the angular limit that is not given is the middle of its ends, as the Rust has it, typed as an angle; where the ends are a turn or
+ * more apart it stays. A centre that is given is written after this. */
+static inline void katydidzinc_set_limits(uint32_t *words, float *numbers, uint32_t axis, float min, float max)
+{
+    const float half_turn = 3.14159274f; /* f32's pi */
+    float *limits = numbers + KATYDIDZINC_LIMITS_X + axis * KATYDIDZINC_LIMITS_WIDTH;
+    words[KATYDIDZINC_LIMIT_AXES] |= UINT32_C(1) << axis;
+    limits[KATYDIDZINC_LIMIT_MIN] = min;
+    limits[KATYDIDZINC_LIMIT_MAX] = max;
+    if (axis == 2 && (max - min) * 0.5f < half_turn) {
+        words[KATYDIDZINC_CENTER_CHOICE] = KATYDIDZINC_CENTER_ANGLE;
+        numbers[KATYDIDZINC_CENTER_RE] = (min + max) * 0.5f;
+        numbers[KATYDIDZINC_CENTER_IM] = 0.0f;
+    }
 }
 
 #ifdef __cplusplus

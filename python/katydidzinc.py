@@ -54,7 +54,7 @@ ROW_WIDTH = 18
 ROW_IMPULSE, ROW_IMPULSE_MIN, ROW_IMPULSE_MAX, ROW_LIN_JAC, ROW_ANG_JAC1, ROW_ANG_JAC2, ROW_II_ANG_JAC1, ROW_II_ANG_JAC2 = 0, 1, 2, 3, 5, 6, 7, 8
 ROW_INV_LHS, ROW_RHS, ROW_RHS_WO_BIAS, ROW_CFM_GAIN, ROW_CFM_COEFF, ROW_IM1, ROW_IM2 = 9, 10, 11, 12, 13, 14, 16
 ID_DOF, ID_LIMIT, ID_MOTOR = 0, 4, 8
-READ_NUMBERS, READ_IDS, VELOCITY_NUMBERS = 108, 6, 3
+READ_NUMBERS, READ_IDS, VELOCITY_NUMBERS, REACTION_NUMBERS = 108, 6, 3, 9
 MOST_RECORDS, LARGEST_SIZE, TABLE_REFUSED = 4096, 8000000, 4294967296
 GRANTED, ROWS_GRANTED = 0, 4294967296
 MICRO_OVER, MICRO_NAN = 4294967296, 8589934592
@@ -88,6 +88,8 @@ RULES = {
 
 MAX = struct.unpack("f", struct.pack("I", 0x7F7FFFFF))[0]
 """f32::MAX."""
+PI = struct.unpack("f", struct.pack("I", 0x40490FDB))[0]
+"""f32's π."""
 
 
 class Refused(Exception):
@@ -134,6 +136,7 @@ _ARGUMENTS = {
     "read_rows": _model + _numbers + (_u32,) + _numbers + _words,
     "read_velocity": _model + (_u32,) + _numbers,
     "set_targets": _model + _bytes,
+    "reaction": _numbers + _words + _numbers + (_u32,) + _numbers + (_u32,) + _numbers,
     "motor_table_read": _bytes + (_u32,),
     "motor_table_write": _words + (_u32,) + _bytes,
 }
@@ -141,6 +144,7 @@ for _name, _types in _ARGUMENTS.items():
     _function = getattr(_lib, "katydidzinc_" + _name)
     _function.argtypes, _function.restype = _types, ctypes.c_uint64
 _lib.katydidzinc_micro_report.argtypes, _lib.katydidzinc_micro_report.restype = (_f32,), ctypes.c_int64
+_lib.katydidzinc_residual.argtypes, _lib.katydidzinc_residual.restype = _numbers + _words + (_u32,) + _numbers + (_u32,), _f32
 _lib.katydidzinc_motor_table_record.argtypes, _lib.katydidzinc_motor_table_record.restype = _bytes + (ctypes.c_size_t,) + _words, ctypes.c_size_t
 _lib.katydidzinc_motor_table_target.argtypes, _lib.katydidzinc_motor_table_target.restype = (_u32,), _f32
 
@@ -220,6 +224,19 @@ def motor_target(thousandths):
     return _lib.katydidzinc_motor_table_target(operator.index(thousandths) % 2**32)
 
 
+def _rounded(x):
+    """The nearest f32, an infinity past the largest. Of a sum, a difference or half of one of two f32 it is what one rounding gives."""
+    return ctypes.c_float(x).value
+
+
+def _middle(limits):
+    """The angle in the middle of an angular limit, as the Rust takes it; None where the ends are a turn or more apart, or no numbers."""
+    low, high = _rounded(limits.min), _rounded(limits.max)
+    if not _rounded(_rounded(high - low) * 0.5) < PI:
+        return None
+    return _rounded(_rounded(low + high) * 0.5)
+
+
 def _bits(x):
     n = struct.unpack("I", struct.pack("f", x))[0]
     return f"0x{0x7FC00000 if x != x else n:08x}"
@@ -290,7 +307,7 @@ class Joint:
     """A joint between two bodies, each by its name, its number or WORLD. By default it makes no row.
 
     `limits` and `motors` are for the axes 0, 1 (x, y) and 2 (the angle): a dict by axis, or a list of three. The centre of the angular limit is
-    `center`, its cosine and sine, or `center_angle`. `enabled` is True, False or one of the three numbers JOINT_ENABLED to JOINT_DISABLED.
+    `center`, its cosine and sine, or `center_angle`; where neither is given, it is the middle of the limits, as in the Rust. `enabled` is True, False or one of the three numbers JOINT_ENABLED to JOINT_DISABLED.
     """
 
     name: str
@@ -307,7 +324,7 @@ class Joint:
     natural_frequency: float = 1.0e6
     damping_ratio: float = 1.0
     impulses: tuple = (0.0, 0.0, 0.0)
-    center: tuple = (1.0, 0.0)
+    center: object = None
     center_angle: object = None
     enabled: object = True
 
@@ -317,25 +334,39 @@ class Joint:
             raise ValueError("the axes are 0, 1 and 2")
         return [of.get(axis, default()) for axis in range(3)]
 
+    def _center(self):
+        """How the centre is typed, and its two numbers."""
+        if self.center_angle is not None:
+            return CENTER_ANGLE, (self.center_angle, 0.0)
+        if self.center is not None:
+            return CENTER_COSINE_SINE, tuple(self.center)
+        middle = _middle(self._axes(self.limits, Limits)[2])
+        return (CENTER_COSINE_SINE, (1.0, 0.0)) if middle is None else (CENTER_ANGLE, (middle, 0.0))
+
     def _words(self, number):
         models = [m.model for m in self._axes(self.motors, Motor)]
         masks = [self.locked_axes, self.limit_axes, self.motor_axes, self.coupled_axes]
-        typed = CENTER_COSINE_SINE if self.center_angle is None else CENTER_ANGLE
         enabled = {True: JOINT_ENABLED, False: JOINT_DISABLED}[self.enabled] if isinstance(self.enabled, bool) else self.enabled
-        return [_word(w) for w in (number(self.body1), number(self.body2), *masks, *models, enabled, typed)]
+        return [_word(w) for w in (number(self.body1), number(self.body2), *masks, *models, enabled, self._center()[0])]
 
     def _numbers(self):
-        center = self.center if self.center_angle is None else (self.center_angle, 0.0)
         flat = self.frame1._list() + self.frame2._list()
         for one in self._axes(self.limits, Limits) + self._axes(self.motors, Motor):
             flat += one._list()
-        return flat + [self.natural_frequency, self.damping_ratio, *self.impulses, *center]
+        return flat + [self.natural_frequency, self.damping_ratio, *self.impulses, *self._center()[1]]
 
 
 Row = collections.namedtuple("Row", "id kind axis impulse impulse_min impulse_max lin_jac ang_jac1 ang_jac2 ii_ang_jac1 ii_ang_jac2 inv_lhs rhs rhs_wo_bias cfm_gain cfm_coeff im1 im2")
 Row.__doc__ = "A row of a joint: its id (as Motor2, Dof0), kind and axis, and the fields of the Rust's JointConstraint."
 
 Velocity = collections.namedtuple("Velocity", "x y angular")
+
+Impulse = collections.namedtuple("Impulse", "x y angular")
+Impulse.__doc__ = "What a body got: linear x and y, and angular about its centre of mass."
+
+Reaction = collections.namedtuple("Reaction", "joint body1 body2 along moment")
+Reaction.__doc__ = """What a joint's rows together gave its bodies, an Impulse each; body 1's linear part along the joint's own axes; and the moment that body 1 gets at the
+place of frame 2, body 2 the opposite."""
 
 TableRow = collections.namedtuple("TableRow", "joint body1 body2 id unit impulse lower upper at rule definition")
 TableRow.__doc__ = "A row of a table: `at` says which bound its impulse stands at ('low', 'high', 'both' or ''), `rule` and `definition` what made the row."
@@ -494,6 +525,30 @@ class Study:
         out = array.array("f", bytes(4 * VELOCITY_NUMBERS))
         self._call("read_velocity", False, _word(self.body_number(body)), out=out)
         return Velocity(*out)
+
+    def _rows_read(self, joint):
+        """The slices of the bodies, the words and the numbers, a joint's number, and the slice of its rows, for a function that is no call on the model."""
+        out, ids = array.array("f", bytes(4 * READ_NUMBERS)), array.array("I", bytes(4 * READ_IDS))
+        count = self._call("read_rows", True, _word(joint), out=out, ids=ids)
+        return self._slice(self.bodies, "f"), self._slice(self.words, "IL"), self._slice(self.numbers, "f"), out, count
+
+    def reactions(self):
+        """The reaction of each joint of the built study, by the poses that the bodies have. A row's own impulse is no reaction: the row was made orthogonal to the locks before it."""
+        found = []
+        for j, name in enumerate(self.joint_names):
+            bodies, words, numbers, rows, count = self._rows_read(j)
+            out = array.array("f", bytes(4 * REACTION_NUMBERS))
+            _lib.katydidzinc_reaction(*bodies, *words, *numbers, j, *self._slice(rows, "f"), count, *self._slice(out, "f"))
+            found.append(Reaction(name, Impulse(*out[0:3]), Impulse(*out[3:6]), tuple(out[6:8]), out[8]))
+        return found
+
+    def residuals(self):
+        """A list a joint of the built study, a number a row: the change that one more step would make to the row's impulse."""
+        found = []
+        for j in range(len(self.joint_names)):
+            bodies, words, _, rows, count = self._rows_read(j)
+            found.append([_lib.katydidzinc_residual(*bodies, *words, j, *self._slice(rows, "f"), k) for k in range(count)])
+        return found
 
     def set_targets(self, table):
         """Sets the motors' target velocities that a motor table names: text or bytes of RFC 4180 records, each a joint's number, an axis and thousandths."""

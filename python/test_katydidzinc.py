@@ -59,6 +59,19 @@ class Defaults(unittest.TestCase):
         self.assertEqual(s.read_rows("j"), [])
         self.assertEqual((s.length_unit, s.normalized_max_corrective_velocity), (1.0, 3.0))
 
+    def test_center(self):
+        def typed(limits, **given):
+            s = kz.Study([kz.Body()], [kz.Joint("j", kz.WORLD, 0, limit_axes=kz.ANG_X, limits={2: limits}, **given)])
+            return memoryview(s.words).cast("B").cast("I")[kz.CENTER_CHOICE], *memoryview(s.numbers).cast("B").cast("f")[kz.CENTER_RE:].tolist()
+
+        f32 = lambda x: struct.unpack("f", struct.pack("f", x))[0]
+        for low, high, middle in ((0.0, 2.4, f32(1.2)), (-0.5, 0.5, 0.0), (1.0, 1.0, 1.0), (-0.5, 1.2, f32(f32(f32(1.2) - 0.5) * 0.5)), (5.0, -1.0, 2.0), (0.0, 6.28, f32(3.14))):
+            self.assertEqual(typed(kz.Limits(low, high)), (kz.CENTER_ANGLE, middle, 0.0))
+        for limits in (kz.Limits(), kz.Limits(0.0, 2 * kz.PI), kz.Limits(0.0, math.inf), kz.Limits(math.nan, 1.0)):
+            self.assertEqual(typed(limits), (kz.CENTER_COSINE_SINE, 1.0, 0.0))
+        self.assertEqual(typed(kz.Limits(0.0, 2.4), center=(0.0, 1.0)), (kz.CENTER_COSINE_SINE, 0.0, 1.0))
+        self.assertEqual(typed(kz.Limits(0.0, 2.4), center_angle=0.5), (kz.CENTER_ANGLE, 0.5, 0.0))
+
     def test_words(self):
         words = [memoryview(kz.Study([kz.Body()], [kz.Joint("j", kz.WORLD, 0, enabled=e)]).words).cast("B").cast("I")[kz.ENABLED] for e in (True, False, 0, 1, 2)]
         self.assertEqual(words, [0, 2, 0, 1, 2])
@@ -109,6 +122,53 @@ class Calls(unittest.TestCase):
         lines = table.csv().split("\r\n")
         self.assertEqual(len(lines), 6)
         self.assertEqual({line.count(",") for line in lines[:5]}, {13})
+
+    def test_reactions(self):
+        s = pendulum()
+        s.load()
+        s.build()
+        before = s.read_velocity("bob")
+        s.sweep(4)
+        [r], after = s.reactions(), s.read_velocity("bob")
+        self.assertEqual(r.joint, "pin")
+        # the bob is of mass 1 and inertia 0.1, and the world's axes are the joint's
+        for got, was, is_, mass in zip(r.body2, before, after, (1.0, 1.0, 0.1)):
+            self.assertAlmostEqual(got, mass * (is_ - was), places=6)
+        self.assertEqual((r.body1.x, r.body1.y), (-r.body2.x, -r.body2.y))
+        self.assertEqual(r.along, (r.body1.x, r.body1.y))
+        # the pin stands at the origin, and so does the world: the moment is what the world gets there
+        self.assertAlmostEqual(r.moment, r.body1.angular, places=6)
+        rows = s.read_rows("pin")
+        self.assertAlmostEqual(r.moment, sum(row.impulse for row in rows if row.axis == 2), places=5)
+        # a row's impulse is no reaction, where it was made orthogonal to a lock
+        self.assertNotEqual(r.body1.y, next(row.impulse for row in rows if row.id == "Dof1"))
+
+    def test_residuals(self):
+        s = pendulum()
+        s.load()
+        s.build()
+        sizes = []
+        for _ in range(3):
+            [before], rows = s.residuals(), s.read_rows("pin")
+            self.assertEqual(len(before), 4)
+            s.sweep(1)
+            # the first row of the first joint is the first to be stepped
+            change = s.read_rows("pin")[0].impulse - rows[0].impulse
+            self.assertAlmostEqual(before[0], change, places=6)
+            sizes.append(max(map(abs, before)))
+        self.assertLess(sizes[2], sizes[0])
+        s.sweep(64)
+        self.assertLess(max(map(abs, s.residuals()[0])), 1.0e-6)
+
+    def test_neither_is_a_call(self):
+        s = pendulum()
+        s.load()
+        for call in (s.reactions, s.residuals):
+            with self.assertRaises(kz.Refused) as caught:
+                call()
+            self.assertEqual(caught.exception.number, kz.NOT_BUILT)
+        s.build()
+        self.assertEqual((s.reactions()[0].body1, s.reactions()[0].moment), ((0.0, 0.0, 0.0), 0.0))
 
     def test_counts(self):
         for force, count in ((math.inf, 0), (3.0, 0), (0.001, 1)):

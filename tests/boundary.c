@@ -33,11 +33,11 @@ static const size_t whole[SLICES] = {BODIES * KATYDIDZINC_BODY_WIDTH,
                                      KATYDIDZINC_READ_NUMBERS,
                                      KATYDIDZINC_READ_IDS};
 
-enum { LOAD, PLACE, BUILD, WARM_START, SWEEP, REMOVE_BIAS, WRITE_BACK, READ_ROWS, READ_VELOCITY, SET_TARGETS, CALLS };
-static const char *const call_names[CALLS] = {"load", "place", "build", "warm start", "sweep", "bias removal", "write-back", "row read", "velocity read", "motor table"};
+enum { LOAD, PLACE, BUILD, WARM_START, SWEEP, REMOVE_BIAS, WRITE_BACK, READ_ROWS, READ_VELOCITY, SET_TARGETS, REACTION, RESIDUAL, CALLS };
+static const char *const call_names[CALLS] = {"load", "place", "build", "warm start", "sweep", "bias removal", "write-back", "row read", "velocity read", "motor table", "reaction", "residual"};
 /* which slices a granted call may write */
 static const unsigned writes[CALLS] = {0, 1 << IN_BODIES, 1 << IN_ROWS, 1 << IN_BODIES, 1 << IN_BODIES | 1 << IN_ROWS,
-                                       1 << IN_ROWS, 1 << IN_NUMBERS, 1 << IN_OUT | 1 << IN_IDS, 1 << IN_OUT, 1 << IN_NUMBERS};
+                                       1 << IN_ROWS, 1 << IN_NUMBERS, 1 << IN_OUT | 1 << IN_IDS, 1 << IN_OUT, 1 << IN_NUMBERS, 1 << IN_OUT, 0};
 
 /* A slice of bytes beside those: a sweep's counts, or a motor table. */
 static unsigned char *byte_page;
@@ -53,6 +53,7 @@ static unsigned char lengths_seen[SLICES][MOST];
 
 static uint64_t motors_at_bound; /* counted by granted sweeps */
 static uint64_t tables_read;
+static uint64_t residuals; /* that are not 0 */
 
 static uint64_t state;
 
@@ -265,7 +266,13 @@ static void one_call(void)
     case WRITE_BACK: answer = katydidzinc_study_write_back(&s); break;
     case READ_ROWS: answer = katydidzinc_study_read_rows(&s, index, (float *)(void *)at[IN_OUT], lens[IN_OUT], at[IN_IDS], lens[IN_IDS]); break;
     case READ_VELOCITY: answer = katydidzinc_study_read_velocity(&s, index, (float *)(void *)at[IN_OUT], lens[IN_OUT]); break;
-    default: answer = katydidzinc_study_set_targets(&s, bytes_at, bytes_len); break;
+    case SET_TARGETS: answer = katydidzinc_study_set_targets(&s, bytes_at, bytes_len); break;
+    /* no calls on a model: any rows, any joint, any number of rows, and nothing is refused */
+    case REACTION:
+        answer = katydidzinc_reaction(s.bodies, s.bodies_len, s.words, s.words_len, s.numbers, s.numbers_len, index, s.rows, s.rows_len, draw(2) ? draw(9) : KATYDIDZINC_WORLD,
+                                      (float *)(void *)at[IN_OUT], lens[IN_OUT]);
+        break;
+    default: residuals += katydidzinc_residual(s.bodies, s.bodies_len, s.words, s.words_len, index, s.rows, s.rows_len, draw(2) ? draw(20) : KATYDIDZINC_WORLD) != 0.0f; break;
     }
 
     if (katydidzinc_granted(answer)) {
@@ -277,17 +284,18 @@ static void one_call(void)
         if (call == READ_ROWS && (lens[IN_OUT] < KATYDIDZINC_READ_NUMBERS || lens[IN_IDS] < KATYDIDZINC_READ_IDS)) {
             fail("granted into a short slice", call, IN_OUT, answer, lens);
         }
-        if (call == READ_VELOCITY && lens[IN_OUT] < KATYDIDZINC_VELOCITY_NUMBERS) {
+        if ((call == READ_VELOCITY && lens[IN_OUT] < KATYDIDZINC_VELOCITY_NUMBERS) || (call == REACTION && lens[IN_OUT] < KATYDIDZINC_REACTION_NUMBERS)) {
             fail("granted into a short slice", call, IN_OUT, answer, lens);
         }
     } else if (answer == KATYDIDZINC_SHORT_SLICE) {
         answers[call][SHORT]++;
         if (call == READ_ROWS       ? lens[IN_OUT] >= KATYDIDZINC_READ_NUMBERS && lens[IN_IDS] >= KATYDIDZINC_READ_IDS
             : call == READ_VELOCITY ? lens[IN_OUT] >= KATYDIDZINC_VELOCITY_NUMBERS
+            : call == REACTION      ? lens[IN_OUT] >= KATYDIDZINC_REACTION_NUMBERS
                                     : call != SWEEP || bytes_len >= KATYDIDZINC_MOST_JOINTS) {
             fail("no slice is short", call, IN_OUT, answer, lens);
         }
-    } else if (answer >= 1 && answer <= (call == SET_TARGETS ? 15 : 12)) {
+    } else if (call != REACTION && answer >= 1 && answer <= (call == SET_TARGETS ? 15 : 12)) {
         answers[call][answer]++;
     } else {
         fail("no answer of the model", call, SLICES, answer, lens);
@@ -317,6 +325,7 @@ static void one_call(void)
                    : call == READ_ROWS && i == IN_OUT ? rows * KATYDIDZINC_ROW_WIDTH
                    : call == READ_ROWS                ? rows
                    : call == READ_VELOCITY            ? KATYDIDZINC_VELOCITY_NUMBERS
+                   : call == REACTION                 ? KATYDIDZINC_REACTION_NUMBERS
                                                       : lens[i];
         }
         for (k = from; k < lens[i]; k++) {
@@ -381,7 +390,7 @@ static void one_table(void)
 }
 
 /* What the checked calls find before they make a call. */
-#define CHECKS 17
+#define CHECKS 21
 static void checks(void)
 {
     static float bodies[KATYDIDZINC_BODY_WIDTH], numbers[KATYDIDZINC_NUMBERS_WIDTH], rows[KATYDIDZINC_ROW_WIDTH], out[KATYDIDZINC_READ_NUMBERS + 1];
@@ -404,7 +413,11 @@ static void checks(void)
                                         KATYDIDZINC_BROKEN_TABLE,
                                         KATYDIDZINC_NOT_THREE_NUMBERS,
                                         KATYDIDZINC_ABSENT_AXIS,
-                                        KATYDIDZINC_BAD_SLICE};
+                                        KATYDIDZINC_BAD_SLICE,
+                                        KATYDIDZINC_NOT_BUILT,
+                                        KATYDIDZINC_OVERLAP,
+                                        KATYDIDZINC_BAD_SLICE,
+                                        KATYDIDZINC_ABSENT};
     static const uint8_t table[] = "0,2,1\n0,2\r\n0,2,1";
     int i;
     katydidzinc_default_body(bodies);
@@ -430,6 +443,11 @@ static void checks(void)
     got[14] = katydidzinc_study_set_targets(&s, table + 6, 5);
     got[15] = katydidzinc_study_set_targets(&s, table + 11, 5);
     got[16] = katydidzinc_study_set_targets(&s, table, SIZE_MAX);
+    got[17] = katydidzinc_study_reaction(&s, 0, out, KATYDIDZINC_REACTION_NUMBERS);
+    got[18] = katydidzinc_study_reaction(&s, 0, bodies, KATYDIDZINC_REACTION_NUMBERS);
+    got[19] = katydidzinc_study_residuals(&s, 0, NULL, KATYDIDZINC_MOST_ROWS);
+    t = s, t.built = 1;
+    got[20] = katydidzinc_study_residuals(&t, 0, out, KATYDIDZINC_MOST_ROWS);
     (void)ids;
     for (i = 0; i < CHECKS; i++) {
         if (got[i] != wanted[i]) {
@@ -502,7 +520,8 @@ int main(int argc, char **argv)
             return count >= 100000;
         }
     }
-    printf("%" PRIu64 " motors at a bound in the last rounds; %" PRIu64 " motor tables read, written and read again\n", motors_at_bound, tables_read);
+    printf("%" PRIu64 " motors at a bound in the last rounds; %" PRIu64 " residuals that are not 0; %" PRIu64 " motor tables read, written and read again\n", motors_at_bound, residuals,
+           tables_read);
     printf("%ld calls, every length from 0 to two past the last record, no guard broken\n", count);
     return 0;
 }

@@ -48,15 +48,10 @@ static void joint(int j, uint32_t body1, uint32_t body2, float x1, float y1, flo
     n[KATYDIDZINC_FRAME2 + KATYDIDZINC_POSE_Y] = y2;
 }
 
-/* The ends of the angular limit, and the cosine and sine of its middle. */
-static void stop(int j, float min, float max, float cosine, float sine)
+/* The ends of the angular limit. Its centre is their middle. */
+static void stop(int j, float min, float max)
 {
-    float *n = numbers + j * KATYDIDZINC_NUMBERS_WIDTH;
-    words[j * KATYDIDZINC_WORDS_WIDTH + KATYDIDZINC_LIMIT_AXES] = KATYDIDZINC_ANG_X;
-    n[KATYDIDZINC_LIMITS_ANGULAR + KATYDIDZINC_LIMIT_MIN] = min;
-    n[KATYDIDZINC_LIMITS_ANGULAR + KATYDIDZINC_LIMIT_MAX] = max;
-    n[KATYDIDZINC_CENTER_RE] = cosine;
-    n[KATYDIDZINC_CENTER_IM] = sine;
+    katydidzinc_set_limits(words + j * KATYDIDZINC_WORDS_WIDTH, numbers + j * KATYDIDZINC_NUMBERS_WIDTH, 2, min, max);
 }
 
 static void motor(int j, float target_vel, float damping, float max_force)
@@ -134,9 +129,9 @@ int main(void)
     joint(0, KATYDIDZINC_WORLD, 0, 0.0f, 1.0f, 0.0f, 0.25f);
     motor(0, 1.0f, 10.0f, 50.0f);
     joint(1, 0, 1, 0.0f, -0.25f, 0.0f, 0.2f);
-    stop(1, 0.0f, 2.4f, 0.36235775f, 0.9320391f);
+    stop(1, 0.0f, 2.4f);
     joint(2, 1, 2, 0.0f, -0.2f, -0.0625f, 0.06875f);
-    stop(2, -0.5f, 0.5f, 1.0f, 0.0f);
+    stop(2, -0.5f, 0.5f);
     motor(2, 0.0f, 5.0f, 30.0f);
 
     granted("load", katydidzinc_study_load(&s));

@@ -27,7 +27,7 @@ def leg():
             ),
             kz.Joint(
                 "knee", "thigh", "shank", PLANE, limit_axes=kz.ANG_X, frame1=kz.Pose(0.0, -0.25), frame2=kz.Pose(0.0, 0.2),
-                limits={2: kz.Limits(0.0, 2.4)}, center=(0.36235775, 0.9320391),
+                limits={2: kz.Limits(0.0, 2.4)},
             ),
             kz.Joint(
                 "ankle", "shank", "foot", PLANE, limit_axes=kz.ANG_X, motor_axes=kz.ANG_X, frame1=kz.Pose(0.0, -0.2), frame2=kz.Pose(-0.0625, 0.06875),

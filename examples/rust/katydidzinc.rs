@@ -21,14 +21,15 @@ pub const BODY2: usize = 1;
 pub const LOCKED_AXES: usize = 2;
 pub const LIMIT_AXES: usize = 3;
 pub const MOTOR_AXES: usize = 4;
+pub const CENTER_CHOICE: usize = 10;
 pub const LIN_X: u32 = 1;
 pub const LIN_Y: u32 = 2;
 pub const ANG_X: u32 = 4;
+pub const CENTER_ANGLE: u32 = 1;
 pub const NUMBERS_WIDTH: usize = 42;
 pub const FRAME1: usize = 0;
 pub const FRAME2: usize = 4;
 pub const LIMITS_X: usize = 8;
-pub const LIMITS_ANGULAR: usize = 14;
 pub const LIMITS_WIDTH: usize = 3;
 pub const LIMIT_MIN: usize = 0;
 pub const LIMIT_MAX: usize = 1;
@@ -41,7 +42,6 @@ pub const MOTOR_MAX_FORCE: usize = 4;
 pub const NATURAL_FREQUENCY: usize = 35;
 pub const DAMPING_RATIO: usize = 36;
 pub const CENTER_RE: usize = 40;
-pub const CENTER_IM: usize = 41;
 pub const ROW_WIDTH: usize = 18;
 pub const ROW_IMPULSE: usize = 0;
 pub const ID_LIMIT: u32 = 4;
@@ -139,6 +139,18 @@ macro_rules! call {
             )
         })
     }};
+}
+
+/// The Rust's `set_limits`, of a joint's words and numbers: limits an axis, 0, 1 or 2. A centre of the angular limit that is not given is the middle of its ends, typed as an angle; where they are a
+/// turn or more apart it stays.
+pub fn set_limits(words: &mut [u32], numbers: &mut [f32], axis: usize, min: f32, max: f32) {
+    words[LIMIT_AXES] |= 1 << axis;
+    numbers[LIMITS_X + axis * LIMITS_WIDTH + LIMIT_MIN] = min;
+    numbers[LIMITS_X + axis * LIMITS_WIDTH + LIMIT_MAX] = max;
+    if axis == 2 && (max - min) * 0.5 < std::f32::consts::PI {
+        words[CENTER_CHOICE] = CENTER_ANGLE;
+        numbers[CENTER_RE] = (min + max) * 0.5;
+    }
 }
 
 impl Study {

@@ -24,11 +24,9 @@ fn joint(s: &mut Study, body1: u32, body2: u32, at1: [f32; 2], at2: [f32; 2]) ->
     (w, n)
 }
 
-/// The ends of the angular limit, and the cosine and sine of its middle.
-fn stop((w, n): (&mut [u32], &mut [f32]), min: f32, max: f32, cosine: f32, sine: f32) {
-    w[LIMIT_AXES] = ANG_X;
-    (n[LIMITS_ANGULAR + LIMIT_MIN], n[LIMITS_ANGULAR + LIMIT_MAX]) = (min, max);
-    (n[CENTER_RE], n[CENTER_IM]) = (cosine, sine);
+/// The ends of the angular limit. Its centre is their middle.
+fn stop((w, n): (&mut [u32], &mut [f32]), min: f32, max: f32) {
+    set_limits(w, n, 2, min, max);
 }
 
 fn motor((w, n): (&mut [u32], &mut [f32]), target_vel: f32, damping: f32, max_force: f32) {
@@ -44,9 +42,9 @@ fn leg() -> Study {
     body(&mut s, 0.0, 0.3, 20.0, 0.25, [0.25, -0.25, -2.0]);
     body(&mut s, 0.0625, 0.03125, 200.0, 1.0, [0.0, -0.25, 0.5]);
     motor(joint(&mut s, WORLD, 0, [0.0, 1.0], [0.0, 0.25]), 1.0, 10.0, 50.0);
-    stop(joint(&mut s, 0, 1, [0.0, -0.25], [0.0, 0.2]), 0.0, 2.4, 0.36235775, 0.9320391);
+    stop(joint(&mut s, 0, 1, [0.0, -0.25], [0.0, 0.2]), 0.0, 2.4);
     let (w, n) = joint(&mut s, 1, 2, [0.0, -0.2], [-0.0625, 0.06875]);
-    stop((&mut *w, &mut *n), -0.5, 0.5, 1.0, 0.0);
+    stop((&mut *w, &mut *n), -0.5, 0.5);
     motor((w, n), 0.0, 5.0, 30.0);
     s
 }
