@@ -29,9 +29,9 @@ use study_reader::storage::BODIES;
 use study_reader::storage::JOINTS;
 use study_reader::storage::MOST;
 use study_reader::storage::number_at;
+use study_reader::tables::number_in;
 use study_reader::words::Word;
 use study_reader::words::column_of;
-use study_reader::words::is;
 use study_reader::words::line_of;
 use study_writer::study::write_study;
 use warnings::warnings;
@@ -344,37 +344,23 @@ const DRAW: u32 = 7;
 
 const PRINT: u32 = 8;
 
-fn same(a: &[u8], b: &[u8]) -> bool {
-    is(
-        a,
+fn option_of(arg: &[u8]) -> u32 {
+    number_in(
+        b"\
+        check 1\n\
+        --help 3\n\
+        --version 4\n\
+        --status 5\n\
+        draw 7\n\
+        print 8\n\
+        ",
+        FILE,
+        arg,
         Word {
             start: 0,
-            end: a.len(),
+            end: arg.len(),
         },
-        b,
     )
-}
-
-fn option_of(arg: &[u8]) -> u32 {
-    if same(arg, b"check") {
-        return CHECK;
-    }
-    if same(arg, b"draw") {
-        return DRAW;
-    }
-    if same(arg, b"print") {
-        return PRINT;
-    }
-    if same(arg, b"--help") {
-        return HELP;
-    }
-    if same(arg, b"--version") {
-        return VERSION;
-    }
-    if same(arg, b"--status") {
-        return STATUS;
-    }
-    FILE
 }
 
 // Argument i by its kind.

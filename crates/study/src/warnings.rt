@@ -1,5 +1,6 @@
 // What document 01 lets through and a person wants to hear about. Warnings go to standard error and change nothing.
 use crate::out::err;
+use crate::out::err_line;
 use crate::out::err_number;
 use crate::out::err_part;
 use study_reader::names::body_name;
@@ -13,13 +14,64 @@ use study_reader::storage::words_base;
 use study_reader::words::Word;
 use study_reader::words::line_of;
 
-fn warn(text: &[u8], what: &[u8], w: Word, message: &[u8]) {
+// What is told of a body, and from FRAME1 on of a joint.
+const ROTATION: u32 = 0;
+
+const NEGATIVE_MASS: u32 = 1;
+
+const NOT_NAMED: u32 = 2;
+
+const FRAME1: u32 = 3;
+
+const FRAME2: u32 = 4;
+
+const FRAME1_ROTATION: u32 = 5;
+
+const FRAME2_ROTATION: u32 = 6;
+
+const LIMITS_X: u32 = 7;
+
+const LIMITS_Y: u32 = 8;
+
+const LIMITS_ANGLE: u32 = 9;
+
+const CENTRE: u32 = 10;
+
+fn say_warning(k: u32) {
+    err_line(
+        b"\
+        : its rotation is far from unit length\n\
+        : a negative inverse mass\n\
+        : no joint names it\n\
+        : frame1 was never given\n\
+        : frame2 was never given\n\
+        : frame1's rotation is far from unit length\n\
+        : frame2's rotation is far from unit length\n\
+        : the limits of x are reversed\n\
+        : the limits of y are reversed\n\
+        : the limits of angle are reversed\n\
+        : its centre is far from unit length\n\
+        ",
+        k,
+    );
+}
+
+fn say_kind(k: u32) {
+    if k < FRAME1 {
+        err(b"body ");
+    } else {
+        err(b"joint ");
+    }
+}
+
+fn warn(text: &[u8], w: Word, k: u32) {
     err(b"study: line ");
     err_number(line_of(text, w.start));
     err(b": warning: ");
-    err(what);
+    say_kind(k);
     err_part(text, w.start, w.end);
-    err(message);
+    say_warning(k);
+    err(b"\n");
 }
 
 // A rotation's length is more than a thousandth away from 1.
@@ -31,10 +83,10 @@ fn is_far(re: f32, im: f32) -> bool {
     length < 0.998
 }
 
-fn warn_rotation(text: &[u8], draft: &[f32], at: usize, what: &[u8], w: Word, message: &[u8]) {
+fn warn_rotation(text: &[u8], draft: &[f32], at: usize, w: Word, k: u32) {
     if at < NUMBERS {
         if is_far(number_at(draft, at), number_at(draft, at + 1)) {
-            warn(text, what, w, message);
+            warn(text, w, k);
         }
     }
 }
@@ -67,21 +119,14 @@ fn warn_body(text: &[u8], draft: &[f32], words: &[u32], names: &[u32], joints: u
     if NUMBERS <= base {
         return;
     }
-    warn_rotation(
-        text,
-        draft,
-        base,
-        b"body ",
-        w,
-        b": its rotation is far from unit length\n",
-    );
+    warn_rotation(text, draft, base, w, ROTATION);
     if number_at(draft, base + 5) < 0.0 {
-        warn(text, b"body ", w, b": a negative inverse mass\n");
+        warn(text, w, NEGATIVE_MASS);
     } else if number_at(draft, base + 6) < 0.0 {
-        warn(text, b"body ", w, b": a negative inverse mass\n");
+        warn(text, w, NEGATIVE_MASS);
     }
     if !is_named(words, joints, i) {
-        warn(text, b"body ", w, b": no joint names it\n");
+        warn(text, w, NOT_NAMED);
     }
 }
 
@@ -91,30 +136,16 @@ fn warn_frames(text: &[u8], draft: &[f32], origins: &[u32], base: usize, w: Word
     }
     if word_at(origins, base + 2) == 0 {
         if word_at(origins, base) == 0 {
-            warn(text, b"joint ", w, b": frame1 was never given\n");
+            warn(text, w, FRAME1);
         }
     }
     if word_at(origins, base + 6) == 0 {
         if word_at(origins, base + 4) == 0 {
-            warn(text, b"joint ", w, b": frame2 was never given\n");
+            warn(text, w, FRAME2);
         }
     }
-    warn_rotation(
-        text,
-        draft,
-        base,
-        b"joint ",
-        w,
-        b": frame1's rotation is far from unit length\n",
-    );
-    warn_rotation(
-        text,
-        draft,
-        base + 4,
-        b"joint ",
-        w,
-        b": frame2's rotation is far from unit length\n",
-    );
+    warn_rotation(text, draft, base, w, FRAME1_ROTATION);
+    warn_rotation(text, draft, base + 4, w, FRAME2_ROTATION);
 }
 
 fn warn_limits(text: &[u8], draft: &[f32], base: usize, w: Word) {
@@ -122,13 +153,13 @@ fn warn_limits(text: &[u8], draft: &[f32], base: usize, w: Word) {
         return;
     }
     if number_at(draft, base + 9) < number_at(draft, base + 8) {
-        warn(text, b"joint ", w, b": the limits of x are reversed\n");
+        warn(text, w, LIMITS_X);
     }
     if number_at(draft, base + 12) < number_at(draft, base + 11) {
-        warn(text, b"joint ", w, b": the limits of y are reversed\n");
+        warn(text, w, LIMITS_Y);
     }
     if number_at(draft, base + 15) < number_at(draft, base + 14) {
-        warn(text, b"joint ", w, b": the limits of angle are reversed\n");
+        warn(text, w, LIMITS_ANGLE);
     }
 }
 
@@ -141,14 +172,7 @@ fn warn_joint(text: &[u8], draft: &[f32], origins: &[u32], words: &[u32], names:
     if o < NUMBERS {
         if word_at(words, o + 10) == 0 {
             if base < NUMBERS {
-                warn_rotation(
-                    text,
-                    draft,
-                    base + 40,
-                    b"joint ",
-                    w,
-                    b": its centre is far from unit length\n",
-                );
+                warn_rotation(text, draft, base + 40, w, CENTRE);
             }
         }
     }
