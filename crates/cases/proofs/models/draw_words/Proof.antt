@@ -27,12 +27,6 @@ loop-less c = search needs
 loop-again : tie.Need-loop-again Inv-loop μ-loop
 loop-again c = search needs
 
-set-word-requires-2 : tie.Need-set-word-requires-2 Inv-loop μ-loop
-set-word-requires-2 c κs = search needs
-
-set-word-requires-3 : tie.Need-set-word-requires-3 Inv-loop μ-loop
-set-word-requires-3 c κs = search needs
-
 same-length : tie.Need-same-length Inv-loop μ-loop
 same-length c = search needs
 
@@ -50,7 +44,5 @@ draw-words-spec =
     add-i
     loop-less
     loop-again
-    set-word-requires-2
-    set-word-requires-3
     same-length
     returns)
