@@ -4,6 +4,8 @@ pub mod Made
 pub mod CsvLaws
 pub mod PartsLaws
 pub mod CitationsLaws
+pub mod NamedLaws
 pub mod VelocityLaws
 pub mod ReactionLaws
+pub mod ResidualLaws
 pub mod SaysLaws

@@ -9,4 +9,6 @@ pub mod Csv
 pub mod Heading
 pub mod Citations
 pub mod Says
+pub mod Named
 pub mod Velocity
+pub mod Residual

@@ -1,13 +1,10 @@
 -- A body's velocity, as a velocity read prints it.
 use Prim.Native.Nat.{ℕ}
-use mathlib.Core.Bool.{cond}
-use mathlib.Core.List.{List, [], _++_}
-use lib.Dec.{leb}
+use mathlib.Core.List.{List, _++_}
 use lib.Ieee.{Float}
-use lib.ListN.{length}
 use Rattle.texts.specs.Ascii.{ascii}
 use Rattle.study_text.specs.Number.{millionthsText}
-use Rattle.study_text.specs.Row.{longestName}
+use Rattle.study_text.specs.Named.{namedText}
 
 unfoldable pub movesText : Float → Float → List ℕ
 movesText x y = ascii " moves " ++ millionthsText x ++ ascii " " ++ millionthsText y ++ ascii " millionths of m/s, turns "
@@ -18,6 +15,6 @@ turnsText angular = millionthsText angular ++ ascii " millionths of rad/s\n"
 unfoldable pub motionText : Float → Float → Float → List ℕ
 motionText x y angular = movesText x y ++ turnsText angular
 
--- the body's name and its velocity; nothing where the name is longer than a study's can be
-unfoldable pub velocityText : List ℕ → Float → Float → Float → List ℕ
-velocityText name x y angular = cond (leb (length name) longestName) (name ++ motionText x y angular) []
+-- the body's name and its velocity
+abbrev pub velocityText : List ℕ → Float → Float → Float → List ℕ
+velocityText name x y angular = namedText name (motionText x y angular)

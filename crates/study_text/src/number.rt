@@ -5,6 +5,8 @@ ghost use lib.ListN.{length};
 ghost use Rattle.texts.specs.Written.{Put};
 ghost use Rattle.study_text.specs.Number.{signed, overText, millionthsText, columnOf};
 ghost use Rattle.motor_table.specs.Text.{numberText};
+ghost use Rattle.decimals.specs.Spelled.{spelledText};
+use decimals::spelled::spelled;
 use floats::bits::Parts;
 use floats::bits::parts_of;
 use floats::micro_report::MicroReport;
@@ -95,4 +97,15 @@ pub fn put_millionths(out: &mut [u8], at: usize, x: f32) -> usize
     let bytes = number.bytes;
     let start = number.start;
     put_text(&mut *out, at, &bytes[start..11])
+}
+
+// The number as a decimal that reads as it, put in from `at` on; answers where it ends.
+pub fn put_spelled(out: &mut [u8], at: usize, x: f32) -> usize
+    requires { ⌜ at + length (spelledText x) ≤ length (now out) ⌝ }
+    ensures { λ r. ⌜ Put (now (out .entry)) at (spelledText x) (now (out .exit)) r ⌝ }
+{
+    let word = spelled(x);
+    let bytes = word.bytes;
+    let len = word.len;
+    put_text(&mut *out, at, &bytes[..len])
 }

@@ -4,8 +4,8 @@ ghost use Prim.Native.Nat.{_+_, _≤_};
 ghost use lib.ListN.{length};
 ghost use Rattle.texts.specs.Written.{written, Put};
 ghost use Rattle.study_text.specs.Velocity.{movesText, turnsText, motionText, velocityText};
+use crate::named::write_named;
 use crate::number::put_millionths;
-use crate::row::LONGEST_NAME;
 use texts::put::put_text;
 
 fn put_moves(out: &mut [u8], at: usize, x: f32, y: f32) -> usize
@@ -35,22 +35,12 @@ fn put_motion(out: &mut [u8], at: usize, x: f32, y: f32, angular: f32) -> usize
     put_turns(&mut *out, a, angular)
 }
 
-// Writes the line to the front of `out` and answers its length. Where `out` is shorter nothing is written, and the length is answered all
-// the same. Where the name is longer than a study's can be there is no line: 0 is answered.
+// Writes the line, as `write_named` does.
 pub fn write_velocity(out: &mut [u8], name: &[u8], x: f32, y: f32, angular: f32) -> usize
     ensures { λ r. ⌜ (r ≡ length (velocityText (now (name .entry)) x y angular))
         × (now (out .exit) ≡ written (now (out .entry)) (velocityText (now (name .entry)) x y angular)) ⌝ }
 {
-    if LONGEST_NAME < name.len() {
-        return 0;
-    }
     let mut motion = [0u8; 128];
     let n = put_motion(&mut motion, 0, x, y, angular);
-    let len = name.len() + n;
-    if len <= out.len() {
-        let a = put_text(&mut *out, 0, name);
-        put_text(&mut *out, a, &motion[..n]);
-        return len;
-    }
-    len
+    write_named(&mut *out, name, &motion[..n])
 }
