@@ -16,7 +16,7 @@ use Rattle.study_reader.specs.Words.{nextWord, isEmpty, isWord, wholeOf}
 use Rattle.study_reader.specs.Numbers.{numberIn, numberFault, valueOf}
 use Rattle.study_reader.specs.Names.{ABSENT}
 use Rattle.study_reader.specs.Keywords.{callKeyword}
-use Rattle.study_reader.specs.Calls.{bareCall, wrong, withWord, withNumber, withPose, withRotation, withWarm, first, second, ofNumber, ofWhole, ofNamed, readWhole, rotationOf, readRotation, poseOf, readPose, readSubstep, buildOf, arguments, readCall}
+use Rattle.study_reader.specs.Calls.{bareCall, wrong, withWord, withNumber, withPose, withRotation, withWarm, first, second, ofNumber, ofWhole, ofNamed, readWhole, rotationOf, readRotation, poseOf, readPose, readSubstep, buildOf, readMost, settleOf, arguments, readCall}
 use Rattle.study_reader.specs.declared.words.Word.{Word}
 use Rattle.study_reader.specs.declared.words.Whole.{Whole}
 use Rattle.study_reader.specs.declared.calls.Line.{Line}
@@ -123,6 +123,17 @@ module _ (text : List ℕ) (l : Line) (v w : Word) (a : Reading) (fault : ℕ) (
   pub warm-is : isWord text v (ascii "warm") ≡ true → fault ≡ 0 → (x : Float) → x ≡ valueOf a → readSubstep text (withWarm l x (w .end)) ≡ buildOf text l v w
   unfolding buildOf
   warm-is e z x d = number-is l w _ text a fault p q z x d ∙ true-is _ _ _ e
+
+-- ---- `settle`
+
+module _ (text : List ℕ) (l : Line) (v : Word) (a : Reading) (fault : ℕ) (p : a ≡ numberIn text v) (q : fault ≡ numberFault a) where
+  pub tolerance-not : (fault ≡ 0 → ⊥) → wrong l fault (v .start) ≡ settleOf text l v
+  unfolding settleOf
+  tolerance-not z = number-not l v _ text a fault p q z
+
+  pub tolerance-is : fault ≡ 0 → (x : Float) → x ≡ valueOf a → readMost text (withPose l x (l .y) (v .end)) ≡ settleOf text l v
+  unfolding settleOf
+  tolerance-is z x d = number-is l v _ text a fault p q z x d
 
 -- ---- a call
 

@@ -14,8 +14,8 @@ use Rattle.study_reader.specs.Words.{isBlank, endsWord, runOf, lineCount
 use Rattle.study_reader.specs.Numbers.{numberIn}
 use Rattle.study_reader.specs.Names.{ABSENT, findBody, findJoint}
 use Rattle.study_reader.specs.Faults.{faultNested, faultNoRepeat}
-use Rattle.study_reader.specs.Keywords.{readRowsKeyword, readVelocityKeyword, setTargetsKeyword, repeatKeyword, endKeyword, tableKeyword, placeKeyword, buildKeyword, sweepKeyword}
-use Rattle.study_reader.specs.Calls.{bareCall, wrong, withWord, withNumber, withPlace, withPose, withRotation, withWarm, first, second, ofNumber, ofWhole, ofNamed, readBody, readSubstep, rotationOf, poseOf, placeOf, substepOf, buildOf, csvOf, fileOf, readRepeat, readEnd, otherArguments, arguments, readCall}
+use Rattle.study_reader.specs.Keywords.{readRowsKeyword, readVelocityKeyword, setTargetsKeyword, repeatKeyword, endKeyword, tableKeyword, settleKeyword, placeKeyword, buildKeyword, sweepKeyword}
+use Rattle.study_reader.specs.Calls.{bareCall, wrong, withWord, withNumber, withPlace, withPose, withRotation, withWarm, first, second, ofNumber, ofWhole, ofNamed, readBody, readSubstep, rotationOf, poseOf, placeOf, substepOf, buildOf, csvOf, readMost, mostOf, settleOf, fileOf, readRepeat, readEnd, otherArguments, arguments, readCall}
 use Rattle.study_reader.specs.declared.words.Word.{Word}
 use Rattle.study_reader.specs.declared.words.Whole.{Whole}
 use Rattle.study_reader.specs.declared.calls.Line.{Line}
@@ -132,6 +132,16 @@ module _ (text : List ℕ) where
       within-cond (isEmpty w) _ _ h
       (within-cond (isWord text w (ascii "csv")) _ _ (record { at = e; fault = h .fault }) (record { at = h .at; fault = s }))
 
+  within-most : (l : Line) → Within text l → Within text (readMost text l)
+  unfolding mostOf
+  within-most l h =
+      within-cond (isEmpty (first text l)) _ _ (record { at = h .at; fault = h .fault })
+      (within-whole l _ _ (start-inside text (l .at) (h .at)) (end-inside text (l .at) (h .at)) h)
+
+  within-settle : (l : Line) (v : Word) → v .start ≤ length text → v .end ≤ length text → Within text l → Within text (settleOf text l v)
+  unfolding settleOf
+  within-settle l v s e h = within-number l v (numberIn text v) _ s h (λ x. within-most (withPose l x (l .y) (v .end)) (record { at = e; fault = h .fault }))
+
   within-file : (l : Line) (w : Word) → w .start ≤ length text → w .end ≤ length text → Within text l → Within text (fileOf l w)
   unfolding fileOf
   within-file l w s e h = within-cond (isEmpty w) _ _ (record { at = h .at; fault = s }) (record { at = e; fault = h .fault })
@@ -154,7 +164,8 @@ module _ (text : List ℕ) where
         (within-cond (eqb (l .keyword) setTargetsKeyword) _ _ (within-file l _ s1 e1 h)
         (within-cond (eqb (l .keyword) repeatKeyword) _ _ (within-cond repeats _ _ (wrong-within faultNested place p) (within-whole l _ _ s1 e1 h))
         (within-cond (eqb (l .keyword) endKeyword) _ _ (within-cond repeats _ _ h (wrong-within faultNoRepeat place p))
-        (within-cond (eqb (l .keyword) tableKeyword) _ _ (within-csv l _ s1 e1 h) h)))))
+        (within-cond (eqb (l .keyword) tableKeyword) _ _ (within-csv l _ s1 e1 h)
+        (within-cond (eqb (l .keyword) settleKeyword) _ _ (within-settle l _ s1 e1 h) h))))))
 
     within-arguments : (names : List ℕ) (bodies joints : ℕ) (repeats : Bool) (place : ℕ) → place ≤ length text → Within text (arguments text names bodies joints repeats l place)
     unfolding arguments

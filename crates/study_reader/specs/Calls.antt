@@ -14,7 +14,7 @@ use Rattle.study_reader.specs.Faults.{faultNumber, faultDigits, faultNoB
 use Rattle.study_reader.specs.Words.{nextWord, isEmpty, isWord, wholeOf}
 use Rattle.study_reader.specs.Numbers.{numberIn}
 use Rattle.study_reader.specs.Names.{ABSENT, findBody, findJoint}
-use Rattle.study_reader.specs.Keywords.{placeKeyword, buildKeyword, sweepKeyword, readRowsKeyword, readVelocityKeyword, setTargetsKeyword, repeatKeyword, endKeyword, tableKeyword, callKeyword}
+use Rattle.study_reader.specs.Keywords.{placeKeyword, buildKeyword, sweepKeyword, readRowsKeyword, readVelocityKeyword, setTargetsKeyword, repeatKeyword, endKeyword, tableKeyword, settleKeyword, callKeyword}
 use Rattle.study_reader.specs.declared.words.Word.{Word}
 use Rattle.study_reader.specs.declared.words.Whole.{Whole}
 use Rattle.study_reader.specs.declared.calls.Line.{Line}
@@ -143,6 +143,22 @@ csvOf text l w = cond (isEmpty w) l (cond (isWord text w (ascii "csv")) (withCsv
 abbrev pub readCsv : List ℕ → Line → Line
 readCsv text l = csvOf text l (first text l)
 
+-- `settle TOLERANCE`, then the most rounds, or nothing
+abbrev pub mostRounds : ℕ
+mostRounds = 4096
+
+unfoldable pub mostOf : List ℕ → Line → Word → Line
+mostOf text l w = cond (isEmpty w) (withNumber l mostRounds) (readWhole text l)
+
+abbrev pub readMost : List ℕ → Line → Line
+readMost text l = mostOf text l (first text l)
+
+unfoldable pub settleOf : List ℕ → Line → Word → Line
+settleOf text l v = ofNumber l v (numberIn text v) (λ x. readMost text (withPose l x (l .y) (v .end)))
+
+abbrev pub readSettle : List ℕ → Line → Line
+readSettle text l = settleOf text l (first text l)
+
 -- `set_targets FILE`
 unfoldable pub fileOf : Line → Word → Line
 fileOf l w = cond (isEmpty w) (wrong l faultFileName (w .start)) (withWord l w)
@@ -166,7 +182,8 @@ otherArguments text names bodies joints repeats l place =
     (cond (eqb (l .keyword) setTargetsKeyword) (readFile text l)
     (cond (eqb (l .keyword) repeatKeyword) (readRepeat text repeats l place)
     (cond (eqb (l .keyword) endKeyword) (readEnd repeats l place)
-    (cond (eqb (l .keyword) tableKeyword) (readCsv text l) l)))))
+    (cond (eqb (l .keyword) tableKeyword) (readCsv text l)
+    (cond (eqb (l .keyword) settleKeyword) (readSettle text l) l))))))
 
 unfoldable pub arguments : List ℕ → List ℕ → ℕ → ℕ → Bool → Line → ℕ → Line
 arguments text names bodies joints repeats l place =

@@ -241,6 +241,9 @@ endKeyword = 42
 abbrev pub tableKeyword : ℕ
 tableKeyword = 43
 
+abbrev pub settleKeyword : ℕ
+settleKeyword = 44
+
 abbrev pub callWords : List (Named ℕ)
 callWords =
     named "load" loadKeyword ∷
@@ -260,6 +263,7 @@ readWords =
     named "repeat" repeatKeyword ∷
     named "end" endKeyword ∷
     named "table" tableKeyword ∷
+    named "settle" settleKeyword ∷
     []
 
 abbrev pub callKeyword : List ℕ → Word → ℕ

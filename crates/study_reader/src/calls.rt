@@ -1,6 +1,6 @@
 // The line of a call: what it asks for.
 ghost use mathlib.Core.Path.{_≡_};
-ghost use Rattle.study_reader.specs.Calls.{bareCall, wrong, withWord, withNumber, withPlace, withPose, withRotation, withWarm, withCsv, readWhole, readBody, readJoint, readPose, readRotation, readBuild, readSubstep, readCsv, readFile, readRepeat, readEnd, readPlace, otherArguments, readCall};
+ghost use Rattle.study_reader.specs.Calls.{bareCall, wrong, withWord, withNumber, withPlace, withPose, withRotation, withWarm, withCsv, readWhole, readBody, readJoint, readPose, readRotation, readBuild, readSubstep, readCsv, readMost, readSettle, readFile, readRepeat, readEnd, readPlace, otherArguments, readCall};
 use crate::faults::CSV;
 use crate::faults::FILE_NAME;
 use crate::faults::NESTED;
@@ -16,6 +16,7 @@ use crate::keywords::READ_ROWS;
 use crate::keywords::READ_VELOCITY;
 use crate::keywords::REPEAT;
 use crate::keywords::SET_TARGETS;
+use crate::keywords::SETTLE;
 use crate::keywords::SWEEP;
 use crate::keywords::TABLE;
 use crate::keywords::call_keyword;
@@ -33,7 +34,7 @@ use crate::words::next_word;
 use crate::words::whole_number;
 use floats::sin_cos::rotation_from_angle;
 
-// A call, with its numbers: a body, a joint, a count or a substep; a pose; a warm coefficient, where there is one. `start` and `end` are those of its
+// A call, with its numbers: a body, a joint, a count or a substep; a pose; a warm coefficient, where there is one; a tolerance, as x. `start` and `end` are those of its
 // first argument, `at` is where what was read of it ends.
 pub struct Line {
     pub keyword: u32,
@@ -266,6 +267,30 @@ fn read_csv(text: &[u8], l: Line) -> Line
     wrong(l, CSV, w.start)
 }
 
+// The most rounds, which are 4096 where they are not given.
+fn read_most(text: &[u8], l: Line) -> Line
+    ensures { λ r. ⌜ r ≡ readMost (now (text .entry)) l ⌝ }
+{
+    let w = next_word(text, l.at);
+    if is_empty(w) {
+        return with_number(l, 4096);
+    }
+    read_whole(text, l)
+}
+
+// A tolerance, then the most rounds.
+fn read_settle(text: &[u8], l: Line) -> Line
+    ensures { λ r. ⌜ r ≡ readSettle (now (text .entry)) l ⌝ }
+{
+    let v = next_word(text, l.at);
+    let x = number_in(text, v);
+    let fault = number_fault(x);
+    if fault != 0 {
+        return wrong(l, fault, v.start);
+    }
+    read_most(text, with_pose(l, value_of(x), l.y, v.end))
+}
+
 fn read_file(text: &[u8], l: Line) -> Line
     ensures { λ r. ⌜ r ≡ readFile (now (text .entry)) l ⌝ }
 {
@@ -333,6 +358,9 @@ fn read_other_call(
     }
     if keyword == TABLE {
         return read_csv(text, l);
+    }
+    if keyword == SETTLE {
+        return read_settle(text, l);
     }
     l
 }

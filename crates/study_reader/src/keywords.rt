@@ -70,6 +70,8 @@ pub const END: u32 = 42;
 
 pub const TABLE: u32 = 43;
 
+pub const SETTLE: u32 = 44;
+
 // The word that starts an item or gives what is no plain number.
 pub fn item_keyword(text: &[u8], w: Word) -> u32
     ensures { λ r. ⌜ r ≡ itemKeyword (now (text .entry)) w ⌝ }
@@ -121,6 +123,7 @@ pub fn call_keyword(text: &[u8], w: Word) -> u32
         repeat 41\n\
         end 42\n\
         table 43\n\
+        settle 44\n\
         ",
         NO_KEYWORD,
         text,

@@ -33,36 +33,32 @@ read-repeat-requires c κs = search needs
 
 returns-4 : tie.Need-returns-4
 unfolding otherArguments
-returns-4 c =
-    let s3 = c .before .before .before in
-    c .read-repeat .ensures ∙ true-is _ _ _ (eq-eqb _ _ (c .before .if4 .taken)) ∙ false-is _ _ _ (ne-eqb _ _ (c .before .before .if3 .left)) ∙ false-is _ _ _ (ne-eqb _ _ (s3 .if2 .left)) ∙ false-is _ _ _ (ne-eqb _ _ (s3 .before .if1 .left))
+returns-4 c = c .read-repeat .ensures ∙ true-is _ _ _ (eq-eqb _ _ (c .before .if4 .taken)) ∙ false-is _ _ _ (ne-eqb _ _ (c .before .before .if3 .left)) ∙ false-is _ _ _ (ne-eqb _ _ (c .before .before .before .if2 .left)) ∙ false-is _ _ _ (ne-eqb _ _ (c .before .before .before .before .if1 .left))
 
 read-end-requires : tie.Need-read-end-requires
 read-end-requires c κs = search needs
 
 returns-5 : tie.Need-returns-5
 unfolding otherArguments
-returns-5 c =
-    let s3 = c .before .before .before in
-    let s5 = s3 .before .before in
-    c .read-end .ensures ∙ true-is _ _ _ (eq-eqb _ _ (c .before .if5 .taken)) ∙ false-is _ _ _ (ne-eqb _ _ (c .before .before .if4 .left)) ∙ false-is _ _ _ (ne-eqb _ _ (s3 .if3 .left)) ∙ false-is _ _ _ (ne-eqb _ _ (s3 .before .if2 .left)) ∙ false-is _ _ _ (ne-eqb _ _ (s5 .if1 .left))
+returns-5 c = c .read-end .ensures ∙ true-is _ _ _ (eq-eqb _ _ (c .before .if5 .taken)) ∙ false-is _ _ _ (ne-eqb _ _ (c .before .before .if4 .left)) ∙ false-is _ _ _ (ne-eqb _ _ (c .before .before .before .if3 .left)) ∙ false-is _ _ _ (ne-eqb _ _ (c .before .before .before .before .if2 .left)) ∙ false-is _ _ _ (ne-eqb _ _ (c .before .before .before .before .before .if1 .left))
 
 read-csv-requires : tie.Need-read-csv-requires
 read-csv-requires c κs = search needs
 
 returns-6 : tie.Need-returns-6
 unfolding otherArguments
-returns-6 c =
-    let s3 = c .before .before .before in
-    let s5 = s3 .before .before in
-    c .read-csv .ensures ∙ true-is _ _ _ (eq-eqb _ _ (c .before .if6 .taken)) ∙ false-is _ _ _ (ne-eqb _ _ (c .before .before .if5 .left)) ∙ false-is _ _ _ (ne-eqb _ _ (s3 .if4 .left)) ∙ false-is _ _ _ (ne-eqb _ _ (s3 .before .if3 .left)) ∙ false-is _ _ _ (ne-eqb _ _ (s5 .if2 .left)) ∙ false-is _ _ _ (ne-eqb _ _ (s5 .before .if1 .left))
+returns-6 c = c .read-csv .ensures ∙ true-is _ _ _ (eq-eqb _ _ (c .before .if6 .taken)) ∙ false-is _ _ _ (ne-eqb _ _ (c .before .before .if5 .left)) ∙ false-is _ _ _ (ne-eqb _ _ (c .before .before .before .if4 .left)) ∙ false-is _ _ _ (ne-eqb _ _ (c .before .before .before .before .if3 .left)) ∙ false-is _ _ _ (ne-eqb _ _ (c .before .before .before .before .before .if2 .left)) ∙ false-is _ _ _ (ne-eqb _ _ (c .before .before .before .before .before .before .if1 .left))
+
+read-settle-requires : tie.Need-read-settle-requires
+read-settle-requires c κs = search needs
 
 returns-7 : tie.Need-returns-7
 unfolding otherArguments
-returns-7 c =
-    let s3 = c .before .before .before in
-    let s5 = s3 .before .before in
-    false-is _ _ _ (ne-eqb _ _ (c .if6 .left)) ∙ false-is _ _ _ (ne-eqb _ _ (c .before .if5 .left)) ∙ false-is _ _ _ (ne-eqb _ _ (c .before .before .if4 .left)) ∙ false-is _ _ _ (ne-eqb _ _ (s3 .if3 .left)) ∙ false-is _ _ _ (ne-eqb _ _ (s3 .before .if2 .left)) ∙ false-is _ _ _ (ne-eqb _ _ (s5 .if1 .left))
+returns-7 c = c .read-settle .ensures ∙ true-is _ _ _ (eq-eqb _ _ (c .before .if7 .taken)) ∙ false-is _ _ _ (ne-eqb _ _ (c .before .before .if6 .left)) ∙ false-is _ _ _ (ne-eqb _ _ (c .before .before .before .if5 .left)) ∙ false-is _ _ _ (ne-eqb _ _ (c .before .before .before .before .if4 .left)) ∙ false-is _ _ _ (ne-eqb _ _ (c .before .before .before .before .before .if3 .left)) ∙ false-is _ _ _ (ne-eqb _ _ (c .before .before .before .before .before .before .if2 .left)) ∙ false-is _ _ _ (ne-eqb _ _ (c .before .before .before .before .before .before .before .if1 .left))
+
+returns-8 : tie.Need-returns-8
+unfolding otherArguments
+returns-8 c = false-is _ _ _ (ne-eqb _ _ (c .if7 .left)) ∙ false-is _ _ _ (ne-eqb _ _ (c .before .if6 .left)) ∙ false-is _ _ _ (ne-eqb _ _ (c .before .before .if5 .left)) ∙ false-is _ _ _ (ne-eqb _ _ (c .before .before .before .if4 .left)) ∙ false-is _ _ _ (ne-eqb _ _ (c .before .before .before .before .if3 .left)) ∙ false-is _ _ _ (ne-eqb _ _ (c .before .before .before .before .before .if2 .left)) ∙ false-is _ _ _ (ne-eqb _ _ (c .before .before .before .before .before .before .if1 .left))
 
 pub read-other-call-spec : {M : Type 1} → statement M
 read-other-call-spec =
@@ -80,4 +76,6 @@ read-other-call-spec =
     returns-5
     read-csv-requires
     returns-6
-    returns-7)
+    read-settle-requires
+    returns-7
+    returns-8)
