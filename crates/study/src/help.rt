@@ -13,7 +13,7 @@ pub fn help() {
   study example NAME   prints an example: knee, finger, finger_cut, wing, pendulum, leg
   study --help, study --version
 
-Ends with 0 where all calls are granted, 1 where one is refused, 2 where a text cannot be read.
+Ends with 0 where all calls are granted, 1 where one is refused, 2 where something cannot be read or written.
 
 A study is plain text: a line an item, # starts a comment.
 
@@ -30,8 +30,8 @@ A study is plain text: a line an item, # starts a comment.
 
 Then the calls, in order:
 
-  load; place BODY X Y ANGLE (or COS SIN); build [warm C] [substep N]; warm_start; sweep N; remove_bias;
-  write_back; read_rows JOINT; read_velocity BODY; set_targets FILE (motor targets, RFC 4180); table;
+  load; place BODY X Y ANGLE (or COS SIN); build [warm C] [substep N]; warm_start; sweep N;
+  settle TOLERANCE [ROUNDS]; remove_bias; write_back; read_rows JOINT; read_velocity BODY; set_targets FILE (motor targets, RFC 4180); table;
   table csv; repeat N .. end
 
 What is left out has the Rust's default. Numbers are decimals, f32 bits as 0x3F800000, inf and -inf.

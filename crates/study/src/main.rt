@@ -2,8 +2,10 @@
 mod draw;
 mod faults;
 mod help;
+mod input;
 mod out;
 mod refusals;
+mod residual;
 mod run;
 mod table;
 mod warnings;
@@ -12,11 +14,15 @@ use draw::draw;
 use faults::say;
 use help::help;
 use help::version;
+use input::read_all;
+use libc::STDERR_FILENO;
 use libc::STDIN_FILENO;
+use libc::STDOUT_FILENO;
 use model::header::Header;
 use out::err;
 use out::err_number;
 use out::err_part;
+use out::is_lost;
 use out::out;
 use out::out_part;
 use rows::integration_parameters::IntegrationParameters;
@@ -308,7 +314,12 @@ fn say_too_long(name: &[u8]) {
 // A study from a descriptor.
 fn study_from(name: &[u8], fd: i32, mode: u32) -> u32 {
     let mut text = [0u8; 262144];
-    let n = io::read_full(fd, &mut text);
+    let input = read_all(fd, &mut text);
+    if input.failed {
+        os::fail(name);
+        return 2;
+    }
+    let n = input.len;
     if n == 262144 {
         say_too_long(name);
         return 2;
@@ -407,9 +418,24 @@ fn files(from: usize, mode: u32) -> u32 {
     let several = from + 1 < count;
     while i < count {
         status = worse(status, argument_file(i, mode, several));
+        if is_lost(STDOUT_FILENO) {
+            return 2;
+        }
         i += 1;
     }
     status
+}
+
+// The files after a word that asks for some.
+fn files_after(i: usize, mode: u32) -> u32 {
+    if 4096 < i {
+        return 2;
+    }
+    if os::arg_count() <= i + 1 {
+        err(b"study: expected the name of a file after `check`, `draw` or `print`\n");
+        return 2;
+    }
+    files(i + 1, mode)
 }
 
 // The arguments from i on.
@@ -426,23 +452,14 @@ fn asked(i: usize) -> u32 {
         version();
         return 0;
     }
-    asked_more(i, kind)
+    asked_files(i, kind)
 }
 
-fn asked_more(i: usize, kind: u32) -> u32 {
-    if 4096 < i {
-        return 2;
+fn asked_files(i: usize, kind: u32) -> u32 {
+    if kind == FILE {
+        return files(i, kind);
     }
-    if kind == CHECK {
-        return files(i + 1, kind);
-    }
-    if kind == DRAW {
-        return files(i + 1, kind);
-    }
-    if kind == PRINT {
-        return files(i + 1, kind);
-    }
-    files(i, FILE)
+    files_after(i, kind)
 }
 
 // A program cannot end with a status of its own: with --status as its first argument it writes one digit to descriptor 3.
@@ -450,10 +467,22 @@ fn tell(status: u32) {
     io::print_decimal(3, status as u64);
 }
 
+// What was to be written and was not makes the status 2.
+fn ended(status: u32) -> u32 {
+    if is_lost(STDOUT_FILENO) {
+        err(b"study: standard output is closed or was not written to its end\n");
+        return 2;
+    }
+    if is_lost(STDERR_FILENO) {
+        return 2;
+    }
+    status
+}
+
 fn main() {
     if kind_of(1) == STATUS {
-        tell(asked(2));
+        tell(ended(asked(2)));
         return;
     }
-    asked(1);
+    ended(asked(1));
 }

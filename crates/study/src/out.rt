@@ -1,18 +1,48 @@
 // Standard output and standard error.
+use libc::EBADF;
+use libc::SEEK_CUR;
 use libc::STDERR_FILENO;
 use libc::STDOUT_FILENO;
 use study_text::number::number_column;
 
+// Writes all, or says why not and closes the descriptor, so that nothing later is taken for what was lost. A descriptor that is closed says nothing
+// more: `is_lost` finds it so.
+fn write(fd: i32, what: &[u8], s: &[u8]) {
+    if io::write_all(fd, s) {
+        return;
+    }
+    if os::errno() != EBADF {
+        os::fail(what);
+        libc::close(fd);
+    }
+}
+
+// A descriptor that is closed: a write to it failed, or it never was open.
+pub fn is_lost(fd: i32) -> bool {
+    if 0 <= libc::lseek(fd, 0, SEEK_CUR) {
+        return false;
+    }
+    os::errno() == EBADF
+}
+
 pub fn out(s: &[u8]) {
-    io::write_all(STDOUT_FILENO, s);
+    write(STDOUT_FILENO, b"study: standard output", s);
 }
 
 pub fn err(s: &[u8]) {
-    io::write_all(STDERR_FILENO, s);
+    write(STDERR_FILENO, b"study: standard error", s);
 }
 
 pub fn err_number(n: u64) {
-    io::print_decimal(STDERR_FILENO, n);
+    let mut digits = [0u8; 20];
+    let k = io::decimal(n, &mut digits);
+    err(&digits[..k]);
+}
+
+pub fn out_number(n: u64) {
+    let mut digits = [0u8; 20];
+    let k = io::decimal(n, &mut digits);
+    out(&digits[..k]);
 }
 
 // A part of the text, to standard output.

@@ -1,10 +1,16 @@
 // The calls of a study, in order. The first refused call ends it.
+use crate::input::read_all;
 use crate::out::err;
 use crate::out::err_number;
+use crate::out::is_lost;
 use crate::out::out_part;
 use crate::refusals::Counts;
 use crate::refusals::say_rule;
 use crate::refusals::say_where;
+use crate::residual::largest;
+use crate::residual::out_residual;
+use crate::residual::settle;
+use crate::residual::warn_residual;
 use crate::table::Heading;
 use crate::table::Printed;
 use crate::table::joint_lines;
@@ -17,6 +23,7 @@ use floats::pose::Pose;
 use floats::rotation_ops::Rotation;
 use floats::vector::Vector;
 use libc::STDERR_FILENO;
+use libc::STDOUT_FILENO;
 use model::calls::BuildAnswer;
 use model::calls::LoadAnswer;
 use model::calls::Plain;
@@ -45,6 +52,7 @@ use study_reader::keywords::READ_VELOCITY;
 use study_reader::keywords::REMOVE_BIAS;
 use study_reader::keywords::REPEAT;
 use study_reader::keywords::SET_TARGETS;
+use study_reader::keywords::SETTLE;
 use study_reader::keywords::SWEEP;
 use study_reader::keywords::TABLE;
 use study_reader::keywords::WARM_START;
@@ -121,7 +129,7 @@ fn run_place(header: Header, bodies: &mut [f32], words: &[u32], numbers: &[f32],
 
 // ---- a motor table
 
-// Not a refusal's number: a file that cannot be read.
+// Not a refusal's number: a file that cannot be read, or standard output that cannot be written.
 pub const NO_FILE: u32 = 99;
 
 fn too_long(name: &[u8]) -> u32 {
@@ -140,7 +148,12 @@ fn targets_from(
     numbers: &mut [f32],
 ) -> u32 {
     let mut table = [0u8; 262144];
-    let n = io::read_full(fd, &mut table);
+    let input = read_all(fd, &mut table);
+    if input.failed {
+        os::fail(name);
+        return NO_FILE;
+    }
+    let n = input.len;
     if n == 262144 {
         return too_long(name);
     }
@@ -290,8 +303,9 @@ fn run_table(
     numbers: &[f32],
     rows: &[f32],
     joints: u32,
-    csv: bool,
+    l: Line,
 ) -> Done {
+    let csv = l.csv;
     if !header.built {
         return Done {
             header,
@@ -311,10 +325,13 @@ fn run_table(
         csv,
     );
     if p.refused == 0 {
+        let most = largest(header, bodies, words, numbers, rows, joints);
         if !csv {
+            out_residual(text, names, most);
             all_reactions(text, names, header, bodies, words, numbers, rows, joints);
             out_rules(p.used);
         }
+        warn_residual(text, l.start, most);
     }
     Done {
         header,
@@ -381,17 +398,7 @@ fn run_reading(
         return run_read_velocity(text, names, header, bodies, words, numbers, l.number);
     }
     if l.keyword == TABLE {
-        return run_table(
-            text,
-            names,
-            header,
-            bodies,
-            words,
-            numbers,
-            rows,
-            joints,
-            l.csv,
-        );
+        return run_table(text, names, header, bodies, words, numbers, rows, joints, l);
     }
     Done { header, refused: 0 }
 }
@@ -440,6 +447,21 @@ fn run_call(
     }
     if l.keyword == SET_TARGETS {
         return run_targets(text, header, bodies, words, numbers, l);
+    }
+    if l.keyword == SETTLE {
+        let refused = settle(
+            text,
+            names,
+            header,
+            bodies,
+            words,
+            numbers,
+            rows,
+            joints,
+            l.x,
+            l.number,
+        );
+        return Done { header, refused };
     }
     if l.keyword <= WRITE_BACK {
         return run_working(header, bodies, words, numbers, rows, l);
@@ -633,6 +655,11 @@ fn turn_call(
         l,
     );
     let k = done.refused;
+    if WRITE_BACK < l.keyword {
+        if is_lost(STDOUT_FILENO) {
+            return refused(r, NO_FILE);
+        }
+    }
     if k == 0 {
         return granted(text, r, done.header, l);
     }

@@ -3,6 +3,7 @@
 
 use crate::generator::body_of;
 use crate::model::{BODY, Call, GRANTED, JOINT, ROW, Study, WORDS, WORLD, call};
+use crate::rendering::residual;
 use crate::sines;
 use rapier2d::pipeline::leaves::{inv, micro_report};
 use rapier2d::pipeline::rows::reaction;
@@ -56,7 +57,7 @@ const FIELDS: [(char, &str, usize, usize); 17] = [
     ('j', "center_angle", 40, 1),
 ];
 const MASKS: [&str; 4] = ["lock", "limit", "motor", "couple"];
-const CALLS: [&str; 13] = [
+const CALLS: [&str; 14] = [
     "load",
     "place",
     "build",
@@ -70,6 +71,7 @@ const CALLS: [&str; 13] = [
     "repeat",
     "end",
     "table",
+    "settle",
 ];
 
 /// A number of the text; none where the word is no number or has more than 19 significant digits.
@@ -405,6 +407,15 @@ impl Draft {
                 _ if l.is(1, "csv") => 2,
                 _ => return Err(l.column(1)),
             },
+            "settle" => {
+                l.number(1)?;
+                if l.words.len() > 2 {
+                    whole(l.word(2)).ok_or(l.column(2))?;
+                    3
+                } else {
+                    2
+                }
+            }
             _ => 1,
         };
         l.ends(at)
@@ -575,6 +586,73 @@ fn joint_lines(d: &mut Draft, j: usize, csv: bool, out: &mut String, used: &mut 
     0
 }
 
+/// Nine digits as C writes them; the bits of a NaN.
+fn decimal(x: f32) -> String {
+    if x.is_nan() {
+        return "0x7FC00000".to_string();
+    }
+    if x.is_infinite() {
+        return x.to_string();
+    }
+    let text = format!("{x:.8e}");
+    let (digits, exponent) = text.split_once('e').unwrap();
+    let exponent: i32 = exponent.parse().unwrap();
+    format!("{digits}e{}{:02}", if exponent < 0 { '-' } else { '+' }, exponent.abs())
+}
+
+/// A NaN is larger than any number.
+fn is_larger(x: f32, than: f32) -> bool {
+    !than.is_nan() && !(x <= than)
+}
+
+/// The row that one more step would change most: its joint, its id and the change.
+fn largest(d: &mut Draft) -> Option<(usize, u32, f32)> {
+    let mut most: Option<(usize, u32, f32)> = None;
+    for j in 0..d.joints.len() {
+        let read = call(&mut d.study, &Call::ReadRows(j as u32));
+        let mut vels = [0f32; 6];
+        for (i, &b) in d.study.words[j * WORDS..][..2].iter().enumerate() {
+            if b != WORLD {
+                vels[3 * i..3 * i + 3].copy_from_slice(&d.study.bodies[b as usize * BODY + 7..][..3]);
+            }
+        }
+        for (row, id) in read.out.chunks_exact(ROW).zip(d.study.ids(j)) {
+            let change = residual(row, &vels);
+            let change = if change < 0.0 { -change } else { change };
+            if most.is_none_or(|m| is_larger(change, m.2)) {
+                most = Some((j, id, change));
+            }
+        }
+    }
+    most
+}
+
+fn residual_line(d: &mut Draft, out: &mut String) {
+    if let Some((j, id, change)) = largest(d) {
+        let kind = ["Dof", "Limit", "Motor"][(id / 4) as usize];
+        let joint = String::from_utf8_lossy(&d.joints[j]);
+        out.push_str(&format!("{joint} {kind}{} has the largest residual: {}\n", id % 4, decimal(change)));
+    }
+}
+
+/// Sweeps of one round.
+fn settle(d: &mut Draft, tolerance: f32, most: u32, out: &mut String) -> u64 {
+    let first = call(&mut d.study, &Call::Sweep(0)).code;
+    if first != 0 && first < GRANTED {
+        return first;
+    }
+    let settled = |d: &mut Draft| largest(d).is_none_or(|m| m.2 <= tolerance);
+    let mut rounds = 0;
+    while rounds < most && !settled(d) {
+        call(&mut d.study, &Call::Sweep(1));
+        rounds += 1;
+    }
+    let not = if settled(d) { "" } else { "not " };
+    out.push_str(&format!("{not}settled after {rounds} rounds\n"));
+    residual_line(d, out);
+    0
+}
+
 fn canonical(x: f32) -> u32 {
     if x.is_nan() { 0x7FC0_0000 } else { x.to_bits() }
 }
@@ -612,6 +690,7 @@ fn table(d: &mut Draft, csv: bool, out: &mut String) -> u64 {
         }
     }
     if !csv {
+        residual_line(d, out);
         out.push_str("\njoint       body 1    body 2        force x     force y     along x     along y      moment      turn 1      turn 2 definition\n");
         for j in 0..d.joints.len() {
             reaction_line(d, j, out);
@@ -673,6 +752,7 @@ fn run_call(d: &mut Draft, l: &Line, out: &mut String) -> u64 {
             _ => return NO_FILE,
         },
         "table" => return table(d, l.is(1, "csv"), out),
+        "settle" => return settle(d, n(1), whole(l.word(2)).unwrap_or(4096), out),
         _ => return 0,
     };
     let code = call(&mut d.study, &plain).code;

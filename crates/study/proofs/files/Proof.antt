@@ -28,6 +28,12 @@ argument-file-requires c κs = search needs
 worse-requires : tie.Need-worse-requires Inv-loop μ-loop
 worse-requires c κs = search needs
 
+is-lost-requires : tie.Need-is-lost-requires Inv-loop μ-loop
+is-lost-requires c κs = search needs
+
+returns-2 : tie.Need-returns-2 Inv-loop μ-loop
+returns-2 c = search needs
+
 add-i : tie.Need-add-i Inv-loop μ-loop
 add-i c = search needs
 
@@ -37,8 +43,8 @@ loop-less c = search needs
 loop-again : tie.Need-loop-again Inv-loop μ-loop
 loop-again c = search needs
 
-returns-2 : tie.Need-returns-2 Inv-loop μ-loop
-returns-2 c = search needs
+returns-3 : tie.Need-returns-3 Inv-loop μ-loop
+returns-3 c = search needs
 
 pub files-spec : {M : Type 1} → statement M
 files-spec =
@@ -52,7 +58,9 @@ files-spec =
     loop-holds
     argument-file-requires
     worse-requires
+    is-lost-requires
+    returns-2
     add-i
     loop-less
     loop-again
-    returns-2)
+    returns-3)

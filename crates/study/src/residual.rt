@@ -1,0 +1,244 @@
+// How far from settled the rows of a built model are: a row's residual is what one more step would change of its impulse.
+use crate::out::err;
+use crate::out::err_number;
+use crate::out::out;
+use crate::out::out_number;
+use crate::out::out_part;
+use model::calls::Plain;
+use model::calls::read_rows;
+use model::calls::sweep;
+use model::header::Header;
+use model::reactions::residual_at;
+use rows::joint_velocity_constraint::Rows;
+use rows::joint_velocity_constraint::WritebackId;
+use rows::row_ids::RowIds;
+use study_reader::names::joint_name;
+use study_reader::words::line_of;
+use study_text::residual::write_residual;
+
+// The row of the largest residual, if there is a row: its joint and id, and the residual's size; and the size of the largest impulse of all rows.
+pub struct Largest {
+    pub found: bool,
+    pub joint: u32,
+    pub id: WritebackId,
+    pub residual: f32,
+    pub impulse: f32,
+}
+
+fn size(x: f32) -> f32 {
+    if x < 0.0 {
+        return -x;
+    }
+    x
+}
+
+// A NaN is larger than any number.
+fn is_larger(x: f32, than: f32) -> bool {
+    if than != than {
+        return false;
+    }
+    if x <= than {
+        return false;
+    }
+    true
+}
+
+fn larger(x: f32, y: f32) -> f32 {
+    if is_larger(x, y) {
+        return x;
+    }
+    y
+}
+
+fn is_next(l: Largest, residual: f32) -> bool {
+    if l.found {
+        return is_larger(residual, l.residual);
+    }
+    true
+}
+
+fn with_row(l: Largest, joint: u32, id: WritebackId, residual: f32, impulse: f32) -> Largest {
+    let most = larger(impulse, l.impulse);
+    if is_next(l, residual) {
+        return Largest {
+            found: true,
+            joint,
+            id,
+            residual,
+            impulse: most,
+        };
+    }
+    let before = l.id;
+    Largest {
+        found: true,
+        joint: l.joint,
+        id: before,
+        residual: l.residual,
+        impulse: most,
+    }
+}
+
+fn with_rows(
+    bodies: &[f32],
+    words: &[u32],
+    joint: u32,
+    named: RowIds,
+    made: Rows,
+    l: Largest,
+) -> Largest {
+    let mut all = l;
+    let mut i = 0usize;
+    while i < 6 {
+        if i < made.len {
+            let one = named.ids[i];
+            let id = one.id;
+            let row = made.rows[i];
+            let residual = residual_at(bodies, words, row, joint as usize);
+            let next = with_row(all, joint, id, size(residual), size(row.impulse));
+            all = next;
+        }
+        i += 1;
+    }
+    all
+}
+
+fn none() -> Largest {
+    Largest {
+        found: false,
+        joint: 0,
+        id: WritebackId::Dof(0),
+        residual: 0.0,
+        impulse: 0.0,
+    }
+}
+
+pub fn largest(
+    header: Header,
+    bodies: &[f32],
+    words: &[u32],
+    numbers: &[f32],
+    rows: &[f32],
+    joints: u32,
+) -> Largest {
+    let mut l = none();
+    let mut j: u32 = 0;
+    while j < joints {
+        let read = read_rows(header, bodies, words, numbers, rows, j);
+        let named = read.ids;
+        let made = read.rows;
+        let next = with_rows(bodies, words, j, named, made, l);
+        l = next;
+        j += 1;
+    }
+    l
+}
+
+// ---- what is said of it
+
+// The line of the row, by its joint's name; nothing where there is no row.
+pub fn out_residual(text: &[u8], names: &[u32], l: Largest) {
+    if !l.found {
+        return;
+    }
+    let w = joint_name(names, l.joint);
+    let start = w.start;
+    let end = w.end;
+    if text.len() < end {
+        return;
+    }
+    if end < start {
+        return;
+    }
+    let mut line = io::buffer();
+    let id = l.id;
+    let n = write_residual(&mut line, &text[start..end], id, l.residual);
+    out_part(&line, 0, n);
+}
+
+// A residual above a thousandth of the largest impulse of the table.
+pub fn warn_residual(text: &[u8], at: usize, l: Largest) {
+    if is_larger(l.residual, l.impulse * 0.001) {
+        err(b"study: line ");
+        err_number(line_of(text, at));
+        err(
+            b": warning: the rows are not settled: the largest residual is above a thousandth of the largest impulse\n",
+        );
+    }
+}
+
+// ---- sweeps until no residual is above a tolerance
+
+fn is_settled(l: Largest, tolerance: f32) -> bool {
+    if l.found {
+        return l.residual <= tolerance;
+    }
+    true
+}
+
+// So many rounds, each a sweep, and at most so many.
+fn rounds(
+    header: Header,
+    bodies: &mut [f32],
+    words: &[u32],
+    numbers: &[f32],
+    rows: &mut [f32],
+    joints: u32,
+    tolerance: f32,
+    most: u32,
+) -> u32 {
+    let mut done: u32 = 0;
+    while done < most {
+        let l = largest(header, bodies, words, numbers, rows, joints);
+        if is_settled(l, tolerance) {
+            return done;
+        }
+        sweep(header, bodies, words, numbers, rows, 1);
+        done += 1;
+    }
+    done
+}
+
+fn say_rounds(settled: bool, n: u32) {
+    if !settled {
+        out(b"not ");
+    }
+    out(b"settled after ");
+    out_number(n as u64);
+    out(b" rounds\n");
+}
+
+// The number of the refusal, or 0.
+pub fn settle(
+    text: &[u8],
+    names: &[u32],
+    header: Header,
+    bodies: &mut [f32],
+    words: &[u32],
+    numbers: &[f32],
+    rows: &mut [f32],
+    joints: u32,
+    tolerance: f32,
+    most: u32,
+) -> u32 {
+    let first = sweep(header, bodies, words, numbers, rows, 0);
+    let answer = first.answer;
+    match answer {
+        Plain::Refused(k) => k,
+        Plain::Granted => {
+            let n = rounds(
+                header,
+                bodies,
+                words,
+                numbers,
+                rows,
+                joints,
+                tolerance,
+                most,
+            );
+            let l = largest(header, bodies, words, numbers, rows, joints);
+            say_rounds(is_settled(l, tolerance), n);
+            out_residual(text, names, l);
+            0
+        }
+    }
+}
