@@ -33,4 +33,4 @@ unfoldable pub reactionHeading : List ℕ
 reactionHeading = ascii "\njoint       body 1    body 2        force x     force y     along x     along y      moment      turn 1      turn 2 definition\n"
 
 unfoldable pub reactionNotes : List ℕ
-reactionNotes = ascii "\nThe reaction of a joint is what its rows together gave body 1, and body 2 the opposite, in millionths: force x, y the linear impulse in the world [N*s]; along x, y the same along the axes of frame 1;\nmoment the angular impulse at the place of frame 2 [N*m*s]; turn 1, turn 2 what each body got about its own centre of mass. A row's impulse multiplies the row as it was made orthogonal to the locks before it\n(finalizeOf): it is the reaction along an axis only where no lock stands before it in its group.\n"
+reactionNotes = ascii "\nA joint's reaction is what its rows together gave body 1, and body 2 the opposite, in millionths: force x, y the linear impulse in the world [N s]; along x, y the same along the axes of frame 1;\nmoment the angular impulse at the place of frame 2 [N m s]; turn 1, turn 2 what turned each body about its own centre of mass [N m s]. A row's impulse multiplies the row as it was made\northogonal to the locks before it (finalizeOf). So a stop's or a motor's is its own force or couple, but a lock's takes in what later rows share with it: the reaction is the line above.\n"

@@ -16,7 +16,7 @@ fn without_words(out: &str) -> String {
     let mut rules: Option<String> = None;
     let mut notes = false;
     for line in out.split_inclusive('\n') {
-        if line.starts_with("The reaction of a joint is") {
+        if line.starts_with("A joint's reaction is what") {
             notes = true;
             text.truncate(text.len() - 1);
         }
