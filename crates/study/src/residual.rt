@@ -17,7 +17,7 @@ use study_reader::words::line_of;
 use study_text::residual::write_residual;
 
 // The row of the largest residual, if there is a row: its joint and id, and the residual's size; and the size of the largest impulse of all rows.
-pub struct Largest {
+pub struct Residual {
     pub found: bool,
     pub joint: u32,
     pub id: WritebackId,
@@ -50,17 +50,17 @@ fn larger(x: f32, y: f32) -> f32 {
     y
 }
 
-fn is_next(l: Largest, residual: f32) -> bool {
+fn is_next(l: Residual, residual: f32) -> bool {
     if l.found {
         return is_larger(residual, l.residual);
     }
     true
 }
 
-fn with_row(l: Largest, joint: u32, id: WritebackId, residual: f32, impulse: f32) -> Largest {
+fn with_row(l: Residual, joint: u32, id: WritebackId, residual: f32, impulse: f32) -> Residual {
     let most = larger(impulse, l.impulse);
     if is_next(l, residual) {
-        return Largest {
+        return Residual {
             found: true,
             joint,
             id,
@@ -69,7 +69,7 @@ fn with_row(l: Largest, joint: u32, id: WritebackId, residual: f32, impulse: f32
         };
     }
     let before = l.id;
-    Largest {
+    Residual {
         found: true,
         joint: l.joint,
         id: before,
@@ -84,8 +84,9 @@ fn with_rows(
     joint: u32,
     named: RowIds,
     made: Rows,
-    l: Largest,
-) -> Largest {
+    l: Residual,
+) -> Residual {
+    let j = joint as usize;
     let mut all = l;
     let mut i = 0usize;
     while i < 6 {
@@ -93,7 +94,7 @@ fn with_rows(
             let one = named.ids[i];
             let id = one.id;
             let row = made.rows[i];
-            let residual = residual_at(bodies, words, row, joint as usize);
+            let residual = residual_at(bodies, words, row, j);
             let next = with_row(all, joint, id, size(residual), size(row.impulse));
             all = next;
         }
@@ -102,8 +103,8 @@ fn with_rows(
     all
 }
 
-fn none() -> Largest {
-    Largest {
+fn none() -> Residual {
+    Residual {
         found: false,
         joint: 0,
         id: WritebackId::Dof(0),
@@ -119,7 +120,7 @@ pub fn largest(
     numbers: &[f32],
     rows: &[f32],
     joints: u32,
-) -> Largest {
+) -> Residual {
     let mut l = none();
     let mut j: u32 = 0;
     while j < joints {
@@ -136,7 +137,7 @@ pub fn largest(
 // ---- what is said of it
 
 // The line of the row, by its joint's name; nothing where there is no row.
-pub fn out_residual(text: &[u8], names: &[u32], l: Largest) {
+pub fn out_residual(text: &[u8], names: &[u32], l: Residual) {
     if !l.found {
         return;
     }
@@ -156,7 +157,7 @@ pub fn out_residual(text: &[u8], names: &[u32], l: Largest) {
 }
 
 // A residual above a thousandth of the largest impulse of the table.
-pub fn warn_residual(text: &[u8], at: usize, l: Largest) {
+pub fn warn_residual(text: &[u8], at: usize, l: Residual) {
     if is_larger(l.residual, l.impulse * 0.001) {
         err(b"study: line ");
         err_number(line_of(text, at));
@@ -168,7 +169,7 @@ pub fn warn_residual(text: &[u8], at: usize, l: Largest) {
 
 // ---- sweeps until no residual is above a tolerance
 
-fn is_settled(l: Largest, tolerance: f32) -> bool {
+fn is_settled(l: Residual, tolerance: f32) -> bool {
     if l.found {
         return l.residual <= tolerance;
     }

@@ -47,6 +47,7 @@ pub enum Line {
 
 // One row, by the names of its joint and bodies. A name has at most 64 bytes, so that the line fits.
 fn out_row(joint: &[u8], body1: &[u8], body2: &[u8], h: Heading, v: Values) {
+    let id = v.id;
     let mut line = io::buffer();
     if h.csv {
         let n = write_csv_row(
@@ -54,7 +55,7 @@ fn out_row(joint: &[u8], body1: &[u8], body2: &[u8], h: Heading, v: Values) {
             joint,
             body1,
             body2,
-            v.id,
+            id,
             h.coupled,
             v.impulse,
             v.low,
@@ -68,7 +69,7 @@ fn out_row(joint: &[u8], body1: &[u8], body2: &[u8], h: Heading, v: Values) {
         joint,
         body1,
         body2,
-        v.id,
+        id,
         h.coupled,
         v.impulse,
         v.low,

@@ -25,8 +25,14 @@ mul-row c = search needs
 element-copy-out-row : tie.Need-element-copy-out-row Inv-loop μ-loop
 element-copy-out-row c = search needs
 
-row-line-requires : tie.Need-row-line-requires Inv-loop μ-loop
-row-line-requires c κs = search needs
+text-joint-requires : tie.Need-text-joint-requires Inv-loop μ-loop
+text-joint-requires c κs = search needs
+
+rule-of-requires : tie.Need-rule-of-requires Inv-loop μ-loop
+rule-of-requires c κs = search needs
+
+rule-index-requires : tie.Need-rule-index-requires Inv-loop μ-loop
+rule-index-requires c κs = search needs
 
 bit-requires : tie.Need-bit-requires Inv-loop μ-loop
 bit-requires c κs = search needs
@@ -54,7 +60,9 @@ row-lines-spec =
     element-copy-out-one
     mul-row
     element-copy-out-row
-    row-line-requires
+    text-joint-requires
+    rule-of-requires
+    rule-index-requires
     bit-requires
     add-i
     loop-less
