@@ -20,9 +20,12 @@ settings-kept dt unit normalized built = refl
 pub number-told : {a : Answer planar} {m : Model} {rows : List Float} {o : Outcome planar} (r : ℕ) → r ≡ number a → outcome a m rows ≡ o → r ≡ number (o .answer)
 number-told r e told = e ∙ ap (λ (o : Outcome planar). number (o .answer)) told
 
--- what is left in the bodies, the joints' numbers and the row storage
+-- what is left in the bodies, the joints' words and numbers and the row storage
 pub bodies-left : {a : Answer planar} {m : Model} {rows : List Float} {o : Outcome planar} → outcome a m rows ≡ o → m .bodies ≡ o .after .bodies
 bodies-left told = ap (λ (o : Outcome planar). o .after .bodies) told
+
+pub words-left : {a : Answer planar} {m : Model} {rows : List Float} {o : Outcome planar} → outcome a m rows ≡ o → m .words ≡ o .after .words
+words-left told = ap (λ (o : Outcome planar). o .after .words) told
 
 pub numbers-left : {a : Answer planar} {m : Model} {rows : List Float} {o : Outcome planar} → outcome a m rows ≡ o → m .numbers ≡ o .after .numbers
 numbers-left told = ap (λ (o : Outcome planar). o .after .numbers) told

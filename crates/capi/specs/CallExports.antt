@@ -6,6 +6,7 @@ use lib.Dec.{leb, eqb}
 use lib.ListN.{length, drop}
 use lib.Ieee.{Float}
 use Rattle.floats.specs.declared.pose.Pose.{Pose}
+use Rattle.rows.specs.declared.generic_joint.Masks.{Masks}
 use Rattle.rows.specs.declared.integration_parameters.IntegrationParameters.{IntegrationParameters}
 use Rattle.rows.specs.declared.joint_constraint_builder.Warmstart.{Warmstart}
 use Rattle.rows.specs.declared.joint_constraint_builder.Warmstart.the-variants.{Cold, Warm}
@@ -48,6 +49,9 @@ lent dt unit normalized built bodies words numbers = modelOf (headerOf dt unit n
 
 abbrev pub poseFrom : Float → Float → Float → Float → Pose
 poseFrom re im x y = record { rotation = record { re = re; im = im }; translation = record { x = x; y = y } }
+
+abbrev pub masksFrom : ℕ → ℕ → ℕ → ℕ → Masks
+masksFrom locked limit motor coupled = record { «locked_axes» = locked; «limit_axes» = limit; «motor_axes» = motor; «coupled_axes» = coupled }
 
 abbrev pub warmOf : ℕ → Float → Warmstart
 warmOf warm coefficient = cond (flag warm) (Warm coefficient) Cold

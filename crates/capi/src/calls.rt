@@ -10,11 +10,11 @@ ghost use mathlib.Core.Bool.{cond};
 ghost use Prim.Native.Nat.{_≤_};
 ghost use lib.ListN.{length, drop};
 ghost use Rattle.multibody.specs.Calls.{run};
-ghost use Rattle.multibody.specs.Calls.Call.{load, place, build, warmStart, sweep, removeBias, writeBack, readRows, readVelocity, further};
+ghost use Rattle.multibody.specs.Calls.Call.{load, place, build, warmStart, sweep, removeBias, writeBack, readRows, readVelocity, setMasks, further};
 ghost use Rattle.model.specs.Planar.{planar};
 ghost use Rattle.model.specs.Answers.{plainAnswer, loadAnswer, loadHeader, buildAnswer, buildHeader};
 ghost use Rattle.model.specs.declared.header.Header.{Header};
-ghost use Rattle.capi.specs.CallExports.{flag, headerOf, lent, poseFrom, warmOf, number, marked, markedNumber, rowsReadAt, rowsGrantedOr, rowsNumber, rowsOut, idsOut, roomForRows, rowsIfRoom, idsIfRoom, shortSlice, sweptAt, countsOut, roomForCounts, roomForVelocity, velocityNumber, putVelocity, velocityOut};
+ghost use Rattle.capi.specs.CallExports.{flag, headerOf, lent, poseFrom, masksFrom, warmOf, number, marked, markedNumber, rowsReadAt, rowsGrantedOr, rowsNumber, rowsOut, idsOut, roomForRows, rowsIfRoom, idsIfRoom, shortSlice, sweptAt, countsOut, roomForCounts, roomForVelocity, velocityNumber, putVelocity, velocityOut};
 use crate::stored::put_first;
 use crate::stored::put_ids;
 use crate::stored::put_three;
@@ -31,11 +31,13 @@ use model::calls::place;
 use model::calls::read_rows;
 use model::calls::read_velocity;
 use model::calls::remove_bias;
+use model::calls::set_masks;
 use model::calls::set_targets;
 use model::calls::sweep;
 use model::calls::warm_start;
 use model::calls::write_back;
 use model::header::Header;
+use rows::generic_joint::Masks;
 use rows::integration_parameters::IntegrationParameters;
 use rows::joint_constraint_builder::Warmstart;
 use rows::joint_velocity_constraint::Rows;
@@ -144,14 +146,44 @@ pub extern "C" fn katydidzinc_load(
     normalized: f32,
     built: u32,
     bodies: &[f32],
-    words: &[u32],
+    words: &mut [u32],
     numbers: &[f32],
     rows: &[f32],
 ) -> u64
     ensures { λ r. ⌜ r ≡ markedNumber (run planar load (lent dt «length_unit» normalized built (now (bodies .entry)) (now (words .entry)) (now (numbers .entry))) (now (rows .entry))) ⌝ }
+    ensures { λ _. ⌜ now (words .exit) ≡ run planar load (lent dt «length_unit» normalized built (now (bodies .entry)) (now (words .entry)) (now (numbers .entry))) (now (rows .entry)) .after .words ⌝ }
 {
     let h = header(dt, length_unit, normalized, built);
     load_number(load(h, bodies, words, numbers, rows))
+}
+
+#[no_mangle]
+pub extern "C" fn katydidzinc_set_masks(
+    dt: f32,
+    length_unit: f32,
+    normalized: f32,
+    built: u32,
+    bodies: &[f32],
+    words: &mut [u32],
+    numbers: &[f32],
+    rows: &[f32],
+    joint: u32,
+    locked: u32,
+    limit: u32,
+    motor: u32,
+    coupled: u32,
+) -> u64
+    ensures { λ r. ⌜ r ≡ markedNumber (run planar (setMasks joint (masksFrom locked limit motor coupled)) (lent dt «length_unit» normalized built (now (bodies .entry)) (now (words .entry)) (now (numbers .entry))) (now (rows .entry))) ⌝ }
+    ensures { λ _. ⌜ now (words .exit) ≡ run planar (setMasks joint (masksFrom locked limit motor coupled)) (lent dt «length_unit» normalized built (now (bodies .entry)) (now (words .entry)) (now (numbers .entry))) (now (rows .entry)) .after .words ⌝ }
+{
+    let h = header(dt, length_unit, normalized, built);
+    let masks = Masks {
+        locked_axes: locked,
+        limit_axes: limit,
+        motor_axes: motor,
+        coupled_axes: coupled,
+    };
+    load_number(set_masks(h, bodies, words, numbers, rows, joint, masks))
 }
 
 #[no_mangle]

@@ -45,7 +45,7 @@ params = record { dt = one; «length_unit» = one; «normalized_max_corrective_v
 abbrev pub sample : Masks → Model
 sample k =
     model params false (one ∷ o ∷ o ∷ o ∷ one ∷ one ∷ one ∷ o ∷ o ∷ o ∷ [])
-    (0 ∷ world ∷ k .«locked_axes» ∷ k .«limit_axes» ∷ k .«motor_axes» ∷ k .«coupled_axes» ∷ 0 ∷ 0 ∷ 0 ∷ 0 ∷ 0 ∷ [])
+    (0 ∷ world ∷ k .«locked_axes» ∷ k .«limit_axes» ∷ k .«motor_axes» ∷ k .«coupled_axes» ∷ 0 ∷ 0 ∷ 0 ∷ 0 ∷ 0 ∷ 0 ∷ [])
     (one ∷ o ∷ o ∷ o ∷ one ∷ o ∷ o ∷ o ∷ replicate 34 o)
 
 -- row storage of six rows

@@ -12,6 +12,11 @@ pub mod CallLaws
 pub mod StoredRows
 pub mod MotorTargetLaws
 pub mod Keeps
-pub mod PastTotal
+pub mod FirstRows
+pub mod NewMasks
 pub mod PlanarLaws
+pub mod StoredFirsts
+pub mod MaskLaws
+pub mod PastTotal
 pub mod StudyPair
+pub mod MaskPair

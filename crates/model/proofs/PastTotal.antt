@@ -18,11 +18,12 @@ use Rattle.multibody.specs.JointRows.{State, state, rowCount, putRows, impulses
 use Rattle.multibody.specs.Model.{Model}
 use Rattle.multibody.specs.Counts.{jointCount, rowsBefore, totalRows}
 use Rattle.multibody.specs.Calls.{Call, Outcome, eachJoint, rounds, buildOne, sweepOne, sweepRound, removeBiasOne, grantedOf, run}
-use Rattle.multibody.specs.Calls.Call.{load, place, build, warmStart, sweep, removeBias, writeBack, readRows, readVelocity, further}
+use Rattle.multibody.specs.Calls.Call.{load, place, build, warmStart, sweep, removeBias, writeBack, readRows, readVelocity, setMasks, further}
 use Rattle.model.specs.Planar.{planar}
 use Rattle.model.proofs.JointRowsLaws.{length-builtRows}
 use Rattle.model.proofs.CountLaws.{rowsBefore-mono}
-use Rattle.model.proofs.Keeps.{run-cases}
+use Rattle.multibody.proofs.Keeps.{run-cases}
+use Rattle.model.proofs.PlanarLaws.{planar-laws}
 
 -- what stands from row t on is the same
 abbrev pub Past : ℕ → List Float → List Float → Type 0
@@ -108,7 +109,8 @@ module _ (m : Model) (rows : List Float) where
   granted-past writeBack = refl
   granted-past (readRows j) = refl
   granted-past (readVelocity i) = refl
+  granted-past (setMasks j ms) = refl
   granted-past (further bytes) = refl
 
   pub past-total : (c : Call planar) → drop (totalRows planar (m .words) (m .numbers) * rowWidth) (run planar c m rows .rows) ≡ drop (totalRows planar (m .words) (m .numbers) * rowWidth) rows
-  past-total c = run-cases c m rows (λ (o : Outcome planar). Past total rows (o .rows)) (λ _. granted-past c) refl
+  past-total c = run-cases planar-laws c m rows (λ (o : Outcome planar). Past total rows (o .rows)) (λ _. granted-past c) refl

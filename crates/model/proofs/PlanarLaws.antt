@@ -43,6 +43,8 @@ use Rattle.model.proofs.StoreLaws.{withPose, length-putRow, rowAt-putRo
 use Rattle.model.proofs.CallLaws.{table-refusal}
 use Rattle.model.proofs.WritebackLaws.{jointAt-putSeed-writeback}
 use Rattle.model.proofs.MotorTargetLaws.{records-steady, finiteJoint-steady, centerFits-steady, table-size, records-named}
+use Rattle.model.proofs.NewMasks.{put-reworded, masksAt-apart, jointAt-apart, named-put, rule-put, unfit-rule}
+use Rattle.model.proofs.FirstRows.{first-reworded, masksAt-first, jointAt-first, maskRules-first}
 use Rattle.model.proofs.Keeps.{putVel-poses, finiteBody-kept, place-finite, putSeed-seeds, finiteJoint-kept, centerFits-kept}
 
 -- ---- joints
@@ -179,11 +181,21 @@ planar-laws = record {
   named-self = named-self;
   fewer-named = fewer-named;
   named-seeds = named-seeds;
+  putFirst-reworded = first-reworded;
+  masksAt-putFirst = masksAt-first;
+  jointAt-putFirst = jointAt-first;
+  maskRules-putFirst = maskRules-first;
+  putMasks-reworded = put-reworded;
+  masksAt-putMasks-other = λ w j i ms n. masksAt-apart w j ms i n;
+  jointAt-putMasks-other = jointAt-apart;
+  named-putMasks = named-put;
+  maskRules-putMasks = rule-put;
   no-ids = no-ids;
   length-update = update-length;
   reads-no-row = no-row-read;
   same-named = named-rows;
-  mask-numbered = λ words joints. (omega arith, tt);
+  mask-numbered = λ words joints fit. (omega arith, tt);
+  own-masks = unfit-rule;
   content-numbered = λ words n joints. (omega arith, tt);
   finiteBody-putVel = λ b i i′ v. finiteBody-kept b (Rattle.model.specs.Store.putVel b i v) i′ (putVel-poses b i v .numbers i′);
   finiteBody-putPose = λ b i i′ p f room was was′. place-finite p f b i room i′ was was′;

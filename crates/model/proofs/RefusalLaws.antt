@@ -16,8 +16,8 @@ use Rattle.model.specs.Store.{world, Present, body1At, body2At}
 use Rattle.multibody.specs.Model.{mostBodies, mostJoints, Model}
 use Rattle.multibody.specs.Counts.{bodyCount, jointCount, rowCapacity, totalRows, Sound, Room}
 use Rattle.multibody.specs.Rules.{Rule, rule, refusal, all, atMost}
-use Rattle.multibody.specs.Refusals.{presentOrWorld, bodiesPresent, bodiesApart, finiteParams, modelRules, storageRule, sweepRule, builtRule, seedsRule, bodyRule, jointRule}
-use Rattle.multibody.specs.Calls.{Call, Asked, Own, ownRule, callTable, handedRules, askedRules, firstRules, ownRules, rulesOf}
+use Rattle.multibody.specs.Refusals.{presentOrWorld, bodiesPresent, bodiesApart, finiteParams, modelRules, modelRulesWith, storageRule, sweepRule, builtRule, seedsRule, bodyRule, jointRule}
+use Rattle.multibody.specs.Calls.{Call, Asked, Own, Change, fitChange, changed, ownRule, callTable, handedRules, askedRules, firstRules, ownRules, rulesOf}
 use Rattle.multibody.specs.Calls.Own.{fewRounds, afterBuild, rowsToRead}
 use Rattle.multibody.specs.Calls.Asked.{nothing, body, joint, named as records}
 use Rattle.model.specs.Planar.{tableRules, planar}
@@ -226,21 +226,25 @@ all-intro p i n e = all-cong p (λ k. true) i n e ∙ all-true i n
 
 -- document 01's order, with 12 right after 6
 checking-order : (m : Model) (arguments : Bool) → map (λ (r : Rule). r .number) (modelRules planar m arguments) ≡ 1 ∷ 2 ∷ 3 ∷ 4 ∷ 5 ∷ 6 ∷ 12 ∷ 7 ∷ []
-unfolding modelRules
+unfolding modelRulesWith
 checking-order m arguments = refl
 
 pub model-numbered : (m : Model) (arguments : Bool) → Numbered (modelRules planar m arguments)
-unfolding modelRules
+unfolding modelRulesWith
 model-numbered m arguments = omega arith
 
-pub storage-numbered : (m : Model) (arguments : Bool) (rows : List Float) → Numbered (modelRules planar m arguments ++ (storageRule planar m rows ∷ []))
+with-numbered : (m : Model) (fit arguments : Bool) → Numbered (modelRulesWith planar m fit arguments)
+unfolding modelRulesWith
+with-numbered m fit arguments = omega arith
+
+pub storage-numbered : (m n : Model) (fit arguments : Bool) (rows : List Float) → Numbered (modelRulesWith planar m fit arguments ++ (storageRule planar n rows ∷ []))
 unfolding storageRule
-storage-numbered m arguments rows = numbered-append (modelRules planar m arguments) (storageRule planar m rows ∷ []) (model-numbered m arguments) (omega arith)
+storage-numbered m n fit arguments rows = numbered-append (modelRulesWith planar m fit arguments) (storageRule planar n rows ∷ []) (with-numbered m fit arguments) (omega arith)
 
 module _ (m : Model) where
-  handed-numbered : (stored finite : Bool) (rows : List Float) → Numbered (handedRules planar stored m finite rows)
-  handed-numbered true finite rows = storage-numbered m finite rows
-  handed-numbered false finite rows = model-numbered m finite
+  handed-numbered : (stored finite : Bool) (change : Change planar) (rows : List Float) → Numbered (handedRules planar stored m change finite rows)
+  handed-numbered true finite change rows = storage-numbered m (changed m change) (fitChange change) finite rows
+  handed-numbered false finite change rows = with-numbered m (fitChange change) finite
 
   own-numbered : (o : Own) → ownRule m o .number ≢ 0
   unfolding sweepRule builtRule seedsRule
@@ -261,7 +265,7 @@ module _ (m : Model) where
 
   -- a call's rules 1 to 8, and all that it tries
   pub first-numbered : (c : Call planar) (rows : List Float) → Numbered (firstRules planar c m rows)
-  first-numbered c rows = handed-numbered (callTable planar c .rowStorage) (callTable planar c .finite) rows
+  first-numbered c rows = handed-numbered (callTable planar c .rowStorage) (callTable planar c .finite) (callTable planar c .masks) rows
 
   pub call-numbered : (c : Call planar) (rows : List Float) → Numbered (rulesOf planar c m rows)
   unfolding rulesOf
@@ -293,7 +297,7 @@ module _ (m : Model) (arguments : Bool) where
     -- rule 6, taken apart
     finite : (finiteParams (m .params) ≡ true) × (all 0 (bodyCount planar (m .bodies)) (finiteBody (m .bodies)) ≡ true)
         × (all 0 (jointCount planar (m .words) (m .numbers)) (finiteJoint (m .words) (m .numbers)) ≡ true) × (arguments ≡ true)
-    unfolding modelRules
+    unfolding modelRulesWith
     finite =
         let s = both (finiteParams (m .params)) _ (held 6) in
         let b = both (all 0 (bodyCount planar (m .bodies)) (finiteBody (m .bodies))) _ (s .1) in
@@ -301,7 +305,7 @@ module _ (m : Model) (arguments : Bool) where
         (s .0, b .0, j .0, j .1)
 
     pub rules-hold : RulesHold m
-    unfolding modelRules
+    unfolding modelRulesWith
     rules-hold = record {
       bodies = held 1;
       joints = held 2;
@@ -319,7 +323,7 @@ module _ (m : Model) (arguments : Bool) where
     arguments-finite = finite .3
 
   pub rules-granted : RulesHold m → arguments ≡ true → refusal (modelRules planar m arguments) ≡ 0
-  unfolding modelRules refusal
+  unfolding modelRulesWith refusal
   rules-granted h e = rw (h .bodies, h .joints, h .masks, h .present, h .apart, h .finite-params, h .finite-bodies, h .finite-joints, e, h .angles, h .dt)
 
   -- the rules after them then decide
@@ -328,7 +332,7 @@ module _ (m : Model) (arguments : Bool) where
 
   -- the call's own numbers are not finite, and the model is as rules 1 to 6 ask
   pub rules-arguments : RulesHold m → arguments ≡ false → (rest : List Rule) → refusal (modelRules planar m arguments ++ rest) ≡ 6
-  unfolding modelRules refusal
+  unfolding modelRulesWith refusal
   rules-arguments h e rest = rw (h .bodies, h .joints, h .masks, h .present, h .apart, h .finite-params, h .finite-bodies, h .finite-joints, e)
 
 -- ---- what the rules see to

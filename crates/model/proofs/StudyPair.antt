@@ -25,16 +25,16 @@ use Rattle.rows.specs.declared.joint_velocity_constraint.WritebackId.{Writeback
 use Rattle.rows.specs.declared.joint_velocity_constraint.WritebackId.the-variants.{Dof, Limit, Motor}
 use Rattle.model.specs.declared.store.LimitCenter.{LimitCenter}
 use Rattle.model.specs.declared.store.LimitCenter.the-variants.{CosineSine, Angle}
-use Rattle.model.specs.Store.{world, solverPoseAt, velAt, jointAt, masksAt, body1At, body2At, enabledAt, centerAt}
+use Rattle.model.specs.Store.{putFirst, world, solverPoseAt, velAt, jointAt, masksAt, body1At, body2At, enabledAt, centerAt}
 use Rattle.multibody.specs.Rules.{refusal, all}
 use Rattle.multibody.specs.Model.{Model, model}
 use Rattle.multibody.specs.JointRows.{jointIds, rowCount, rowMasksAt}
-use Rattle.multibody.specs.Counts.{bodyCount, jointCount, rowCapacity, rowsBefore}
-use Rattle.multibody.specs.Refusals.{presentOrWorld, bodiesPresent, bodiesApart, finiteParams, finiteWarm, modelRules, storageRule, seedsRule, readsRows}
+use Rattle.multibody.specs.Counts.{bodyCount, jointCount, rowCapacity, rowsBefore, storeFirsts}
+use Rattle.multibody.specs.Refusals.{presentOrWorld, bodiesPresent, bodiesApart, finiteParams, finiteWarm, modelRulesWith, storageRule, seedsRule, readsRows}
 use Rattle.multibody.specs.Calls.{rulesOf, grantedOf}
 use Rattle.multibody.specs.Calls.Call.{load, build}
 use Rattle.multibody.specs.Traces.{Study, AtEach, AtSome}
-use Rattle.multibody.specs.Studies.{machine, Loaded, Enough, Closed, OfSet, Agree, MakesRows, HasRow, Names, Compared, SameNumbers, Noninterference}
+use Rattle.multibody.specs.Studies.{machine, Loaded, Enough, Closed, OfSet, Agree, MakesRows, HasRow, Names, Compared, GrantedAlike, SameNumbers, Noninterference}
 use Rattle.multibody.proofs.CallLaws.{run-granted}
 use Rattle.multibody.proofs.RefusedExactly.{told}
 use Rattle.multibody.proofs.Premises.{Turn, recorded, recorded-returns}
@@ -45,7 +45,7 @@ use Rattle.model.proofs.PlanarLaws.{planar-laws}
 
 -- ---- the two models
 
-abbrev o : Float
+abbrev pub o : Float
 o = fin false 0 (pos 0)
 
 abbrev one : Float
@@ -65,14 +65,14 @@ bodyAt x = one ∷ o ∷ x ∷ o ∷ one ∷ one ∷ one ∷ o ∷ o ∷ o ∷ [
 abbrev jointWith : Float → List Float
 jointWith v = one ∷ o ∷ o ∷ o ∷ one ∷ o ∷ o ∷ o ∷ (replicate 9 o ++ (v ∷ replicate 24 o))
 
--- the words of a joint between two bodies, enabled, that locks some axes, and how its centre is typed
-abbrev locking : ℕ → ℕ → ℕ → ℕ → List ℕ
-locking b1 b2 axes choice = b1 ∷ b2 ∷ axes ∷ (replicate 7 0 ++ (choice ∷ []))
+-- the words of a joint between two bodies, enabled, that locks some axes, how its centre is typed, and its first row
+abbrev locking : ℕ → ℕ → ℕ → ℕ → ℕ → List ℕ
+locking b1 b2 axes choice first = b1 ∷ b2 ∷ axes ∷ (replicate 7 0 ++ (choice ∷ first ∷ []))
 
 -- where body 2 stands, what its joint locks, the target velocity of joint 0's first motor, and how joint 0's centre is typed
 abbrev pub example : Float → ℕ → Float → ℕ → Model
 example x axes v choice =
-    model params false (bodyAt o ++ (bodyAt one ++ bodyAt x)) (locking 0 1 3 choice ++ locking 2 world axes 0) (jointWith v ++ jointWith o)
+    model params false (bodyAt o ++ (bodyAt one ++ bodyAt x)) (locking 0 1 3 choice 0 ++ locking 2 world axes 0 2) (jointWith v ++ jointWith o)
 
 abbrev pub m : Model
 m = example two 7 one 0
@@ -103,7 +103,7 @@ abbrev Granted : Model → Type 0
 Granted n = (refusal (rulesOf planar load n storage) ≡ 0) × (refusal (rulesOf planar (build Cold 0) n storage) ≡ 0)
 
 both-granted : Granted m × Granted m′
-unfolding rulesOf refusal all modelRules storageRule seedsRule readsRows masksFit presentOrWorld bodiesPresent bodiesApart finiteFrom noNanFrom finiteParams finiteWarm finiteBody finiteMotor finiteCenter finiteJoint angleFits centerFits centerAt angleTooLarge absOf isFinite isNan lt ofBits bodyCount jointCount rowCapacity rowsBefore rowCount jointIds rowMasksAt enabledAt masksAt body1At body2At hasAxis rowIds
+unfolding rulesOf refusal all modelRulesWith storageRule seedsRule readsRows masksFit presentOrWorld bodiesPresent bodiesApart finiteFrom noNanFrom finiteParams finiteWarm finiteBody finiteMotor finiteCenter finiteJoint angleFits centerFits centerAt angleTooLarge absOf isFinite isNan lt ofBits bodyCount jointCount rowCapacity rowsBefore rowCount jointIds rowMasksAt enabledAt masksAt body1At body2At hasAxis rowIds
 both-granted = ((refl, refl), (refl, refl))
 
 granted : Granted m
@@ -112,12 +112,12 @@ granted = both-granted .0
 granted′ : Granted m′
 granted′ = both-granted .1
 
-loaded : Loaded planar s
-unfolding grantedOf
+pub loaded : Loaded planar s
+unfolding grantedOf storeFirsts putFirst jointCount rowsBefore rowCount jointIds rowMasksAt enabledAt masksAt hasAxis rowIds
 loaded = record { handedOver = m; byLoad = sym (run-granted load m storage (granted .0)) }
 
-loaded′ : Loaded planar s′
-unfolding grantedOf
+pub loaded′ : Loaded planar s′
+unfolding grantedOf storeFirsts putFirst jointCount rowsBefore rowCount jointIds rowMasksAt enabledAt masksAt hasAxis rowIds
 loaded′ = record { handedOver = m′; byLoad = sym (run-granted load m′ storage (granted′ .0)) }
 
 enough : AtEach (Enough planar) (recorded planar-laws ts s s′) s s′
@@ -197,7 +197,7 @@ contents = record {
   dof = λ i n. refl;
 }
 
-agree : Agree planar set (Names planar (recorded planar-laws ts s s′) s s′) m m′
+pub agree : Agree planar set (Names planar (recorded planar-laws ts s s′) s s′) m m′
 unfolding solverPoseAt velAt body1At body2At
 agree = record {
   params = refl;
@@ -215,10 +215,15 @@ agree = record {
 
 -- ---- what is shown
 
-pub compared : Compared planar set (recorded planar-laws ts s s′) s s′
-compared = record { loaded = loaded; loaded′ = loaded′; agree = agree; storage = enough; traces = recorded-returns planar-laws ts s s′ }
+-- the list has no call that must be granted or refused alike
+no-alike : AtEach (GrantedAlike planar) (recorded planar-laws ts s s′) s s′
+unfolding AtEach recorded
+no-alike = (tt, tt)
 
-same-numbers : SameNumbers planar m m′
+pub compared : Compared planar set (recorded planar-laws ts s s′) s s′
+compared = record { loaded = loaded; loaded′ = loaded′; agree = agree; storage = enough; alike = no-alike; traces = recorded-returns planar-laws ts s s′ }
+
+pub same-numbers : SameNumbers planar m m′
 same-numbers = record { bodies = three-bodies two one 7 0 ∙ sym (three-bodies o two 3 1); joints = two-joints two one 7 0 ∙ sym (two-joints o two 3 1) }
 
 pub shared : Noninterference planar set (recorded planar-laws ts s s′) s s′

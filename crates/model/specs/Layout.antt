@@ -23,10 +23,10 @@ massPlace = 5
 abbrev pub velocityPlace : ℕ
 velocityPlace = 7
 
--- ---- a joint's words: two bodies, four masks, three motor models, `JointEnabled`, how its centre is typed
+-- ---- a joint's words: two bodies, four masks, three motor models, `JointEnabled`, how its centre is typed; and its first row, which is none of its contents
 
 abbrev pub wordsWidth : ℕ
-wordsWidth = 11
+wordsWidth = 12
 
 abbrev pub body1Place : ℕ
 body1Place = 0
@@ -45,6 +45,9 @@ enabledPlace = 9
 
 abbrev pub centerChoicePlace : ℕ
 centerChoicePlace = 10
+
+abbrev pub firstRowPlace : ℕ
+firstRowPlace = 11
 
 -- ---- a joint's numbers: two frames, three limits (min, max, impulse), three motors, softness (natural frequency, damping ratio), three Dof impulses, centre (cosine, sine; or an angle, in the cosine's place)
 

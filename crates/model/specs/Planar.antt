@@ -1,13 +1,14 @@
 -- The planar model as a kind of multibody system: two linear axes and one angular. Beside document 01's calls it has motor tables (document 02, R-6).
 use Prim.Native.Nat.{ℕ}
 use mathlib.Core.List.{List, [], _∷_}
-use mathlib.Core.Bool.{not}
+use mathlib.Core.Bool.{not, _&&_}
 use lib.Dec.{eqb}
 use lib.Ieee.{Float}
 use Rattle.floats.specs.declared.pose.Pose.{Pose}
 use Rattle.rows.specs.Step.{stepOf, warmstartOf, removeBiasOf}
 use Rattle.rows.specs.Builder.{builderUpdateOf, seedOf}
 use Rattle.rows.specs.Named.{SameNamed}
+use Rattle.rows.specs.declared.generic_joint.Masks.{Masks}
 use Rattle.rows.specs.declared.joint_constraint_builder.SolverPose.{SolverPose}
 use Rattle.rows.specs.declared.joint_constraint_builder.ImpulseJoint.{ImpulseJoint}
 use Rattle.rows.specs.declared.joint_velocity_constraint.SolverVel.{SolverVel}
@@ -18,8 +19,8 @@ use Rattle.multibody.specs.Model.{Model}
 use Rattle.multibody.specs.System.{System}
 use Rattle.multibody.specs.Refusals.{bodiesPresent, bodiesApart}
 use Rattle.model.specs.Layout.{rowWidth, bodyWidth, wordsWidth, numbersWidth}
-use Rattle.model.specs.Store.{rowAt, putRow, velAt, putVel, solverPoseAt, putPose, jointAt, masksAt, enabledAt, body1At, body2At, putSeed}
-use Rattle.model.specs.Refusals.{masksFit, finitePose, finiteBody, finiteJoint, centerFits}
+use Rattle.model.specs.Store.{rowAt, putRow, velAt, putVel, solverPoseAt, putPose, jointAt, masksAt, enabledAt, body1At, body2At, putSeed, putFirst, putMasks}
+use Rattle.model.specs.Refusals.{masksFit, newMasksFit, finitePose, finiteBody, finiteJoint, centerFits}
 use Rattle.model.specs.MotorTargets.{setTable}
 
 -- Rules 13 to 15, of the bytes of a table for so many joints. The first faulty record decides, so at most one of them fails: that of the number with which the table is refused.
@@ -57,6 +58,10 @@ planar = record {
   body1At = body1At;
   body2At = body2At;
   putSeed = putSeed;
+  putFirst = putFirst;
+  NewMasks = Masks;
+  fitMasks = newMasksFit;
+  putMasks = putMasks;
   builderUpdateOf = builderUpdateOf;
   impulseOf = λ r. r .impulse;
   stepOf = λ r v1 v2. let t = stepOf r v1 v2 in record { row = t .row; vel1 = t .vels .vel1; vel2 = t .vels .vel2; side = t .side };
@@ -64,7 +69,7 @@ planar = record {
   removeBiasOf = removeBiasOf;
   seedOf = seedOf;
   SameNamed = SameNamed;
-  maskRules = λ words joints. rule 3 (all 0 joints (masksFit words)) ∷ [];
+  maskRules = λ words joints fit. rule 3 (fit && all 0 joints (masksFit words)) ∷ [];
   finitePose = finitePose;
   finiteBody = finiteBody;
   finiteJoint = finiteJoint;

@@ -10,6 +10,7 @@ use Rattle.floats.specs.Operators.{bits}
 use Rattle.floats.specs.Scalar.{isFinite}
 use Rattle.floats.specs.SinCos.{angleTooLarge}
 use Rattle.floats.specs.declared.pose.Pose.{Pose}
+use Rattle.rows.specs.declared.generic_joint.Masks.{Masks}
 use Rattle.rows.specs.declared.integration_parameters.IntegrationParameters.{IntegrationParameters}
 use Rattle.rows.specs.declared.joint_constraint_builder.Warmstart.{Warmstart}
 use Rattle.rows.specs.declared.joint_constraint_builder.Warmstart.the-variants.{Cold, Warm}
@@ -31,6 +32,10 @@ fourMasks = 4
 
 unfoldable pub masksFit : List ℕ → ℕ → Bool
 masksFit words j = all masksPlace fourMasks (λ c. atMost allAxes (word wordsWidth words j c))
+
+-- and of the masks that a call brings (document 02, R-10)
+unfoldable pub newMasksFit : Masks → Bool
+newMasksFit ms = atMost allAxes (ms .«locked_axes») && (atMost allAxes (ms .«limit_axes») && (atMost allAxes (ms .«motor_axes») && atMost allAxes (ms .«coupled_axes»)))
 
 -- ---- what rule 6 asks: no NaN, and no infinity but in limit ends and maximum forces. Velocities and stored impulses are exempt.
 

@@ -25,7 +25,7 @@ use Rattle.rows.specs.declared.joint_velocity_constraint.SolverVel.{SolverVel}
 use Rattle.rows.specs.declared.joint_velocity_constraint.JointConstraint.{JointConstraint}
 use Rattle.rows.specs.declared.joint_velocity_constraint.WritebackId.{WritebackId}
 use Rattle.rows.specs.declared.joint_velocity_constraint.WritebackId.the-variants.{Dof, Limit, Motor}
-use Rattle.model.specs.Layout.{rowWidth, bodyWidth, posePlace, inertiaPlace, massPlace, velocityPlace, wordsWidth, body1Place, body2Place, masksPlace, modelsPlace, numbersWidth, frame1Place, frame2Place, limitsPlace, limitsWidth, motorsPlace, motorWidth, softnessPlace, dofsPlace, centerPlace, limitSeed, motorSeed, targetPlace, enabledPlace, centerChoicePlace}
+use Rattle.model.specs.Layout.{rowWidth, bodyWidth, posePlace, inertiaPlace, massPlace, velocityPlace, wordsWidth, body1Place, body2Place, masksPlace, modelsPlace, numbersWidth, frame1Place, frame2Place, limitsPlace, limitsWidth, motorsPlace, motorWidth, softnessPlace, dofsPlace, centerPlace, limitSeed, motorSeed, targetPlace, enabledPlace, centerChoicePlace, firstRowPlace}
 use Rattle.model.specs.Records.{num, word, puts}
 use Rattle.model.specs.declared.store.LimitCenter.{LimitCenter}
 use Rattle.model.specs.declared.store.LimitCenter.the-variants.{CosineSine, Angle}
@@ -205,9 +205,23 @@ centerAt words numbers j = centerOf (num numbersWidth numbers j) (word wordsWidt
 unfoldable pub masksAt : List ℕ → ℕ → Masks
 masksAt words j = masksOf (word wordsWidth words j)
 
+-- and these replaced (document 02, R-10)
+unfoldable pub putMasks : List ℕ → ℕ → Masks → List ℕ
+putMasks words j ms =
+    let o = j * wordsWidth in
+    set (set (set (set words (o + masksPlace) (ms .«locked_axes»)) (o + (masksPlace + 1)) (ms .«limit_axes»)) (o + (masksPlace + 2)) (ms .«motor_axes»)) (o + (masksPlace + 3))
+    (ms .«coupled_axes»)
+
 -- whether it is enabled
 unfoldable pub enabledAt : List ℕ → ℕ → JointEnabled
 enabledAt words j = enabledOf (word wordsWidth words j enabledPlace)
+
+-- its first row as it is stored; no call reads it
+unfoldable pub firstAt : List ℕ → ℕ → ℕ
+firstAt words j = word wordsWidth words j firstRowPlace
+
+unfoldable pub putFirst : List ℕ → ℕ → ℕ → List ℕ
+putFirst words j k = set words (j * wordsWidth + firstRowPlace) k
 
 -- its two bodies
 unfoldable pub body1At : List ℕ → ℕ → ℕ

@@ -5,7 +5,7 @@ ghost use mathlib.Core.List.{[]};
 ghost use Rattle.model.specs.Model.{modelOf};
 ghost use Rattle.multibody.specs.Counts.{jointCount};
 ghost use Rattle.multibody.specs.Calls.{outcome, run};
-ghost use Rattle.multibody.specs.Calls.Call.{load, place, build, warmStart, sweep, removeBias, writeBack, readRows, readVelocity, further};
+ghost use Rattle.multibody.specs.Calls.Call.{load, place, build, warmStart, sweep, removeBias, writeBack, readRows, readVelocity, setMasks, further};
 ghost use Rattle.multibody.specs.JointRows.{rowMasksAt};
 ghost use Rattle.model.specs.Planar.{planar};
 ghost use Rattle.model.specs.Answers.{WithoutRows, loadAnswer, loadHeader, plainAnswer, buildAnswer, buildHeader, rowsAnswer, noRows, rowsAnswerOf, velocityAnswer, sweepAnswer, sweptAs, sweepAnswerOf};
@@ -17,7 +17,10 @@ use crate::all_joints::warmstart_all;
 use crate::all_joints::write_back_all;
 use crate::counts::body_count;
 use crate::counts::joint_count;
+use crate::counts::row_capacity;
 use crate::counts::rows_before;
+use crate::counts::rows_with;
+use crate::counts::store_firsts;
 use crate::header::Header;
 use crate::joint_rows::count_at;
 use crate::joint_rows::ids_at;
@@ -26,13 +29,17 @@ use crate::joint_rows::reads_rows;
 use crate::refusals::finite_pose;
 use crate::refusals::finite_warm;
 use crate::refusals::model_refusal;
+use crate::refusals::new_masks_fit;
 use crate::refusals::storage_refusal;
+use crate::refusals::unfit_refusal;
+use crate::store::put_masks;
 use crate::store::put_pose;
 use crate::store::vel_at;
 use crate::targets::set_table;
 use floats::pose::Pose;
 use motor_table::table::TableAnswer;
 use motor_table::table::read_table;
+use rows::generic_joint::Masks;
 use rows::joint_constraint_builder::Warmstart;
 use rows::joint_velocity_constraint::Rows;
 use rows::joint_velocity_constraint::SolverVel;
@@ -78,20 +85,22 @@ pub enum VelocityAnswer {
     Refused(u32),
 }
 
-// Checks the model and marks it not built.
+// Checks the model, stores each joint's first row and marks the model not built.
 pub fn load(
     header: Header,
     bodies: &[f32],
-    words: &[u32],
+    words: &mut [u32],
     numbers: &[f32],
     rows: &[f32],
 ) -> LoadAnswer
-    ensures { λ r. ⌜ outcome (loadAnswer r) (modelOf (loadHeader header r) (now (bodies .entry)) (now (words .entry)) (now (numbers .entry))) (now (rows .entry)) ≡ run planar load (modelOf header (now (bodies .entry)) (now (words .entry)) (now (numbers .entry))) (now (rows .entry)) ⌝ }
+    ensures { λ r. ⌜ outcome (loadAnswer r) (modelOf (loadHeader header r) (now (bodies .entry)) (now (words .exit)) (now (numbers .entry))) (now (rows .entry)) ≡ run planar load (modelOf header (now (bodies .entry)) (now (words .entry)) (now (numbers .entry))) (now (rows .entry)) ⌝ }
 {
     let k = storage_refusal(header, bodies, words, numbers, rows, true);
     if k != 0 {
         return LoadAnswer::Refused(k);
     }
+    let joints = joint_count(words, numbers);
+    store_firsts(words, joints);
     let params = header.params;
     LoadAnswer::Loaded(Header {
         params: params,
@@ -321,6 +330,43 @@ pub fn read_velocity(
         return VelocityAnswer::Refused(11);
     }
     VelocityAnswer::Velocity(vel_at(bodies, body))
+}
+
+// Gives a joint new masks (request R-10), stores each joint's first row and marks the model not built. Row storage is tested for the new total, and never written.
+pub fn set_masks(
+    header: Header,
+    bodies: &[f32],
+    words: &mut [u32],
+    numbers: &[f32],
+    rows: &[f32],
+    joint: u32,
+    masks: Masks,
+) -> LoadAnswer
+    ensures { λ r. ⌜ outcome (loadAnswer r) (modelOf (loadHeader header r) (now (bodies .entry)) (now (words .exit)) (now (numbers .entry))) (now (rows .entry)) ≡ run planar (setMasks joint masks) (modelOf header (now (bodies .entry)) (now (words .entry)) (now (numbers .entry))) (now (rows .entry)) ⌝ }
+{
+    if !new_masks_fit(masks) {
+        return LoadAnswer::Refused(unfit_refusal(bodies, words, numbers));
+    }
+    let k = model_refusal(header, bodies, words, numbers, true);
+    if k != 0 {
+        return LoadAnswer::Refused(k);
+    }
+    let joints = joint_count(words, numbers);
+    let j = joint as usize;
+    let total = rows_with(words, joints, j, masks);
+    if total > row_capacity(rows) {
+        return LoadAnswer::Refused(8);
+    }
+    if j >= joints {
+        return LoadAnswer::Refused(11);
+    }
+    put_masks(words, j, masks);
+    store_firsts(words, joints);
+    let params = header.params;
+    LoadAnswer::Loaded(Header {
+        params: params,
+        built: false,
+    })
 }
 
 // Sets the target velocities of a motor table (request R-6), and keeps the mark.

@@ -14,7 +14,7 @@ ghost use Rattle.model.specs.Layout.{rowWidth, wordsWidth, numbersWidth}
 ghost use Rattle.multibody.specs.Refusals.{readsRows};
 ghost use Rattle.multibody.specs.JointRows.{state, rowMasksAt, rowCount, motorCount, putRows, impulsesAt, buildJoint, sweepRow, sweepSide, sweepJoint, countRow, countRows, warmstartRow, warmstartJoint, removeBiasJoint, writeBackJoint};
 ghost use Rattle.model.specs.Planar.{planar};
-ghost use Rattle.model.specs.Store.{Present, enabledAt, body1At, body2At};
+ghost use Rattle.model.specs.Store.{Present, putMasks, enabledAt, body1At, body2At};
 ghost use Rattle.model.specs.JointRows.{rowsList};
 use crate::layout::ROW_WIDTH;
 use crate::store::body1_at;
@@ -78,6 +78,21 @@ pub fn count_at(words: &[u32], j: usize) -> usize
     ensures { λ r. ⌜ r ≡ rowCount planar (now (words .entry)) j ⌝ }
 {
     row_count(row_masks_at(words, j))
+}
+
+// Their number once joint j has other masks, of which none is stored yet (request R-10): joint i's own where it is another one.
+pub fn count_with(words: &[u32], i: usize, j: usize, masks: Masks) -> usize
+    requires { ⌜ i * wordsWidth + wordsWidth ≤ length (now words) ⌝ }
+    ensures { λ r. ⌜ r ≡ rowCount planar (putMasks (now (words .entry)) j masks) i ⌝ }
+{
+    if i != j {
+        return count_at(words, i);
+    }
+    let enabled = enabled_at(words, i);
+    if enabled.is_enabled() {
+        return row_count(masks);
+    }
+    0
 }
 
 // How many of them are motors', the first ones.

@@ -24,7 +24,7 @@ pub const VELOCITY_Y: usize = 8;
 pub const VELOCITY_ANGULAR: usize = 9;
 
 // A joint's words: two bodies, four masks, three motor models, `JointEnabled`, how its centre is typed.
-pub const WORDS_WIDTH: usize = 11;
+pub const WORDS_WIDTH: usize = 12;
 
 pub const BODY1: usize = 0;
 
@@ -47,6 +47,8 @@ pub const MODEL_ANGULAR: usize = 8;
 pub const ENABLED: usize = 9;
 
 pub const CENTER_CHOICE: usize = 10;
+
+pub const FIRST_ROW: usize = 11;
 
 // A joint's numbers: two frames, three limits (min, max, impulse), three motors (target velocity and
 // position, stiffness, damping, maximum force, impulse), softness, three Dof impulses, centre (cosine,

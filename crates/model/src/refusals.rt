@@ -1,6 +1,6 @@
 // Document 01's rules 1 to 8, and rule 12 right after 6, each tried on the whole of what a call is handed before the next.
 ghost use mathlib.Core.Path.{_≡_};
-ghost use mathlib.Core.Bool.{Bool, not, _&&_, _||_};
+ghost use mathlib.Core.Bool.{Bool, false, not, _&&_, _||_};
 ghost use mathlib.Core.List.{[], _∷_, _++_};
 ghost use Prim.Native.Nat.{_+_, _*_, _≤_};
 ghost use lib.ListN.{length};
@@ -11,9 +11,9 @@ ghost use Rattle.model.specs.Layout.{bodyWidth, wordsWidth, numbersWidth
 ghost use Rattle.model.specs.Model.{modelOf};
 ghost use Rattle.multibody.specs.Counts.{totalRows};
 ghost use Rattle.multibody.specs.Rules.{rule, refusal, all, atMost};
-ghost use Rattle.multibody.specs.Refusals.{presentOrWorld, bodiesPresent, bodiesApart, finiteParams, finiteWarm, modelRules, storageRule};
+ghost use Rattle.multibody.specs.Refusals.{presentOrWorld, bodiesPresent, bodiesApart, finiteParams, finiteWarm, modelRules, modelRulesWith, storageRule};
 ghost use Rattle.model.specs.Planar.{jointRules, planar};
-ghost use Rattle.model.specs.Refusals.{masksFit, finiteFrom, noNanFrom, finitePose, finiteBody, finiteMotor, limitEnds, finiteMotors, finiteCenter, finiteJoint, angleFits, centerFits};
+ghost use Rattle.model.specs.Refusals.{masksFit, newMasksFit, finiteFrom, noNanFrom, finitePose, finiteBody, finiteMotor, limitEnds, finiteMotors, finiteCenter, finiteJoint, angleFits, centerFits};
 use crate::counts::body_count;
 use crate::counts::joint_count;
 use crate::counts::row_capacity;
@@ -39,6 +39,7 @@ use crate::store::center_at;
 use floats::pose::Pose;
 use floats::scalar::is_finite;
 use floats::sin_cos::angle_too_large;
+use rows::generic_joint::Masks;
 use rows::integration_parameters::IntegrationParameters;
 use rows::joint_constraint_builder::Warmstart;
 
@@ -78,6 +79,25 @@ fn all_masks_fit(words: &[u32], n: usize) -> bool
             return false;
         }
         j += 1;
+    }
+    true
+}
+
+// Of the masks that a call brings (request R-10).
+pub fn new_masks_fit(masks: Masks) -> bool
+    ensures { λ r. ⌜ r ≡ newMasksFit masks ⌝ }
+{
+    if masks.locked_axes > ALL_AXES {
+        return false;
+    }
+    if masks.limit_axes > ALL_AXES {
+        return false;
+    }
+    if masks.motor_axes > ALL_AXES {
+        return false;
+    }
+    if masks.coupled_axes > ALL_AXES {
+        return false;
     }
     true
 }
@@ -430,6 +450,19 @@ pub fn model_refusal(
     let params = header.params;
     let finite = finite_params(params) & arguments;
     first_refusal(params.dt, finite, bodies, words, numbers, false, 0)
+}
+
+// The number of the first of these rules that fails where a call brings masks that do not fit (request R-10): rule 3, or one before it.
+pub fn unfit_refusal(bodies: &[f32], words: &[u32], numbers: &[f32]) -> u32
+    ensures { λ r. ⌜ ((header : Header) (arguments : Bool) → r ≡ refusal (modelRulesWith planar (modelOf header (now (bodies .entry)) (now (words .entry)) (now (numbers .entry))) false arguments)) ⌝ }
+{
+    if body_count(bodies) > MOST_BODIES {
+        return 1;
+    }
+    if joint_count(words, numbers) > MOST_JOINTS {
+        return 2;
+    }
+    3
 }
 
 // Rules 1 to 8 and 12, for a call that is handed row storage.

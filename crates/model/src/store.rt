@@ -5,7 +5,7 @@ ghost use Prim.Native.Nat.{_+_, _*_, _≤_, _<_};
 ghost use lib.ListN.{length};
 ghost use Rattle.model.specs.Layout.{rowWidth, bodyWidth, wordsWidth, numbersWidth};
 ghost use Rattle.model.specs.Records.{numFrom, num, sixOf, word, puts};
-ghost use Rattle.model.specs.Store.{rowAt, putRow, Present, poseOf, solverPoseAt, velAt, putVel, putPose, body1At, body2At, masksAt, limitsOf, allLimitsOf, motorModelOf, motorOf, allMotorsOf, dataOf, jointAt, axisOf, seedIndex, putSeed, putTarget, enabledOf, enabledAt, centerAt, rotationOf};
+ghost use Rattle.model.specs.Store.{rowAt, putRow, Present, poseOf, solverPoseAt, velAt, putVel, putPose, body1At, body2At, masksAt, putMasks, limitsOf, allLimitsOf, motorModelOf, motorOf, allMotorsOf, dataOf, jointAt, axisOf, seedIndex, putSeed, putTarget, enabledOf, enabledAt, centerAt, rotationOf};
 use crate::layout::BODY_WIDTH;
 use crate::layout::BODY1;
 use crate::layout::BODY2;
@@ -294,6 +294,18 @@ pub fn masks_at(words: &[u32], j: usize) -> Masks
         motor_axes: words[o + MOTOR_AXES],
         coupled_axes: words[o + COUPLED_AXES],
     }
+}
+
+// Joint j's masks replaced (request R-10).
+pub fn put_masks(words: &mut [u32], j: usize, masks: Masks)
+    requires { ⌜ j * wordsWidth + wordsWidth ≤ length (now words) ⌝ }
+    ensures { λ _. ⌜ now (words .exit) ≡ putMasks (now (words .entry)) j masks ⌝ }
+{
+    let o = j * WORDS_WIDTH;
+    words[o + LOCKED_AXES] = masks.locked_axes;
+    words[o + LIMIT_AXES] = masks.limit_axes;
+    words[o + MOTOR_AXES] = masks.motor_axes;
+    words[o + COUPLED_AXES] = masks.coupled_axes;
 }
 
 // An axis's limits, in three numbers from number c on of the record that starts at place o.

@@ -12,9 +12,10 @@ use Rattle.multibody.specs.Model.{Model}
 use Rattle.multibody.specs.System.{System}
 use Rattle.multibody.specs.JointRows.{jointIds}
 use Rattle.multibody.specs.Counts.{jointCount}
-use Rattle.multibody.specs.Refusals.{finiteWarm, modelRules, storageRule, sweepRule, builtRule, seedsRule, bodyRule, jointRule}
-use Rattle.multibody.specs.Calls.{Call, Outcome, callTable, addedRules, handedRules, rulesOf, grantedOf, run, refusalOf, rowsOf}
-use Rattle.multibody.specs.Calls.Call.{load, place, build, warmStart, sweep, removeBias, writeBack, readRows, readVelocity, further}
+use Rattle.multibody.specs.Refusals.{finiteWarm, modelRules, modelRulesWith, storageRule, sweepRule, builtRule, seedsRule, bodyRule, jointRule}
+use Rattle.multibody.specs.Calls.{Call, Outcome, Change, fitChange, changed, callTable, addedRules, handedRules, rulesOf, grantedOf, run, refusalOf, rowsOf}
+use Rattle.multibody.specs.Calls.Call.{load, place, build, warmStart, sweep, removeBias, writeBack, readRows, readVelocity, setMasks, further}
+use Rattle.multibody.specs.Calls.Change.{none, given}
 use Rattle.multibody.specs.Calls.Answer.{rowsRead}
 use Rattle.multibody.specs.Studies.{MakesRows}
 
@@ -31,14 +32,14 @@ module _ (sys : System) (m : Model) where
   open System sys using (maskRules, contentRules, Further)
 
   -- document 01's order: the rules of a kind stand where 3 stands, and right after 6
-  pub checking-order : (arguments : Bool) → let joints = jointCount sys (m .words) (m .numbers) in
-      numbersOf (modelRules sys m arguments) ≡ 1 ∷ 2 ∷ (numbersOf (maskRules (m .words) joints) ++ (4 ∷ 5 ∷ 6 ∷ (numbersOf (contentRules (m .words) (m .numbers) joints) ++ (7 ∷ []))))
-  unfolding modelRules
-  checking-order arguments =
+  pub checking-order : (fit arguments : Bool) → let joints = jointCount sys (m .words) (m .numbers) in
+      numbersOf (modelRulesWith sys m fit arguments) ≡ 1 ∷ 2 ∷ (numbersOf (maskRules (m .words) joints fit) ++ (4 ∷ 5 ∷ 6 ∷ (numbersOf (contentRules (m .words) (m .numbers) joints) ++ (7 ∷ []))))
+  unfolding modelRulesWith
+  checking-order fit arguments =
       let joints = jointCount sys (m .words) (m .numbers) in
       ap (λ l. 1 ∷ 2 ∷ l)
-      (numbers-append (maskRules (m .words) joints) _
-      ∙ ap (λ l. numbersOf (maskRules (m .words) joints) ++ (4 ∷ 5 ∷ 6 ∷ l)) (numbers-append (contentRules (m .words) (m .numbers) joints) _))
+      (numbers-append (maskRules (m .words) joints fit) _
+      ∙ ap (λ l. numbersOf (maskRules (m .words) joints fit) ++ (4 ∷ 5 ∷ 6 ∷ l)) (numbers-append (contentRules (m .words) (m .numbers) joints) _))
 
   -- what each call tries after 7: 8 where it is handed row storage, 9, 10 and 11; a further call its own rules
   abbrev pub laterNumbers : Call sys → List ℕ
@@ -51,47 +52,50 @@ module _ (sys : System) (m : Model) where
   laterNumbers writeBack = 8 ∷ 10 ∷ []
   laterNumbers (readRows j) = 8 ∷ 10 ∷ 11 ∷ []
   laterNumbers (readVelocity i) = 11 ∷ []
+  laterNumbers (setMasks j ms) = 8 ∷ 11 ∷ []
   laterNumbers (further f) = numbersOf (addedRules sys f m)
 
   module _ (rows : List Float) where
-    stored-order : (finite : Bool) (rest : List Rule)
-        → numbersOf (handedRules sys true m finite rows ++ rest) ≡ numbersOf (modelRules sys m finite) ++ (8 ∷ numbersOf rest)
+    stored-order : (change : Change sys) (finite : Bool) (rest : List Rule)
+        → numbersOf (handedRules sys true m change finite rows ++ rest) ≡ numbersOf (modelRulesWith sys m (fitChange change) finite) ++ (8 ∷ numbersOf rest)
     unfolding storageRule
-    stored-order finite rest =
-        numbers-append (modelRules sys m finite ++ (storageRule sys m rows ∷ [])) rest
-        ∙ ap (λ l. l ++ numbersOf rest) (numbers-append (modelRules sys m finite) (storageRule sys m rows ∷ []))
-        ∙ append-assoc (numbersOf (modelRules sys m finite)) (8 ∷ []) (numbersOf rest)
+    stored-order change finite rest =
+        let first = modelRulesWith sys m (fitChange change) finite in
+        numbers-append (first ++ (storageRule sys (changed m change) rows ∷ [])) rest
+        ∙ ap (λ l. l ++ numbersOf rest) (numbers-append first (storageRule sys (changed m change) rows ∷ []))
+        ∙ append-assoc (numbersOf first) (8 ∷ []) (numbersOf rest)
 
     -- a build tries 8 and 10, a sweep 9 before 10, and a further call no 8
     pub build-order : (warm : Warmstart) (substep : ℕ) → numbersOf (rulesOf sys (build warm substep) m rows) ≡ numbersOf (modelRules sys m (finiteWarm warm)) ++ laterNumbers (build warm substep)
     unfolding rulesOf seedsRule
-    build-order warm substep = stored-order (finiteWarm warm) _
+    build-order warm substep = stored-order none (finiteWarm warm) _
 
     pub sweep-order : (n : ℕ) → numbersOf (rulesOf sys (sweep n) m rows) ≡ numbersOf (modelRules sys m true) ++ laterNumbers (sweep n)
     unfolding rulesOf sweepRule builtRule
-    sweep-order n = stored-order true _
+    sweep-order n = stored-order none true _
 
     pub further-order : (f : Further) → numbersOf (rulesOf sys (further f) m rows) ≡ numbersOf (modelRules sys m true) ++ laterNumbers (further f)
     unfolding rulesOf
     further-order f = numbers-append (modelRules sys m true) (addedRules sys f m)
 
-    pub call-order : (c : Call sys) → numbersOf (rulesOf sys c m rows) ≡ numbersOf (modelRules sys m (callTable sys c .finite)) ++ laterNumbers c
+    pub call-order : (c : Call sys) → numbersOf (rulesOf sys c m rows) ≡ numbersOf (modelRulesWith sys m (fitChange (callTable sys c .masks)) (callTable sys c .finite)) ++ laterNumbers c
     unfolding rulesOf builtRule bodyRule jointRule
-    call-order load = stored-order true []
+    call-order load = stored-order none true []
     call-order (place i pose) = numbers-append (modelRules sys m (sys .finitePose pose)) _
     call-order (build warm substep) = build-order warm substep
-    call-order warmStart = stored-order true _
+    call-order warmStart = stored-order none true _
     call-order (sweep n) = sweep-order n
-    call-order removeBias = stored-order true _
-    call-order writeBack = stored-order true _
-    call-order (readRows j) = stored-order true _
+    call-order removeBias = stored-order none true _
+    call-order writeBack = stored-order none true _
+    call-order (readRows j) = stored-order none true _
     call-order (readVelocity i) = numbers-append (modelRules sys m true) _
+    call-order (setMasks j ms) = stored-order (given j ms) true _
     call-order (further f) = further-order f
 
 module _ (sys : System) where
   -- ---- the mark
 
-  -- a granted load clears the mark, a granted build sets it, and no other call changes it
+  -- a granted load clears the mark, and so do new masks, a granted build sets it, and no other call changes it
   abbrev pub markAfter : Call sys → Bool → Bool
   markAfter load mark = false
   markAfter (place i p) mark = mark
@@ -102,6 +106,7 @@ module _ (sys : System) where
   markAfter writeBack mark = mark
   markAfter (readRows j) mark = mark
   markAfter (readVelocity i) mark = mark
+  markAfter (setMasks j ms) mark = false
   markAfter (further f) mark = mark
 
   pub granted-mark : (c : Call sys) (m : Model) (rows : List Float) → grantedOf sys c m rows .after .built ≡ markAfter c (m .built)
@@ -115,6 +120,7 @@ module _ (sys : System) where
   granted-mark writeBack m rows = refl
   granted-mark (readRows j) m rows = refl
   granted-mark (readVelocity i) m rows = refl
+  granted-mark (setMasks j ms) m rows = refl
   granted-mark (further f) m rows = refl
 
   -- ---- rows made, and rows read

@@ -13,6 +13,7 @@ pub mod ClosedSet
 pub mod RowWorks
 pub mod CallLocality
 pub mod RefusalLaws
+pub mod Rewording
 pub mod CallLaws
 pub mod RefusedExactly
 pub mod Keeps

@@ -13,7 +13,7 @@ use Rattle.model.specs.Model.{modelOf}
 use Rattle.multibody.specs.Model.{mostBodies, mostJoints, Model}
 use Rattle.multibody.specs.Counts.{bodyCount, jointCount, rowsBefore, totalRows}
 use Rattle.multibody.specs.Rules.{Rule, rule, refusal, all, atMost}
-use Rattle.multibody.specs.Refusals.{finiteParams, allFinite, modelRules}
+use Rattle.multibody.specs.Refusals.{finiteParams, allFinite, modelRules, modelRulesWith}
 use Rattle.model.specs.Planar.{jointRules, planar}
 use Rattle.model.specs.Refusals.{finiteBody, finiteJoint, centerFits}
 use Rattle.model.proofs.CountLaws.{bodies-fit, joints-words, joints-numbers}
@@ -40,11 +40,11 @@ module _ (m : Model) (arguments handed : Bool) (room : ℕ) {n joints : ℕ} (b 
   rules = modelRules planar m arguments ++ (eighth ∷ [])
 
   many-bodies : mostBodies < n → 1 ≡ refusal rules
-  unfolding modelRules
+  unfolding modelRulesWith
   many-bodies h = sym (rule-fails _ _ (ap not (lt-ltb mostBodies _ (rw b at h))))
 
   many-joints : n ≤ mostBodies → mostJoints < joints → 2 ≡ refusal rules
-  unfolding modelRules
+  unfolding modelRulesWith
   many-joints h g = sym (rule-holds _ _ (ap not (le-ltb mostBodies _ (rw b at h))) ∙ rule-fails _ _ (ap not (lt-ltb mostJoints _ (rw j at g))))
 
   last : List Rule
@@ -54,7 +54,7 @@ module _ (m : Model) (arguments handed : Bool) (room : ℕ) {n joints : ℕ} (b 
 
   module _ (h : n ≤ mostBodies) (g : joints ≤ mostJoints) {k : ℕ} (e : k ≡ refusal (jointRules (m .bodies) (m .words) joints)) where
     few : refusal rules ≡ refusal (jointRules (m .bodies) (m .words) joints ++ last)
-    unfolding modelRules last
+    unfolding modelRulesWith last
     few = rule-holds _ _ (ap not (le-ltb mostBodies _ (rw b at h))) ∙ rule-holds _ _ (ap not (le-ltb mostJoints _ (rw j at g))) ∙ rw (b, j)
 
     joints-fail : k ≢ 0 → k ≡ refusal rules

@@ -1,0 +1,62 @@
+-- `rows_with` meets its contract. Before turn i it has the rows of the first i joints together, with the new masks of joint j, at most six for each.
+use Prim.Native.Nat.{_-_, _≤_}
+use mathlib.Core.Path.{_≡_, sym, _∙_}
+use native.Mathlib.Omega.{arith}
+use borrow.Author.Needs.{needs}
+use Rattle.multibody.specs.Counts.{rowsBefore}
+use Rattle.model.specs.Store.{putMasks}
+use Rattle.model.specs.Planar.{planar}
+use Rattle.model.proofs.JointRowsLaws.{few-rows}
+use Rattle.model.proofs.CountLaws.{rowsBefore-none, rowsBefore-next, rowsBefore-le}
+use Rattle.model.proofs.counts.rows_with.Statement.{statement}
+use Rattle.model.proofs.counts.rows_with.Tie as tie
+
+abbrev Inv-loop : tie.InvT-loop
+Inv-loop words n j masks i₀ first₀ i first = (i ≤ n) × (first ≡ rowsBefore planar (putMasks words j masks) i)
+
+abbrev μ-loop : tie.MeasureT-loop
+μ-loop words n j masks i₀ first₀ i first = n - i
+
+loop-holds : tie.Need-loop-holds Inv-loop μ-loop
+loop-holds c = (search needs, sym (rowsBefore-none _))
+
+count-with-requires : tie.Need-count-with-requires Inv-loop μ-loop
+count-with-requires c κs = search needs
+
+add-first : tie.Need-add-first Inv-loop μ-loop
+add-first c =
+    let lp = c .before .before in
+    let a = lp .before .before .args in
+    let words = putMasks (a .words .now) (a .j) (a .masks) in
+    omega (arith, rowsBefore-le words (lp .loop .i), few-rows words (lp .loop .i) (c .count-with .ensures))
+
+add-i : tie.Need-add-i Inv-loop μ-loop
+add-i c = search needs
+
+loop-less : tie.Need-loop-less Inv-loop μ-loop
+loop-less c = search needs
+
+loop-again : tie.Need-loop-again Inv-loop μ-loop
+loop-again c =
+    let lp = c .before .before in
+    let a = lp .before .before .args in
+    (search needs, cc (lp .loop .inv .1, c .count-with .ensures, rowsBefore-next (putMasks (a .words .now) (a .j) (a .masks)) (lp .loop .i)))
+
+returns : tie.Need-returns Inv-loop μ-loop
+returns c =
+    let e : c .before .loop .i ≡ c .before .before .before .args .n = omega (arith, c .loop-test .left) in
+    c .before .loop .inv .1 ∙ rw e
+
+pub rows-with-spec : {M : Type 1} → statement M
+rows-with-spec =
+    tie.close
+    (tie.spec
+    Inv-loop
+    μ-loop
+    loop-holds
+    count-with-requires
+    add-first
+    add-i
+    loop-less
+    loop-again
+    returns)
