@@ -6,12 +6,14 @@ use crate::sines;
 use rapier2d::pipeline::model as rust;
 
 pub const BODY: usize = 10;
-pub const WORDS: usize = 11;
+pub const WORDS: usize = 12;
 /// Place of a joint's `JointEnabled` in its words.
 pub const ENABLED: usize = 9;
 /// Place of the word that says how the centre is typed: 0 by cosine and sine (numbers 40 and 41),
 /// every other word by an angle (number 40).
 pub const CHOICE: usize = 10;
+/// Place of a joint's first row in its words, which granted loads and mask changes store. Nothing reads it.
+pub const FIRST: usize = 11;
 pub const JOINT: usize = 42;
 pub const ROW: usize = 18;
 pub const WORLD: u32 = u32::MAX;
@@ -45,7 +47,7 @@ pub struct Study {
     /// Pose re, im, x, y; inverse inertia; inverse mass x, y; velocity x, y, angular.
     pub bodies: Vec<f32>,
     /// Body 1, body 2; locked, limit, motor and coupled mask; motor models of axes 0, 1, 2;
-    /// `JointEnabled`; how the centre is typed.
+    /// `JointEnabled`; how the centre is typed; first row.
     pub words: Vec<u32>,
     pub numbers: Vec<f32>,
     pub rows: Vec<f32>,
@@ -72,9 +74,14 @@ pub enum Call {
     ReadVelocity(u32),
     /// The bytes of a motor table.
     SetTargets(&'static [u8]),
+    /// Locked, limit, motor and coupled mask.
+    SetMasks {
+        joint: u32,
+        masks: [u32; 4],
+    },
 }
 
-pub const KINDS: [&str; 10] = [
+pub const KINDS: [&str; 11] = [
     "load",
     "place",
     "build",
@@ -85,6 +92,7 @@ pub const KINDS: [&str; 10] = [
     "row read",
     "velocity read",
     "motor table",
+    "mask change",
 ];
 
 /// The refusals that a tally has columns for: none, then 1 to 15.
@@ -104,6 +112,7 @@ impl Call {
             Call::ReadRows(_) => 7,
             Call::ReadVelocity(_) => 8,
             Call::SetTargets(_) => 9,
+            Call::SetMasks { .. } => 10,
         }
     }
 
@@ -187,6 +196,30 @@ impl Study {
     pub fn total(&self) -> usize {
         self.first_row(self.joint_count())
     }
+
+    /// The total that rule 8 asks for: once a mask change is made, where its joint is there.
+    fn needed(&self, call: &Call) -> usize {
+        let Call::SetMasks { joint, masks } = call else {
+            return self.total();
+        };
+        let mut after = self.clone();
+        after.put_masks(*joint, masks);
+        after.total()
+    }
+
+    fn put_masks(&mut self, joint: u32, masks: &[u32; 4]) {
+        if (joint as usize) < self.joint_count() {
+            self.words[joint as usize * WORDS + 2..][..4].copy_from_slice(masks);
+        }
+    }
+
+    fn store_first_rows(&mut self) {
+        let mut first = 0;
+        for j in 0..self.joint_count() {
+            self.words[j * WORDS + FIRST] = first;
+            first += self.ids(j).len() as u32;
+        }
+    }
 }
 
 /// Whether rule 6 and the rows read number i of a joint with these words.
@@ -215,9 +248,12 @@ fn model_refusal(s: &Study, call: &Call) -> u64 {
     if s.joint_count() > 128 {
         return 2;
     }
-    if s.joints()
-        .any(|(w, _)| w[2..6].iter().any(|mask| *mask > 7))
-    {
+    let new_masks: &[u32] = match call {
+        Call::SetMasks { masks, .. } => masks,
+        _ => &[],
+    };
+    let too_wide = |masks: &[u32]| masks.iter().any(|mask| *mask > 7);
+    if s.joints().any(|(w, _)| too_wide(&w[2..6])) || too_wide(new_masks) {
         return 3;
     }
     let known = |body: u32| (body as usize) < bodies || body == WORLD;
@@ -258,7 +294,7 @@ fn model_refusal(s: &Study, call: &Call) -> u64 {
     if s.settings[0] < 0.0 {
         return 7;
     }
-    if call.has_storage() && s.row_capacity() < s.total() {
+    if call.has_storage() && s.row_capacity() < s.needed(call) {
         return 8;
     }
     0
@@ -280,14 +316,20 @@ pub fn refusal(s: &Study, call: &Call) -> u64 {
         | Call::RemoveBias
         | Call::WriteBack
         | Call::ReadRows(_) => true,
-        Call::Load | Call::Place { .. } | Call::ReadVelocity(_) | Call::SetTargets(_) => false,
+        Call::Load
+        | Call::Place { .. }
+        | Call::ReadVelocity(_)
+        | Call::SetTargets(_)
+        | Call::SetMasks { .. } => false,
     };
     if needs_built && !s.built {
         return 10;
     }
     let absent = match call {
         Call::Place { body, .. } | Call::ReadVelocity(body) => *body as usize >= s.body_count(),
-        Call::ReadRows(joint) => *joint as usize >= s.joint_count(),
+        Call::ReadRows(joint) | Call::SetMasks { joint, .. } => {
+            *joint as usize >= s.joint_count()
+        }
         _ => false,
     };
     if absent {
@@ -314,7 +356,10 @@ pub fn call(s: &mut Study, call: &Call) -> Answer {
     let bodies = s.body_count() * BODY;
     let (words, numbers) = (s.joint_count() * WORDS, s.joint_count() * JOINT);
     match *call {
-        Call::Load => s.built = false,
+        Call::Load => {
+            s.store_first_rows();
+            s.built = false;
+        }
         Call::Place { body, pose } => {
             s.bodies[body as usize * BODY..][..4].copy_from_slice(&pose);
         }
@@ -365,6 +410,11 @@ pub fn call(s: &mut Study, call: &Call) -> Answer {
                 let at = joint as usize * JOINT + TARGET + axis as usize * MOTOR;
                 s.numbers[at] = tables::target(thousandths);
             }
+        }
+        Call::SetMasks { joint, masks } => {
+            s.put_masks(joint, &masks);
+            s.store_first_rows();
+            s.built = false;
         }
     }
     answer

@@ -14,7 +14,7 @@ pub fn carry(number: u32) {
 }
 
 /// Fault k is entry k − 1.
-pub const FAULTS: [&str; 130] = [
+pub const FAULTS: [&str; 154] = [
     // The order of the rules.
     "rules 1 and 2 exchanged",
     "rules 2 and 3 exchanged",
@@ -157,6 +157,31 @@ pub const FAULTS: [&str; 130] = [
     "counts are added up over the rounds",
     "only an impulse above the upper bound counts",
     "counts of one joint stand at the next",
+    // Changes of masks, and first rows.
+    "a mask change: 11 is tried before 8",
+    "a mask change: 8 goes by the old total",
+    "a mask change: 8 asks for room for both totals",
+    "a mask change: the masks of a missing joint are counted",
+    "a mask change: the new masks are not looked at by 3",
+    "a mask change: the new masks of a missing joint are not looked at by 3",
+    "a mask change: old masks above 7 that it replaces are not refused",
+    "a mask change passes over 8",
+    "a mask change needs a build",
+    "a mask change of a joint that is switched off is refused",
+    "a mask change of a joint that is switched off counts its rows",
+    "a mask change keeps the mark",
+    "a mask change to the same masks keeps the mark",
+    "a mask change: locked and limit mask exchanged",
+    "a mask change: motor and coupled mask exchanged",
+    "a mask change: the first rows of later joints are left",
+    "a mask change clears what the joint has stored",
+    "a refused mask change stores first rows",
+    "load stores no first rows",
+    "a refused load stores first rows",
+    "first rows count joints that are switched off",
+    "a build stores first rows",
+    "a row read trusts the stored first row",
+    "a build trusts the stored first rows",
 ];
 
 fn fault(number: u32) -> bool {
@@ -173,7 +198,7 @@ const LIMITS: [usize; 3] = [8, 11, 14];
 
 /// A joint as the model has it.
 struct Joint {
-    words: [u32; 11],
+    words: [u32; 12],
     numbers: [f32; 42],
     ids: Vec<u32>,
     /// Whether it is switched off.
@@ -184,10 +209,25 @@ struct Joint {
     first: usize,
 }
 
+/// The row count of a joint with these words.
+fn rows_of(w: &[u32]) -> usize {
+    rendering::ids(&w[2..6]).len() * usize::from(w[9] == 0)
+}
+
+/// The first row of each joint before joint `end` stored among its words.
+fn store_first_rows(s: &mut Study, end: usize) {
+    let joints = s.words.chunks_exact_mut(12).zip(s.numbers.chunks_exact(42));
+    let mut first = 0;
+    for (w, _) in joints.take(end) {
+        w[11] = first;
+        first += or!(151, rows_of(w), rendering::ids(&w[2..6]).len()) as u32;
+    }
+}
+
 fn joints(s: &Study) -> Vec<Joint> {
     let mut next = 0;
     let mut all = Vec::new();
-    for (w, n) in s.words.chunks_exact(11).zip(s.numbers.chunks_exact(42)) {
+    for (w, n) in s.words.chunks_exact(12).zip(s.numbers.chunks_exact(42)) {
         let named = rendering::ids(&w[2..6]);
         let off = match w[9] {
             0 => false,
@@ -405,13 +445,22 @@ fn rules(s: &Study, call: &Call) -> Vec<(u64, bool)> {
     let bodies = parts as u64;
 
     let too_many = bodies > or!(13, or!(12, 128, 127), 129);
-    let counted = or!(17, all.len(), s.words.len() / 11);
+    let counted = or!(17, all.len(), s.words.len() / 12);
     let too_jointed = counted > or!(15, or!(14, 128, 127), 129);
-    let mask_bad = |j: &Joint| {
-        let masks = &j.words[2..or!(20, 6, 5)];
-        let seen = masks.iter().map(|m| or!(22, *m, *m & 255));
+    let masks_bad = |masks: &[u32]| {
+        let seen = masks[..or!(20, 4, 3)].iter().map(|m| or!(22, *m, *m & 255));
         seen.max().unwrap() > or!(19, or!(18, 7, 6), 8)
     };
+    let mask_bad = |j: &Joint| masks_bad(&j.words[2..6]);
+    // The joint and the masks that the call brings.
+    let brought = match call {
+        Call::SetMasks { joint, masks } => Some((*joint as usize, masks)),
+        _ => None,
+    };
+    let brought_bad = brought.is_some_and(|(j, masks)| {
+        masks_bad(masks) && !fault(135) && !(fault(136) && j >= all.len())
+    });
+    let mended = |i: usize| fault(137) && brought.is_some_and(|(j, _)| i == j);
     let stray = |j: &Joint| {
         let named = &j.words[..or!(24, 2, 1)];
         named.iter().any(|b| {
@@ -449,13 +498,29 @@ fn rules(s: &Study, call: &Call) -> Vec<(u64, bool)> {
     let backwards =
         dt < 0.0 || fault(45) && dt.to_bits() == 0x8000_0000 || fault(46) && dt.to_bits() == 0;
 
-    let needed = or!(52, count_of(&all), 6 * all.len());
+    let total = count_of(&all);
+    let changed = match brought {
+        Some((j, masks)) => {
+            let count = rendering::ids(masks).len();
+            match all.get(j) {
+                Some(joint) => {
+                    let counts = !joint.off || fault(141);
+                    total - joint.ids.len().max(joint.takes) + count * usize::from(counts)
+                }
+                None => total + or!(134, 0, count),
+            }
+        }
+        None => total,
+    };
+    let by = or!(133, or!(132, changed, total), changed.max(total));
+    let needed = or!(52, by, 6 * all.len());
     let room = or!(48, s.rows.len(), s.rows.len() + 17) / 18;
     let lent = match call {
         Call::Place { .. } => fault(49),
         Call::ReadVelocity(_) => fault(51),
         Call::SetTargets(_) => fault(119),
         Call::Load => !fault(50),
+        Call::SetMasks { .. } => !fault(138),
         _ => true,
     };
     let short = lent && (room < needed || fault(47) && room == needed);
@@ -466,6 +531,7 @@ fn rules(s: &Study, call: &Call) -> Vec<(u64, bool)> {
         Call::Load | Call::ReadVelocity(_) => false,
         Call::Place { .. } => fault(57),
         Call::SetTargets(_) => fault(120),
+        Call::SetMasks { .. } => fault(139),
         Call::Build { warm, substep, .. } => match (warm, substep) {
             (true, 0) => fault(58),
             (true, 1) => !fault(60),
@@ -486,6 +552,10 @@ fn rules(s: &Study, call: &Call) -> Vec<(u64, bool)> {
             *joint as usize >= or!(62, all.len(), all.len() + 1)
                 || fault(93) && all[*joint as usize].off
         }
+        Call::SetMasks { joint, .. } => {
+            *joint as usize >= or!(62, all.len(), all.len() + 1)
+                || fault(140) && all[*joint as usize].off
+        }
         _ => false,
     };
 
@@ -494,8 +564,10 @@ fn rules(s: &Study, call: &Call) -> Vec<(u64, bool)> {
             3,
             all[..or!(21, all.len(), all.len().min(1))]
                 .iter()
-                .filter(looked_at)
-                .any(mask_bad),
+                .enumerate()
+                .filter(|(i, j)| looked_at(j) && !mended(*i))
+                .any(|(_, j)| mask_bad(j))
+                || brought_bad,
         ),
         (4, all.iter().filter(looked_at).any(stray)),
         (5, all.iter().filter(looked_at).any(twice)),
@@ -546,6 +618,9 @@ fn rules(s: &Study, call: &Call) -> Vec<(u64, bool)> {
     if fault(95) {
         exchange(12, 7);
     }
+    if fault(131) && brought.is_some() {
+        exchange(8, 11);
+    }
     order
 }
 
@@ -569,6 +644,11 @@ fn put_velocity(s: &mut Study, i: u32, vel: &[f32]) {
     }
 }
 
+/// The joint's first row as it is stored, which may be any word.
+fn stored_first(joint: &Joint, all: &[Joint]) -> usize {
+    (joint.words[11] as usize).min(6 * all.len())
+}
+
 fn build(s: &mut Study, all: &[Joint], warm: Option<f32>, substep: u32) -> usize {
     let built = &all[..or!(67, all.len(), all.len().min(1))];
     for joint in built.iter().filter(|j| !j.off || fault(87)) {
@@ -590,7 +670,8 @@ fn build(s: &mut Study, all: &[Joint], warm: Option<f32>, substep: u32) -> usize
         let mut words = joint.words[2..9].to_vec();
         words.extend([warm.is_some() as u32, substep]);
 
-        let (first, length) = (joint.first * 18, joint.ids.len() * 18);
+        let first = or!(154, joint.first, stored_first(joint, all));
+        let (first, length) = (first * 18, joint.ids.len() * 18);
         let mut rows = [0.0; 108];
         let from = or!(70, first, 0);
         if !fault(69) {
@@ -709,6 +790,9 @@ pub fn call(s: &mut Study, call: &Call) -> Answer {
             let set = table(&joints(s), bytes).0;
             set_targets(s, &set);
         }
+        if fault(148) && matches!(call, Call::SetMasks { .. }) || fault(150) && *call == Call::Load {
+            store_first_rows(s, usize::MAX);
+        }
         return answer;
     }
     let all = joints(s);
@@ -716,7 +800,10 @@ pub fn call(s: &mut Study, call: &Call) -> Answer {
     let length = s.rows.len();
     s.rows.resize(length.max(18 * 6 * (all.len() + 1)), 0.0);
     match *call {
-        Call::Load => s.built = fault(63) && s.built,
+        Call::Load => {
+            store_first_rows(s, or!(149, usize::MAX, 0));
+            s.built = fault(63) && s.built;
+        }
         Call::Place { body, pose } => {
             if let Some(n) = s.bodies.chunks_exact_mut(10).nth(body as usize) {
                 n[..4].copy_from_slice(&pose);
@@ -731,6 +818,7 @@ pub fn call(s: &mut Study, call: &Call) -> Answer {
             let total = build(s, &all, warm.then_some(coefficient), substep);
             answer.code = GRANTED + total as u64;
             s.built = true;
+            store_first_rows(s, or!(152, 0, usize::MAX));
         }
         Call::WarmStart => {
             for joint in &all[..or!(81, all.len(), all.len().min(1))] {
@@ -753,7 +841,7 @@ pub fn call(s: &mut Study, call: &Call) -> Answer {
         Call::WriteBack => write_back(s, &all),
         Call::ReadRows(joint) => {
             let (first, ids) = match all.get(joint as usize) {
-                Some(joint) => (joint.first, &joint.ids[..]),
+                Some(joint) => (or!(153, joint.first, stored_first(joint, &all)), &joint.ids[..]),
                 None => (0, &[][..]),
             };
             let first = or!(85, first, 0);
@@ -772,6 +860,22 @@ pub fn call(s: &mut Study, call: &Call) -> Answer {
         Call::SetTargets(bytes) => {
             set_targets(s, &table(&all, bytes).0);
             s.built = s.built && !fault(109);
+        }
+        Call::SetMasks { joint, masks } => {
+            let j = joint as usize;
+            let [locked, limit, motor, coupled] = masks;
+            let exchanged = or!(144, [locked, limit, coupled, motor], [limit, locked, motor, coupled]);
+            let put = if fault(144) || fault(145) { exchanged } else { masks };
+            let mut same = true;
+            if let Some(old) = all.get(j) {
+                same = old.words[2..6] == put;
+                s.words[12 * j + 2..][..4].copy_from_slice(&put);
+                for id in &old.ids[..or!(147, 0, old.ids.len())] {
+                    rendering::writeback(*id, 0.0, &mut s.numbers[42 * j..][..42]);
+                }
+            }
+            store_first_rows(s, or!(146, usize::MAX, j + 1));
+            s.built = s.built && (fault(142) || fault(143) && same);
         }
     }
     s.rows.truncate(length);

@@ -130,10 +130,10 @@ bodyAt x i = record {
 abbrev pub wordAt : List ℕ → ℕ → ℕ
 wordAt w i = getD w i 0
 
--- the joint: its stored words would start with its two bodies, and end with two that say that it is enabled and that its centre is typed as cosine and sine
+-- the joint: its stored words would start with its two bodies, and end with two that say that it is enabled and that its centre is typed as cosine and sine, and its first row
 unfoldable pub jointFrom : List ℕ → List Float → ImpulseJoint
 jointFrom w x =
-    jointAt (0 ∷ 0 ∷ wordAt w 0 ∷ wordAt w 1 ∷ wordAt w 2 ∷ wordAt w 3 ∷ wordAt w 4 ∷ wordAt w 5 ∷ wordAt w 6 ∷ 0 ∷ 0 ∷ []) (take numbersWidth (drop 17 x)) 0
+    jointAt (0 ∷ 0 ∷ wordAt w 0 ∷ wordAt w 1 ∷ wordAt w 2 ∷ wordAt w 3 ∷ wordAt w 4 ∷ wordAt w 5 ∷ wordAt w 6 ∷ 0 ∷ 0 ∷ 0 ∷ []) (take numbersWidth (drop 17 x)) 0
 
 unfoldable pub warmFrom : List ℕ → List Float → Warmstart
 warmFrom w x = cond (eqb (wordAt w 7) 0) Cold (Warm (at x 59))

@@ -319,7 +319,7 @@ fn body_at(numbers: &[f32], i: usize) -> SolverPose
 }
 
 // The joint: its stored words would start with its two bodies, and end with two that say that it is
-// enabled and that its centre is typed as cosine and sine.
+// enabled and that its centre is typed as cosine and sine, and its first row.
 fn joint_from(words: &[u32], numbers: &[f32]) -> ImpulseJoint
     requires { ⌜ 9 ≤ length (now words) ⌝ }
     requires { ⌜ 60 ≤ length (now numbers) ⌝ }
@@ -335,6 +335,7 @@ fn joint_from(words: &[u32], numbers: &[f32]) -> ImpulseJoint
         words[4],
         words[5],
         words[6],
+        0u32,
         0u32,
         0u32,
     ];

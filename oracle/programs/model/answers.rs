@@ -5,7 +5,7 @@ use crate::bits::bits;
 use crate::generator::{ANGLES, Generator, LARGE, Size, total};
 use crate::library::{ORACLE, Side};
 use crate::model::{
-    Answer, BODY, CHOICE, COLUMNS, Call, ENABLED, FINITE, GRANTED, JOINT, KINDS, NUMBER, ROW, Study, WORDS, WORLD,
+    Answer, BODY, CHOICE, COLUMNS, Call, ENABLED, FINITE, FIRST, GRANTED, JOINT, KINDS, NUMBER, ROW, Study, WORDS, WORLD,
 };
 use std::fmt::Write;
 
@@ -15,6 +15,8 @@ const STUDIES: usize = 140;
 /// The opcode of a motor table, and the largest one that is stored.
 const TABLE: u32 = 11;
 const LARGEST: usize = 400;
+/// The opcode of a mask change.
+const MASKS: u32 = 12;
 
 /// One line of a list.
 #[derive(Copy, Clone)]
@@ -69,6 +71,10 @@ impl Line {
                         [op, i, 0, 0, 0, 0]
                     }
                     Call::SetTargets(table) => [TABLE, table.len() as u32, 0, 0, 0, 0],
+                    Call::SetMasks { joint, masks } => {
+                        let [locked, limit, motor, coupled] = masks;
+                        [MASKS, joint, locked, limit, motor, coupled]
+                    }
                     _ => [op, 0, 0, 0, 0, 0],
                 }
             }
@@ -108,6 +114,10 @@ impl Line {
             7 => Call::ReadRows(a),
             8 => Call::ReadVelocity(a),
             TABLE => Call::SetTargets(table.leak()),
+            MASKS => Call::SetMasks {
+                joint: a,
+                masks: [b, c, d, e],
+            },
             9 => {
                 return Line::Set {
                     slice: SLICES[a as usize],
@@ -612,6 +622,109 @@ fn finite(g: &mut Generator, w: &mut Writer) {
     });
 }
 
+/// Changes of masks of the first joint, a middle one, one that is switched off and the last, with storage about the old
+/// and the new total; of missing joints; old masks above 7; first rows that the caller has altered.
+fn masks(g: &mut Generator, w: &mut Writer) {
+    let joints = [
+        [WORLD, 0, 3, 0, 4, 0],
+        [0, 1, 3, 4, 0, 0],
+        [1, 2, 7, 0, 0, 0],
+        [2, 0, 0, 7, 7, 0],
+    ];
+    let mut s = g.study_of(Size {
+        bodies: 3,
+        joints: joints.len(),
+    });
+    for (words, joint) in s.words.chunks_exact_mut(WORDS).zip(joints) {
+        words[..6].copy_from_slice(&joint);
+        words[ENABLED] = 0;
+    }
+    s.words[2 * WORDS + ENABLED] = 1;
+    s.rows = g.storage(24);
+    let warm = |substep| {
+        Line::Call(Call::Build {
+            warm: true,
+            coefficient: 0.5,
+            substep,
+        })
+    };
+    let change = |joint: usize, masks| {
+        Line::Call(Call::SetMasks {
+            joint: joint as u32,
+            masks,
+        })
+    };
+    w.study(s, |w, h| {
+        let all = h.lengths.map(|x| x as u32);
+        let lend = |rows: usize| Line::Hand([all[0], all[1], all[2], rows as u32]);
+        w.line(h, Line::Call(Call::Load));
+        let old = total(&h.handed());
+        for (joint, masks) in [
+            (0, [3, 4, 4, 0]),
+            (0, [0; 4]),
+            (1, [2, 0, 0, 0]),
+            (2, [0, 7, 7, 0]),
+            (3, [7, 0, 0, 0]),
+        ] {
+            let mut after = h.handed();
+            let own: [u32; 4] = after.words[joint * WORDS + 2..][..4].try_into().unwrap();
+            after.words[joint * WORDS + 2..][..4].copy_from_slice(&masks);
+            let new = total(&after);
+            for rows in [old * ROW, new * ROW, new * ROW - 1, (new - 1) * ROW, old * ROW - 1] {
+                for line in [
+                    warm(0),
+                    lend(rows),
+                    change(joint, masks),
+                    lend(all[3] as usize),
+                    warm(1),
+                    warm(0),
+                    Line::Call(Call::Sweep(2)),
+                    Line::Call(Call::ReadRows(3)),
+                    Line::Call(Call::WriteBack),
+                    change(joint, own),
+                ] {
+                    w.line(h, line);
+                }
+            }
+        }
+        for joint in [4, 5, WORLD as usize] {
+            for rows in [old * ROW, old * ROW - 1] {
+                for line in [lend(rows), change(joint, [0, 7, 7, 0]), change(joint, [0, 0, 8, 0])] {
+                    w.line(h, line);
+                }
+            }
+        }
+        w.line(h, lend(all[3] as usize));
+        for place in [2, 3, 4, 5] {
+            let line = set(Slice::Words, WORDS + place, 8);
+            let back = undo(&h.all, &line);
+            for line in [line, change(1, [3, 4, 0, 0]), change(0, [3, 0, 4, 0]), back] {
+                w.line(h, line);
+            }
+        }
+        for (stores, any) in [
+            (Line::Call(Call::Load), 5),
+            (change(1, [3, 4, 0, 0]), u32::MAX),
+            (change(3, [0, 7, 7, 0]), 1),
+        ] {
+            for j in 0..joints.len() {
+                w.line(h, set(Slice::Words, j * WORDS + FIRST, any));
+            }
+            w.line(h, lend(old * ROW - 1));
+            w.line(h, stores);
+            w.line(h, lend(all[3] as usize));
+            for call in [COLD, Call::WarmStart, Call::Sweep(1), Call::RemoveBias, Call::WriteBack] {
+                w.line(h, Line::Call(call));
+            }
+            for j in 0..joints.len() as u32 {
+                w.line(h, Line::Call(Call::ReadRows(j)));
+            }
+            w.line(h, stores);
+            w.line(h, Line::Call(Call::Sweep(1)));
+        }
+    });
+}
+
 /// The text, and what was met.
 fn made() -> Writer {
     let g = &mut Generator::new(SEED);
@@ -624,7 +737,8 @@ fn made() -> Writer {
     many(g, &mut w);
     world_reads_zero(g, &mut w);
     finite(g, &mut w);
-    for _ in 3..STUDIES {
+    masks(g, &mut w);
+    for _ in 4..STUDIES {
         let size = g.small();
         let mut s = g.study_of(size);
         s.rows = g.storage(total(&s));

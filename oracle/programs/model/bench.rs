@@ -40,7 +40,7 @@ fn chain(n: usize, kinds: &[[u32; 2]]) -> Study {
         let before = if i == 0 { WORLD } else { i as u32 - 1 };
         let [limit, motor] = kinds[i % kinds.len()];
         s.words
-            .extend([before, i as u32, 3, limit, motor, 0, 0, 0, i as u32 % 2, 0, 0]);
+            .extend([before, i as u32, 3, limit, motor, 0, 0, 0, i as u32 % 2, 0, 0, 0]);
         let mut joint = [0.0; JOINT];
         joint[0] = 1.0;
         joint[2] = 0.5;

@@ -3,7 +3,7 @@
 use crate::generator::{ANGLES, LARGE};
 use crate::library::{Side, same, same_study, sides};
 use crate::model::{
-    Answer, BODY, CHOICE, Call, ENABLED, FINITE, GRANTED, JOINT, NUMBER, ROW, Study, WORDS, WORLD,
+    Answer, BODY, CHOICE, Call, ENABLED, FINITE, FIRST, GRANTED, JOINT, NUMBER, ROW, Study, WORDS, WORLD,
 };
 use crate::sines;
 use std::process::exit;
@@ -56,7 +56,7 @@ fn study(bodies: usize, joints: &[([u32; 2], [u32; 4])]) -> Study {
     for (ends, masks) in joints {
         s.words.extend(ends);
         s.words.extend(masks);
-        s.words.extend([0; 5]);
+        s.words.extend([0; 6]);
         s.numbers.extend(numbers());
     }
     s.rows = vec![0.5; s.total() * ROW];
@@ -644,6 +644,168 @@ impl Cases {
             }
         }
     }
+
+    /// Changes of masks: rules 3, 8 and 11, the mark, and first rows.
+    fn masks(&mut self) {
+        let change = |joint, masks| Call::SetMasks { joint, masks };
+        let first_rows = |s: &Study| {
+            let joints = s.words.chunks_exact(WORDS);
+            joints.map(|w| w[FIRST]).collect::<Vec<_>>()
+        };
+        let joints = [
+            ([0, 1], [3, 4, 4, 0]),
+            ([1, 2], [3, 0, 0, 0]),
+            ([2, WORLD], [0, 7, 7, 0]),
+        ];
+        let counts = [4, 2, 6];
+        let mut loaded = study(3, &joints);
+        self.done(&mut loaded, &Call::Load);
+        self.expect("first rows after load", first_rows(&loaded) == [0, 4, 6]);
+        let built = self.built(loaded.clone());
+        self.expect("a build leaves first rows", built.words == loaded.words);
+
+        // The first joint, a middle one, the last: to more rows, to fewer, to none, to as many.
+        for (j, masks, count) in [
+            (0, [0, 7, 7, 0], 6),
+            (0, [3, 0, 0, 0], 2),
+            (0, [0; 4], 0),
+            (0, [3, 4, 4, 0], 4),
+            (1, [7, 7, 7, 0], 3),
+            (1, [0, 0, 1, 0], 1),
+            (1, [0; 4], 0),
+            (1, [5, 0, 0, 0], 2),
+            (2, [7, 0, 0, 0], 3),
+            (2, [0, 2, 0, 3], 0),
+            (2, [0, 7, 7, 0], 6),
+        ] {
+            let mut after = counts;
+            after[j] = count;
+            let new: usize = after.iter().sum();
+            let call = change(j as u32, masks);
+            for rows in [12 * ROW, new * ROW, new * ROW + 17, 20 * ROW] {
+                for before in [&loaded, &built] {
+                    let mut s = before.clone();
+                    s.rows.resize(rows, 0.25);
+                    if rows < new * ROW {
+                        self.refused("storage of the old total alone", &s, &call, 8);
+                        continue;
+                    }
+                    let mut wanted = s.clone();
+                    wanted.built = false;
+                    wanted.words[j * WORDS + 2..][..4].copy_from_slice(&masks);
+                    wanted.words[WORDS + FIRST] = after[0] as u32;
+                    wanted.words[2 * WORDS + FIRST] = (after[0] + after[1]) as u32;
+                    self.done(&mut s, &call);
+                    self.expect("masks, first rows and the mark change", same_study(&s, &wanted));
+                    self.refused("not built", &s, &build(Some(1.0), 1), 10);
+                    let told = self.done(&mut s, &COLD).code;
+                    self.expect("the new total", told == GRANTED + new as u64);
+                    for (i, count) in after.into_iter().enumerate() {
+                        let told = self.done(&mut s, &Call::ReadRows(i as u32)).code;
+                        self.expect("a joint's rows", told == GRANTED + count as u64);
+                    }
+                }
+            }
+            for less in [1, ROW] {
+                if new > 0 {
+                    let mut s = built.clone();
+                    s.rows.resize(new * ROW - less, 0.25);
+                    self.refused("short of the new total", &s, &call, 8);
+                }
+            }
+        }
+
+        // A missing joint: 3 by the new masks, 8 by the old total, 11.
+        for joint in [3, 4, WORLD] {
+            for masks in [[0; 4], [0, 7, 7, 0]] {
+                let mut s = built.clone();
+                self.refused("a missing joint", &s, &change(joint, masks), 11);
+                s.rows.pop();
+                self.refused("8 before 11", &s, &change(joint, masks), 8);
+            }
+            self.refused("3 before 11", &built, &change(joint, [8, 0, 0, 0]), 3);
+        }
+
+        // New masks above 7, before rules 4 to 8; old ones, which the change would mend.
+        for k in 0..4 {
+            for bad in [8, 9, 256, 263, 1 << 31, u32::MAX] {
+                let mut masks = [0; 4];
+                masks[k] = bad;
+                let mut s = built.clone();
+                self.refused("a new mask above 7", &s, &change(1, masks), 3);
+                s.words[0] = 200;
+                s.rows.clear();
+                self.refused("3 before 4 and 8", &s, &change(1, masks), 3);
+                let mut s = built.clone();
+                s.words[WORDS + 2 + k] = bad;
+                self.refused("an old mask above 7", &s, &change(1, [0; 4]), 3);
+                self.refused("an old mask above 7", &s, &change(0, [0; 4]), 3);
+                s.bodies.resize(129 * BODY, 0.0);
+                self.refused("1 before 3", &s, &change(1, masks), 1);
+            }
+        }
+
+        // Of a joint that is switched off the masks change, and the total does not.
+        let mut off = built.clone();
+        off.words[WORDS + ENABLED] = 1;
+        off.rows.truncate(10 * ROW);
+        self.done(&mut off, &change(1, [0, 7, 7, 0]));
+        self.expect("its masks change", off.words[WORDS + 2..][..4] == [0, 7, 7, 0]);
+        let told = !off.built && first_rows(&off) == [0, 4, 4];
+        self.expect("it counts no rows", told);
+
+        // First rows that the caller has altered: calls work from the sum, load and mask changes store it.
+        for any in [0, 1, 5, 768, u32::MAX] {
+            let mut altered = loaded.clone();
+            for w in altered.words.chunks_exact_mut(WORDS) {
+                w[FIRST] = any;
+            }
+            let words = altered.words.clone();
+            let mut s = altered.clone();
+            let mut other = loaded.clone();
+            for call in [
+                build(Some(0.5), 0),
+                Call::WarmStart,
+                Call::Sweep(2),
+                Call::RemoveBias,
+                Call::WriteBack,
+                Call::ReadRows(0),
+                Call::ReadRows(1),
+                Call::ReadRows(2),
+                Call::ReadVelocity(1),
+            ] {
+                let (a, b) = (self.done(&mut s, &call), self.done(&mut other, &call));
+                let alike = a.code == b.code && a.ids == b.ids && same(&a.out, &b.out);
+                self.expect("calls work from the sum", alike);
+            }
+            self.expect("calls leave first rows", s.words == words);
+            s.words.clone_from(&other.words);
+            self.expect("calls work from the sum", same_study(&s, &other));
+            for call in [Call::Load, change(2, [0, 7, 7, 0])] {
+                let mut s = altered.clone();
+                self.done(&mut s, &call);
+                self.expect("the sum is stored", first_rows(&s) == [0, 4, 6]);
+                altered.rows.clear();
+                self.refused("short storage", &altered, &call, 8);
+                altered.rows.clone_from(&loaded.rows);
+            }
+        }
+
+        // Stored impulses stay: an axis that is freed and locked again finds its old seed.
+        let mut s = built.clone();
+        for call in [Call::Sweep(3), Call::WriteBack] {
+            self.done(&mut s, &call);
+        }
+        let stored = s.numbers.clone();
+        self.done(&mut s, &change(1, [1, 0, 0, 0]));
+        for call in [build(Some(1.0), 0), Call::Sweep(1), change(1, [3, 0, 0, 0])] {
+            self.done(&mut s, &call);
+        }
+        self.expect("stored impulses stay", same(&s.numbers, &stored));
+        self.done(&mut s, &build(Some(1.0), 0));
+        let seeds = [4, 5].map(|k| s.rows[k * ROW]);
+        self.expect("the old seeds", same(&seeds, &stored[JOINT + 37..][..2]));
+    }
 }
 
 pub fn cases() {
@@ -659,6 +821,7 @@ pub fn cases() {
         cases.rows();
         cases.angles();
         cases.switched_off();
+        cases.masks();
         println!("{} cases by {name}", cases.count);
     }
 }

@@ -2,7 +2,7 @@
 
 use crate::draw::Draw;
 use crate::model::{
-    BODY, CHOICE, Call, ENABLED, FINITE, JOINT, NUMBER, ROW, Study, WORDS, WORLD, has_number,
+    BODY, CHOICE, Call, ENABLED, FINITE, FIRST, JOINT, NUMBER, ROW, Study, WORDS, WORLD, has_number,
 };
 use crate::rendering;
 use crate::studies;
@@ -177,6 +177,13 @@ impl Generator {
         self.d.pick(&[1, 1, 2, 2, 3, u32::MAX, any])
     }
 
+    /// A word where a first row stands: a caller may write any there.
+    pub fn first(&mut self) -> u32 {
+        let any = self.d.word() as u32;
+        let row = self.d.below(24) as u32;
+        self.d.pick(&[0, 0, row, row, u32::MAX, any])
+    }
+
     /// A word for a centre that is typed as an angle.
     fn angle_word(&mut self) -> u32 {
         let any = 1 | self.d.word() as u32;
@@ -234,6 +241,7 @@ impl Generator {
             *word = self.motor_model();
         }
         words[ENABLED] = self.enabled();
+        words[FIRST] = self.first();
         let mut n = studies::joint(&mut self.d, straight);
         let [one, two] = ends.map(|i| body_of(s, i));
         studies::aim(&mut self.d, &one, &two, &mut n, masks[3]);
@@ -459,7 +467,7 @@ impl Generator {
             2
         } else {
             self.d.pick(&[
-                0, 1, 1, 1, 2, 2, 2, 2, 2, 3, 3, 3, 4, 4, 4, 4, 4, 5, 5, 6, 6, 6, 7, 7, 7, 8, 8, 9, 9, 9,
+                0, 1, 1, 1, 2, 2, 2, 2, 2, 3, 3, 3, 4, 4, 4, 4, 4, 5, 5, 6, 6, 6, 7, 7, 7, 8, 8, 9, 9, 9, 10, 10, 10,
             ])
         };
         match kind {
@@ -472,8 +480,63 @@ impl Generator {
             6 => Call::WriteBack,
             7 => Call::ReadRows(self.index(s.joint_count())),
             8 => Call::ReadVelocity(self.index(s.body_count())),
-            _ => self.table(s),
+            9 => self.table(s),
+            _ => self.set_masks(s),
         }
+    }
+
+    /// New masks of a joint: any, or those that it has with some of them changed.
+    pub fn set_masks(&mut self, s: &Study) -> Call {
+        let joint = self.index(s.joint_count());
+        let old = s.words.chunks_exact(WORDS).nth(joint as usize);
+        let mut masks = match old {
+            Some(w) if self.d.one_in(2) => w[2..6].try_into().unwrap(),
+            _ => studies::masks(self.d.below(4096) as u32),
+        };
+        for mask in &mut masks {
+            if self.d.one_in(3) {
+                *mask = self.d.below(8) as u32;
+            }
+        }
+        if self.d.one_in(12) {
+            masks[self.at(4)] = self.wide_mask();
+        }
+        Call::SetMasks { joint, masks }
+    }
+
+    /// A mask that rule 3 refuses.
+    fn wide_mask(&mut self) -> u32 {
+        let any = 8 | self.d.word() as u32;
+        self.d
+            .pick(&[8, 8, 9, 15, 255, 256, 263, 1 << 31, u32::MAX, any])
+    }
+
+    /// Row storage about what rule 8 asks for where masks change: of the old total, of the new one, of one row or one
+    /// number less, of something between.
+    pub fn lend(&mut self, s: &mut Study, call: &Call) {
+        let Call::SetMasks { joint, masks } = call else {
+            return;
+        };
+        let old = total(s);
+        let mut after = s.clone();
+        if (*joint as usize) < s.joint_count() {
+            after.words[*joint as usize * WORDS + 2..][..4].copy_from_slice(masks);
+        }
+        let new = total(&after);
+        let between = old.min(new) + self.at(old.abs_diff(new) + 1);
+        let length = match self.d.below(8) {
+            0 => old * ROW,
+            1 => new * ROW,
+            2 => (new * ROW).saturating_sub(1),
+            3 => (new * ROW).saturating_sub(ROW),
+            4 => (old * ROW).saturating_sub(1),
+            5 => (old + new) * ROW,
+            _ => between * ROW + self.at(ROW),
+        };
+        while s.rows.len() < length {
+            s.rows.extend(studies::any_row(&mut self.d));
+        }
+        s.rows.truncate(length);
     }
 
     /// A whole number in one of its spellings.
@@ -575,11 +638,19 @@ impl Generator {
                 }
             }
             3 if joints > 0 => {
-                let at = self.at(joints) * WORDS + 2 + self.at(4);
-                let any = 8 | self.d.word() as u32;
-                s.words[at] = self
-                    .d
-                    .pick(&[8, 8, 9, 15, 255, 256, 263, 1 << 31, u32::MAX, any]);
+                let (mut j, mask) = (self.at(joints), self.at(4));
+                let wide = self.wide_mask();
+                if let Call::SetMasks { joint, masks } = call {
+                    if self.d.one_in(2) {
+                        masks[mask] = wide;
+                        return;
+                    }
+                    // The very joint's, which the change would mend.
+                    if (*joint as usize) < joints && self.d.one_in(2) {
+                        j = *joint as usize;
+                    }
+                }
+                s.words[j * WORDS + 2 + mask] = wide;
             }
             4 if joints > 0 => {
                 let at = self.at(joints) * WORDS + self.at(2);
@@ -633,7 +704,11 @@ impl Generator {
                 }
             }
             11 => {
-                *call = match self.d.below(3) {
+                *call = match self.d.below(4) {
+                    3 => Call::SetMasks {
+                        joint: self.d.pick(&[joints as u32, joints as u32 + 1, WORLD]),
+                        masks: studies::masks(self.d.below(4096) as u32),
+                    },
                     0 => Call::ReadRows(self.d.pick(&[joints as u32, joints as u32 + 1, WORLD])),
                     1 => Call::ReadVelocity(self.d.pick(&[bodies as u32, WORLD, 200])),
                     _ => Call::Place {
@@ -685,7 +760,7 @@ impl Generator {
     /// What a caller does to state or rows between calls.
     pub fn alter(&mut self, s: &mut Study) {
         let (bodies, joints) = (s.body_count(), s.joint_count());
-        match self.d.below(16) {
+        match self.d.below(18) {
             0 => s.built = !s.built,
             1 => s.rows = self.storage(total(s)),
             2 | 3 if !s.rows.is_empty() => {
@@ -748,6 +823,13 @@ impl Generator {
             14 if joints > 0 => {
                 s.words.truncate((joints - 1) * WORDS);
                 s.numbers.truncate((joints - 1) * JOINT);
+            }
+            15 | 16 if joints > 0 => {
+                for j in 0..joints {
+                    if self.d.one_in(2) {
+                        s.words[j * WORDS + FIRST] = self.first();
+                    }
+                }
             }
             _ => {
                 let body = self.body(false);

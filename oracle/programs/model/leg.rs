@@ -25,9 +25,9 @@ fn leg() -> Study {
         .copy_from_slice(&[1.0, 0.0, 0.0, 0.3, 20.0, 0.25, 0.25, 0.25, -0.25, -2.0]);
     s.bodies[2 * BODY..]
         .copy_from_slice(&[1.0, 0.0, 0.0625, 0.03125, 200.0, 1.0, 1.0, 0.0, -0.25, 0.5]);
-    s.words[..WORDS].copy_from_slice(&[WORLD, 0, 3, 0, 4, 0, 0, 0, 0, 0, 1]);
-    s.words[WORDS..2 * WORDS].copy_from_slice(&[0, 1, 3, 4, 0, 0, 0, 0, 0, 0, 1]);
-    s.words[2 * WORDS..].copy_from_slice(&[1, 2, 3, 4, 4, 0, 0, 0, 0, 0, 1]);
+    s.words[..WORDS].copy_from_slice(&[WORLD, 0, 3, 0, 4, 0, 0, 0, 0, 0, 1, 0]);
+    s.words[WORDS..2 * WORDS].copy_from_slice(&[0, 1, 3, 4, 0, 0, 0, 0, 0, 0, 1, 0]);
+    s.words[2 * WORDS..].copy_from_slice(&[1, 2, 3, 4, 4, 0, 0, 0, 0, 0, 1, 0]);
     let joints = [
         ([0.0, 1.0], [0.0, 0.25], [0.0, 0.0], [1.0, 10.0, 50.0]),
         ([0.0, -0.25], [0.0, 0.2], [0.0, 2.4], [0.0; 3]),

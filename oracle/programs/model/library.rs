@@ -63,7 +63,7 @@ mod exported {
             built: u32,
             bodies: *const f32,
             bodies_len: usize,
-            words: *const u32,
+            words: *mut u32,
             words_len: usize,
             numbers: *const f32,
             numbers_len: usize,
@@ -211,9 +211,28 @@ mod exported {
             table: *const u8,
             table_len: usize,
         ) -> u64;
+        fn katydidzinc_set_masks(
+            dt: f32,
+            length_unit: f32,
+            normalized: f32,
+            built: u32,
+            bodies: *const f32,
+            bodies_len: usize,
+            words: *mut u32,
+            words_len: usize,
+            numbers: *const f32,
+            numbers_len: usize,
+            rows: *const f32,
+            rows_len: usize,
+            joint: u32,
+            locked: u32,
+            limit: u32,
+            motor: u32,
+            coupled: u32,
+        ) -> u64;
     }
 
-    /// The mark follows from the answer: a granted load clears it, a granted build sets it.
+    /// The mark follows from the answer: a granted load or mask change clears it, a granted build sets it.
     pub fn call(s: &mut Study, call: &Call) -> Answer {
         let mut answer = Answer::none(call);
         let mut bodies_in = Fenced::new(&s.bodies, 12345.678);
@@ -296,6 +315,13 @@ mod exported {
                     table.as_ptr(),
                     table.len(),
                 ),
+                Call::SetMasks {
+                    joint,
+                    masks: [locked, limit, motor, coupled],
+                } => katydidzinc_set_masks(
+                    dt, unit, most, built, b, bs, w, ws, n, ns, r, rs, joint, locked, limit,
+                    motor, coupled,
+                ),
             }
         };
         answer.outside = bodies_in.taken_back(&mut s.bodies)
@@ -313,7 +339,7 @@ mod exported {
             }
         }
         match call {
-            Call::Load if answer.granted() => s.built = false,
+            Call::Load | Call::SetMasks { .. } if answer.granted() => s.built = false,
             Call::Build { .. } if answer.granted() => s.built = true,
             _ => {}
         }

@@ -5,7 +5,7 @@
 use crate::generator::{Generator, STORED, total};
 use crate::library::{ORACLE, RENDERING, Side, same};
 use crate::model::{
-    Answer, BODY, CHOICE, Call, ENABLED, FINITE, JOINT, KINDS, ROW, Study, WORDS, WORLD, refusal,
+    Answer, BODY, CHOICE, Call, ENABLED, FINITE, FIRST, JOINT, KINDS, ROW, Study, WORDS, WORLD, refusal,
     table_refusal,
 };
 use crate::run::show_study;
@@ -34,6 +34,24 @@ struct Tally {
     off: u64,
     across: u64,
     swaps: u64,
+    /// Granted mask changes of the set's joints and of others; those left out because one study alone would grant them.
+    inside: u64,
+    outside: u64,
+    unlike: u64,
+}
+
+/// One call of a list, and the storage that each study is lent for it, where that is another one.
+struct Step {
+    call: Call,
+    lent: [Option<Vec<f32>>; 2],
+}
+
+/// A list, and the ids that it names for each joint of the first study.
+struct List {
+    steps: Vec<Step>,
+    named: Vec<Vec<u32>>,
+    /// Whether it makes rows at all.
+    made: bool,
 }
 
 struct Pair {
@@ -44,9 +62,7 @@ struct Pair {
     own: Vec<bool>,
     /// The places in the set's joints' numbers that must be equal throughout.
     shared: Vec<[bool; JOINT]>,
-    list: Vec<Call>,
-    /// The larger of the totals.
-    room: usize,
+    list: Vec<Step>,
 }
 
 /// A shared thing that differs.
@@ -105,21 +121,17 @@ impl Pair {
             .collect();
         let mut two = other_study(g, &one, &set, &own);
         let room = total(&one).max(total(&two));
-
-        let list = draw_list(g, &one, &two, room);
-        let mut trial = one.clone();
-        trial.rows = vec![0.0; room * ROW];
-        let mut made = false;
-        for call in &list {
-            let answer = ORACLE(&mut trial, call);
-            made |= matches!(call, Call::Build { .. }) && answer.granted();
+        for s in [&mut one, &mut two] {
+            s.rows = storage(g, room);
         }
+        let List { steps, named, made } = draw_list(g, [one.clone(), two.clone()], &own, t);
         let mut shared = Vec::new();
         for (j, own) in own.iter().enumerate() {
             let mut equal = [true; JOINT];
             if *own {
-                let ids = if made { one.ids(j) } else { Vec::new() };
-                t.unnamed += redraw_unnamed(g, &mut two, j, &ids, &mut equal);
+                t.unnamed += redraw_unnamed(g, &mut two, j, &named[j], &mut equal);
+                // A first row is none of a joint's contents.
+                two.words[j * WORDS + FIRST] = g.first();
             }
             shared.push(equal);
         }
@@ -131,7 +143,6 @@ impl Pair {
             }
         }
         for s in [&mut one, &mut two] {
-            s.rows = storage(g, room);
             g.leftovers(s);
             assert!(refusal(s, &Call::Load) == 0);
         }
@@ -163,8 +174,7 @@ impl Pair {
             set,
             own,
             shared,
-            list,
-            room,
+            list: steps,
         }
     }
 
@@ -174,7 +184,9 @@ impl Pair {
             Call::Place { body, .. } | Call::ReadVelocity(body) => {
                 self.set.get(*body as usize) == Some(&true)
             }
-            Call::ReadRows(joint) => self.own.get(*joint as usize) == Some(&true),
+            Call::ReadRows(joint) | Call::SetMasks { joint, .. } => {
+                self.own.get(*joint as usize) == Some(&true)
+            }
             _ => false,
         }
     }
@@ -203,13 +215,14 @@ impl Pair {
         } else {
             // An index past the smaller count may be absent in one study alone.
             let count = |s: &Study| match call {
-                Call::ReadRows(_) => s.joint_count(),
+                Call::ReadRows(_) | Call::SetMasks { .. } => s.joint_count(),
                 _ => s.body_count(),
             };
             let index = match call {
-                Call::Place { body: i, .. } | Call::ReadVelocity(i) | Call::ReadRows(i) => {
-                    Some(*i as usize)
-                }
+                Call::Place { body: i, .. }
+                | Call::ReadVelocity(i)
+                | Call::ReadRows(i)
+                | Call::SetMasks { joint: i, .. } => Some(*i as usize),
                 _ => None,
             };
             let present = |s: &Study| index.is_none_or(|i| i < count(s));
@@ -235,6 +248,9 @@ impl Pair {
             if !*own {
                 continue;
             }
+            if one.joint(j)[..6] != two.joint(j)[..6] {
+                return Some(format!("the bodies or masks of joint {j}"));
+            }
             for k in 0..JOINT {
                 let of = |s: &Study| [s.numbers[j * JOINT + k]];
                 if self.shared[j][k] && !same(&of(one), &of(two)) {
@@ -257,15 +273,13 @@ impl Pair {
     }
 
     /// The list through both studies.
-    fn run(&self, g: &mut Generator, side: Side, t: &mut Tally) -> Option<Box<Difference>> {
+    fn run(&self, side: Side, t: &mut Tally) -> Option<Box<Difference>> {
         let mut now = self.studies.clone();
         let mut made = false;
-        for (at, call) in self.list.iter().enumerate() {
-            for s in &mut now {
-                // A model that is not built may get any storage.
-                if !s.built && g.d.one_in(3) {
-                    s.rows = storage(g, self.room);
-                    t.swaps += 1;
+        for (at, Step { call, lent }) in self.list.iter().enumerate() {
+            for (s, lent) in now.iter_mut().zip(lent) {
+                if let Some(rows) = lent {
+                    s.rows.clone_from(rows);
                 }
             }
             let before = now.clone();
@@ -302,7 +316,7 @@ fn with_room(s: &Study) -> Study {
 
 /// Storage for `room` rows or some more.
 fn storage(g: &mut Generator, room: usize) -> Vec<f32> {
-    let more = g.d.below(3) as usize;
+    let more = g.d.pick(&[0, 0, 1, 2, 4, 12]);
     g.storage(room + more)
 }
 
@@ -368,26 +382,55 @@ fn other_study(g: &mut Generator, one: &Study, set: &[bool], own: &[bool]) -> St
     two
 }
 
-/// Calls as they may come; each is drawn for the study as the calls before it left it. A table that only
-/// one of the studies refuses is left out.
-fn draw_list(g: &mut Generator, one: &Study, two: &Study, room: usize) -> Vec<Call> {
-    let mut s = one.clone();
-    s.rows = vec![0.0; room * ROW];
+/// Calls as they may come; each is drawn for the first study as the calls before it left it. A table that only one
+/// of the studies refuses is left out, and so is a mask change that only one of them grants.
+fn draw_list(g: &mut Generator, mut now: [Study; 2], own: &[bool], t: &mut Tally) -> List {
     let builds = !g.d.one_in(8);
-    let mut list = Vec::new();
+    let mut list = List {
+        steps: Vec::new(),
+        named: vec![Vec::new(); now[0].joint_count()],
+        made: false,
+    };
     for _ in 0..4 + g.d.below(28) {
-        let call = g.call(&s);
+        let call = g.call(&now[0]);
         if matches!(call, Call::Build { .. }) && !builds {
             continue;
         }
         if let Call::SetTargets(table) = call {
-            let by = |s: &Study| table_refusal(table, s.joint_count());
-            if by(one) != by(two) {
+            let [one, two] = [0, 1].map(|i| table_refusal(table, now[i].joint_count()));
+            if one != two {
                 continue;
             }
         }
-        ORACLE(&mut s, &call);
-        list.push(call);
+        let room = total(&now[0]).max(total(&now[1]));
+        let mut after = now.clone();
+        // A model that is not built may get any storage.
+        let lent = [0, 1].map(|i| {
+            (!now[i].built && g.d.one_in(3)).then(|| {
+                after[i].rows = storage(g, room);
+                after[i].rows.clone()
+            })
+        });
+        let answers = [0, 1].map(|i| ORACLE(&mut after[i], &call));
+        let granted = answers[0].granted();
+        if let Call::SetMasks { joint, .. } = call {
+            if granted != answers[1].granted() {
+                t.unlike += 1;
+                continue;
+            }
+            let inside = own.get(joint as usize) == Some(&true);
+            t.inside += (granted && inside) as u64;
+            t.outside += (granted && !inside) as u64;
+        }
+        if granted && matches!(call, Call::Build { .. }) {
+            list.made = true;
+            for (j, named) in list.named.iter_mut().enumerate() {
+                named.extend(now[0].ids(j));
+            }
+        }
+        t.swaps += lent.iter().flatten().count() as u64;
+        list.steps.push(Step { call, lent });
+        now = after;
     }
     list
 }
@@ -451,7 +494,7 @@ fn run(side: Side, seed: u64, count: u64, t: &mut Tally) -> Option<(Pair, Box<Di
     let g = &mut Generator::new(seed);
     while t.pairs < count {
         let pair = Pair::new(g, t);
-        if let Some(difference) = pair.run(g, side, t) {
+        if let Some(difference) = pair.run(side, t) {
             return Some((pair, difference));
         }
     }
@@ -463,10 +506,11 @@ pub fn pairs(side: Side, by: &str, seed: u64, count: u64) {
     if let Some((pair, d)) = run(side, seed, count, t) {
         println!(
             "pair {} by {by}: {} differs after {:?}",
-            t.pairs, d.what, pair.list[d.at]
+            t.pairs, d.what, pair.list[d.at].call
         );
         println!("set {:?}, its joints {:?}", pair.set, pair.own);
-        println!("calls before: {:?}", &pair.list[..d.at]);
+        let before: Vec<_> = pair.list[..d.at].iter().map(|step| step.call).collect();
+        println!("calls before: {before:?}");
         let names = ["first study", "second study"];
         for (when, studies) in [("before", &d.before), ("after", &d.after)] {
             for (name, s) in names.iter().zip(studies) {
@@ -492,6 +536,10 @@ pub fn pairs(side: Side, by: &str, seed: u64, count: u64) {
     println!(
         "{} joints of sets switched off, {} switched off from a set to a body outside it",
         t.off, t.across
+    );
+    println!(
+        "mask changes granted: {} of joints of sets, {} of others; {} that one study alone would grant left out",
+        t.inside, t.outside, t.unlike
     );
     for (kind, (granted, refused)) in KINDS.iter().zip(t.granted.iter().zip(t.refused)) {
         println!("  {kind:13} {granted} granted, {refused} refused");

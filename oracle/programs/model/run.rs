@@ -2,9 +2,11 @@
 
 use crate::answers;
 use crate::bits::{bits, hex};
-use crate::generator::Generator;
+use crate::generator::{Generator, total};
 use crate::library::{ORACLE, RENDERING, Side, same_answer, same_study};
-use crate::model::{Answer, CHOICE, COLUMNS, Call, ENABLED, KINDS, ROW, Study, WORDS, refusal};
+use crate::model::{
+    Answer, CHOICE, COLUMNS, Call, ENABLED, FIRST, KINDS, ROW, Study, WORDS, refusal,
+};
 use crate::model_rendering;
 use crate::motor_table_rendering;
 use crate::pairs;
@@ -35,6 +37,18 @@ struct Tally {
     typed: [[u64; 2]; 2],
     /// Tables that were granted: their records, and those that a later one for the same axis overrides.
     records: [u64; 2],
+    /// Granted mask changes: to fewer rows, as many, more; of a joint that is switched off.
+    changes: [u64; 3],
+    changes_off: u64,
+    /// Mask changes that only the new total decides: granted with storage short of the old total, refused with
+    /// storage for it. And of missing joints, refused by 8.
+    by_new_total: [u64; 2],
+    missing_short: u64,
+    /// Mask changes refused by 3 for an old mask of the very joint, its new ones being at most 7.
+    old_mask: u64,
+    /// Granted calls beside load and mask changes on a model in which a first row is not the sum; granted loads and mask
+    /// changes on such a model.
+    altered: [u64; 2],
 }
 
 /// A call on which the sides differ: what was handed over, and what each side answered and left.
@@ -72,6 +86,12 @@ impl Run {
                 off: [0; 3],
                 typed: [[0; 2]; 2],
                 records: [0; 2],
+                changes: [0; 3],
+                changes_off: 0,
+                by_new_total: [0; 2],
+                missing_short: 0,
+                old_mask: 0,
+                altered: [0; 2],
             },
             limit,
         }
@@ -91,8 +111,48 @@ impl Run {
             }));
         }
         self.count(&here, call, &answer);
+        self.count_changes(s, call, &answer);
         *s = here;
         Ok(())
+    }
+
+    /// What a call met that has to do with masks and first rows; `s` is the study before it.
+    fn count_changes(&mut self, s: &Study, call: &Call, answer: &Answer) {
+        let t = &mut self.tally;
+        if answer.granted() {
+            let stores = matches!(call, Call::Load | Call::SetMasks { .. });
+            let mut first = 0;
+            let is_sum = |j| {
+                let stored = s.joint(j)[FIRST];
+                let sum = first;
+                first += s.ids(j).len() as u32;
+                stored == sum
+            };
+            t.altered[stores as usize] += !(0..s.joint_count()).all(is_sum) as u64;
+        }
+        let Call::SetMasks { joint, masks } = call else {
+            return;
+        };
+        let j = *joint as usize;
+        let there = j < s.joint_count();
+        match answer.code {
+            0 => {
+                let mut words = s.joint(j).to_vec();
+                let old = s.ids(j).len();
+                words[2..6].copy_from_slice(masks);
+                let new = rapier2d::pipeline::model::row_ids(&words).len();
+                t.changes[1 + (new > old) as usize - (new < old) as usize] += 1;
+                t.changes_off += (words[ENABLED] != 0) as u64;
+                t.by_new_total[0] += (s.row_capacity() < s.total()) as u64;
+            }
+            3 => {
+                let wide = |masks: &[u32]| masks.iter().any(|m| *m > 7);
+                t.old_mask += (there && wide(&s.joint(j)[2..6]) && !wide(masks)) as u64;
+            }
+            8 if there => t.by_new_total[1] += (s.row_capacity() >= s.total()) as u64,
+            8 => t.missing_short += 1,
+            _ => {}
+        }
     }
 
     fn count(&mut self, s: &Study, call: &Call, answer: &Answer) {
@@ -180,7 +240,15 @@ impl Run {
                 }
             }
             let call = g.call(&s);
+            let own = s.rows.clone();
+            if !g.d.one_in(3) {
+                g.lend(&mut s, &call);
+            }
             self.both(&mut s, &call)?;
+            // Storage too short for the old total is taken back where the change was refused.
+            if matches!(call, Call::SetMasks { .. }) && s.row_capacity() < total(&s) {
+                s.rows = own;
+            }
             if self.tally.calls >= self.limit {
                 break;
             }
@@ -247,8 +315,10 @@ pub fn show(difference: &Difference) {
     if here.built != there.built {
         println!("  built {} here, {} there", here.built, there.built);
     }
-    if here.words != there.words {
-        println!("  words {:?} here, {:?} there", here.words, there.words);
+    for (i, (a, b)) in here.words.iter().zip(&there.words).enumerate() {
+        if a != b {
+            println!("  words[{i}]: {a} here, {b} there");
+        }
     }
     places("out", &answer.out, &other.out);
     places("settings", &here.settings, &there.settings);
@@ -300,6 +370,20 @@ pub fn compare(other: Side, seed: u64, calls: u64) {
     );
     let [motors, at_bound] = t.motors;
     println!("{motors} motor rows in the last rounds of sweeps, {at_bound} of them low or high");
+    let [fewer, equal, more] = t.changes;
+    println!(
+        "mask changes granted: {fewer} to fewer rows, {equal} to as many, {more} to more; {} of joints that are switched off",
+        t.changes_off
+    );
+    let [granted, refused] = t.by_new_total;
+    println!(
+        "  {granted} granted with storage short of the old total, {refused} refused by 8 with storage for it, {} of a missing joint refused by 8, {} refused for an old mask",
+        t.missing_short, t.old_mask
+    );
+    let [others, stores] = t.altered;
+    println!(
+        "granted where a first row was not the sum: {stores} loads and mask changes, {others} other calls"
+    );
 }
 
 /// Each fault's number of calls until a difference, of pairs, and of lines in the stored answers.

@@ -14,9 +14,9 @@ use crate::math::Real;
 /// A body's numbers as in `records`, then its velocity.
 pub const BODY: usize = records::BODY + VEL;
 /// The numbers of a joint's two bodies, u32::MAX for the world, its words as in `records`, its
-/// `JointEnabled`, then how its centre is typed, which is not looked at here: the centre comes as
-/// cosine and sine.
-pub const WORDS: usize = 2 + JOINT_WORDS + 2;
+/// `JointEnabled`, then how its centre is typed, which is not looked at here (the centre comes as
+/// cosine and sine), and its first row, which is not looked at either (the Rust counts its own).
+pub const WORDS: usize = 2 + JOINT_WORDS + 3;
 
 fn solver_bodies(bodies: &[Real]) -> SolverBodies {
     let mut all = SolverBodies::default();
