@@ -45,8 +45,8 @@ extern "C" {
 #define KATYDIDZINC_VELOCITY_Y 8
 #define KATYDIDZINC_VELOCITY_ANGULAR 9
 
-/* A joint's words, in `words`: 11. */
-#define KATYDIDZINC_WORDS_WIDTH 11
+/* A joint's words, in `words`: 12. */
+#define KATYDIDZINC_WORDS_WIDTH 12
 #define KATYDIDZINC_BODY1 0            /* the number of a body, or KATYDIDZINC_WORLD */
 #define KATYDIDZINC_BODY2 1
 #define KATYDIDZINC_LOCKED_AXES 2      /* masks of axes */
@@ -58,6 +58,7 @@ extern "C" {
 #define KATYDIDZINC_MODEL_ANGULAR 8
 #define KATYDIDZINC_ENABLED 9          /* whether the joint makes rows */
 #define KATYDIDZINC_CENTER_CHOICE 10   /* how the centre of the angular limit is typed */
+#define KATYDIDZINC_FIRST_ROW 11       /* where the joint's rows begin in `rows`, counted in rows: written by load and by set_masks, read by no call */
 
 /* The axes in a mask. */
 #define KATYDIDZINC_LIN_X 1
@@ -159,14 +160,14 @@ enum katydidzinc_refusal {
      * storage passes over 8. */
     KATYDIDZINC_TOO_MANY_BODIES = 1,   /* More than 128 bodies are given. */
     KATYDIDZINC_TOO_MANY_JOINTS = 2,   /* More than 128 joints are given. */
-    KATYDIDZINC_LARGE_MASK = 3,        /* A mask exceeds 7. */
+    KATYDIDZINC_LARGE_MASK = 3,        /* A mask exceeds 7, of a joint or of the new ones. */
     KATYDIDZINC_ABSENT_BODY = 4,       /* A joint names a body that is neither present nor the world. */
     KATYDIDZINC_SAME_BODY = 5,         /* A joint names one body twice, the world included. */
     KATYDIDZINC_NOT_FINITE = 6,        /* A pose, mass, inertia, setting, centre, joint frame, softness or motor number, limit end or warm
                                         * coefficient is NaN or infinite; only limit ends and maximum forces may be infinite. Velocities
                                         * and stored impulses are not looked at. */
     KATYDIDZINC_NEGATIVE_DT = 7,       /* dt is below zero. */
-    KATYDIDZINC_SMALL_STORAGE = 8,     /* Row storage holds fewer rows than the joints make. */
+    KATYDIDZINC_SMALL_STORAGE = 8,     /* Row storage holds fewer rows than the joints make, with the new masks where a call brings such. */
     KATYDIDZINC_TOO_MANY_ROUNDS = 9,   /* A sweep of more than 64 rounds is wanted. */
     KATYDIDZINC_NOT_BUILT = 10,        /* Warm start, sweep, bias removal, write-back or a row read comes before a build, or a build of a
                                         * model that is not built has both a warm coefficient and a substep above 0. */
@@ -193,8 +194,8 @@ enum katydidzinc_refusal {
 /* ---- The calls. All take the three settings and the mark, then the slices, each as pointer and length in numbers, and then arguments
  * of their own. A slice that is not const may be written; where the call is refused it is not.
  *
- * The mark `built` says that the rows are those of a build: 0 no, any other number yes. The caller keeps it: a granted load clears it, a granted
- * build sets it, nothing else changes it. Place and every other change of the model leave the mark as it is.
+ * The mark `built` says that the rows are those of a build: 0 no, any other number yes. The caller keeps it: a granted load or mask change clears it, a
+ * granted build sets it, nothing else changes it. Place and every other change of the model leave the mark as it is.
  *
  * What a caller has to keep:
  * - A pointer is aligned and points to as many numbers as its length says. No pointer is NULL, of a slice of length 0 neither.
@@ -203,13 +204,20 @@ enum katydidzinc_refusal {
  *   this where they are asked to (-ffast-math, when linking), as do fesetround and _MM_SET_FLUSH_ZERO_MODE. Otherwise a call's numbers are not the
  *   defined ones, and no answer says so; which records are read and written does not depend on it.
  * - Between a build and the calls that read its rows, the row storage and the joints' words are left as they are. A caller who alters them
- *   still gets every call granted or refused by the rules, but of rows that no build made.
+ *   still gets every call granted or refused by the rules, but of rows that no build made. First rows alone may be altered: every call counts the rows anew.
  */
 
-/* Checks the model. Granted: the mark is to be 0. */
+/* Checks the model. Writes each joint's first row in `words`. Granted: the mark is to be 0. */
 uint64_t katydidzinc_load(float dt, float length_unit, float normalized_max_corrective_velocity, uint32_t built,
-                          const float *bodies, size_t bodies_len, const uint32_t *words, size_t words_len,
+                          const float *bodies, size_t bodies_len, uint32_t *words, size_t words_len,
                           const float *numbers, size_t numbers_len, const float *rows, size_t rows_len);
+
+/* Gives a joint new masks. Writes them and each joint's first row in `words`; stored impulses stay. Row storage is asked for the rows that the joints make with the new
+ * masks, and not written: what it holds are no rows of this model any more. Granted: the mark is to be 0, whatever the masks were. */
+uint64_t katydidzinc_set_masks(float dt, float length_unit, float normalized_max_corrective_velocity, uint32_t built,
+                               const float *bodies, size_t bodies_len, uint32_t *words, size_t words_len,
+                               const float *numbers, size_t numbers_len, const float *rows, size_t rows_len,
+                               uint32_t joint, uint32_t locked_axes, uint32_t limit_axes, uint32_t motor_axes, uint32_t coupled_axes);
 
 /* Gives a body a new pose. Writes its pose in `bodies`. */
 uint64_t katydidzinc_place(float dt, float length_unit, float normalized_max_corrective_velocity, uint32_t built,
@@ -463,6 +471,19 @@ static inline uint64_t katydidzinc_study_load(katydidzinc_study *s)
     uint64_t answer = katydidzinc_study_check(s, NULL, 0, NULL, 0, NULL, 0);
     if (answer == KATYDIDZINC_GRANTED) {
         answer = katydidzinc_load(KATYDIDZINC_MODEL_OF(s), KATYDIDZINC_ROWS_OF(s));
+        if (katydidzinc_granted(answer)) {
+            s->built = 0;
+        }
+    }
+    return answer;
+}
+
+static inline uint64_t katydidzinc_study_set_masks(katydidzinc_study *s, uint32_t joint, uint32_t locked_axes, uint32_t limit_axes, uint32_t motor_axes,
+                                                   uint32_t coupled_axes)
+{
+    uint64_t answer = katydidzinc_study_check(s, NULL, 0, NULL, 0, NULL, 0);
+    if (answer == KATYDIDZINC_GRANTED) {
+        answer = katydidzinc_set_masks(KATYDIDZINC_MODEL_OF(s), KATYDIDZINC_ROWS_OF(s), joint, locked_axes, limit_axes, motor_axes, coupled_axes);
         if (katydidzinc_granted(answer)) {
             s->built = 0;
         }

@@ -39,8 +39,8 @@ MOST_BODIES, MOST_JOINTS, MOST_ROUNDS, MOST_ROWS = 128, 128, 64, 6
 POSE_RE, POSE_IM, POSE_X, POSE_Y = range(4)
 BODY_WIDTH = 10
 POSE, INERTIA, MASS_X, MASS_Y, VELOCITY_X, VELOCITY_Y, VELOCITY_ANGULAR = 0, 4, 5, 6, 7, 8, 9
-WORDS_WIDTH = 11
-BODY1, BODY2, LOCKED_AXES, LIMIT_AXES, MOTOR_AXES, COUPLED_AXES, MODEL_X, MODEL_Y, MODEL_ANGULAR, ENABLED, CENTER_CHOICE = range(11)
+WORDS_WIDTH = 12
+BODY1, BODY2, LOCKED_AXES, LIMIT_AXES, MOTOR_AXES, COUPLED_AXES, MODEL_X, MODEL_Y, MODEL_ANGULAR, ENABLED, CENTER_CHOICE, FIRST_ROW = range(12)
 LIN_X, LIN_Y, ANG_X, ALL_AXES = 1, 2, 4, 7
 ACCELERATION_BASED, FORCE_BASED = 0, 1
 JOINT_ENABLED, JOINT_DISABLED_BY_ATTACHED_BODY, JOINT_DISABLED = range(3)
@@ -127,6 +127,7 @@ _f32, _u32 = ctypes.c_float, ctypes.c_uint32
 _model = (_f32, _f32, _f32, _u32) + _numbers + _words + _numbers
 _ARGUMENTS = {
     "load": _model + _numbers,
+    "set_masks": _model + _numbers + (_u32,) * 5,
     "place": _model + (_u32, _f32, _f32, _f32, _f32),
     "build": _model + _numbers + (_u32, _f32, _u32),
     "warm_start": _model + _numbers,
@@ -347,7 +348,7 @@ class Joint:
         models = [m.model for m in self._axes(self.motors, Motor)]
         masks = [self.locked_axes, self.limit_axes, self.motor_axes, self.coupled_axes]
         enabled = {True: JOINT_ENABLED, False: JOINT_DISABLED}[self.enabled] if isinstance(self.enabled, bool) else self.enabled
-        return [_word(w) for w in (number(self.body1), number(self.body2), *masks, *models, enabled, self._center()[0])]
+        return [_word(w) for w in (number(self.body1), number(self.body2), *masks, *models, enabled, self._center()[0], 0)]
 
     def _numbers(self):
         flat = self.frame1._list() + self.frame2._list()
@@ -412,7 +413,7 @@ def _shown(x):
 
 
 class Study:
-    """A model with its row storage. `built` is the mark: load clears it and build sets it."""
+    """A model with its row storage. `built` is the mark: load and a mask change clear it and build sets it."""
 
     def __init__(self, bodies=(), joints=(), dt=1.0 / 60.0, length_unit=1.0, normalized_max_corrective_velocity=3.0):
         self.dt, self.length_unit, self.normalized_max_corrective_velocity = dt, length_unit, normalized_max_corrective_velocity
@@ -475,8 +476,17 @@ class Study:
         return answer - ROWS_GRANTED if answer else 0
 
     def load(self):
-        """Checks the model, and clears the mark."""
+        """Checks the model, stores each joint's first row in its words, and clears the mark."""
         self._call("load", True)
+        self.built = False
+
+    def set_masks(self, joint, locked_axes=None, limit_axes=None, motor_axes=None, coupled_axes=None):
+        """Gives a joint new masks, stores each joint's first row, and clears the mark; stored impulses stay. A mask that is not given stays, too."""
+        number, words = _word(self.joint_number(joint)), memoryview(self.words).cast("B").cast("I")
+        places = range(number * WORDS_WIDTH + LOCKED_AXES, number * WORDS_WIDTH + COUPLED_AXES + 1)
+        own = [words[at] if at < len(words) else 0 for at in places]
+        given = (locked_axes, limit_axes, motor_axes, coupled_axes)
+        self._call("set_masks", True, number, *(_word(old if new is None else new) for old, new in zip(own, given)))
         self.built = False
 
     def place(self, body, x, y, re=1.0, im=0.0):

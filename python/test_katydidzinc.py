@@ -53,7 +53,7 @@ class Defaults(unittest.TestCase):
         numbers = list(memoryview(s.numbers).cast("B").cast("f"))
         limits, motor = [-kz.MAX, kz.MAX, 0.0], [0.0, 0.0, 0.0, 0.0, kz.MAX, 0.0]
         self.assertEqual(numbers, [1.0, 0.0, 0.0, 0.0] * 2 + limits * 3 + motor * 3 + [1.0e6, 1.0, 0.0, 0.0, 0.0, 1.0, 0.0])
-        self.assertEqual(list(memoryview(s.words).cast("B").cast("I")), [0, 1] + [0] * 9)
+        self.assertEqual(list(memoryview(s.words).cast("B").cast("I")), [0, 1] + [0] * 10)
         s.load()
         self.assertEqual(s.build(), 0)
         self.assertEqual(s.read_rows("j"), [])
@@ -194,6 +194,35 @@ class Calls(unittest.TestCase):
         self.assertEqual(targets(), [0.0, 0.5, kz.motor_target(3)])
         self.assertTrue(s.built)
 
+    def test_set_masks(self):
+        s = kz.Study(
+            [kz.Body("a", (1.0, 0.0)), kz.Body("b", (2.0, 0.0))],
+            [kz.Joint("one", kz.WORLD, "a", kz.ALL_AXES), kz.Joint("two", "a", "b", kz.LIN_X, motor_axes=kz.ANG_X)],
+        )
+        words = memoryview(s.words).cast("B").cast("I")
+        masks = lambda j: list(words[j * kz.WORDS_WIDTH + kz.LOCKED_AXES : j * kz.WORDS_WIDTH + kz.COUPLED_AXES + 1])
+        firsts = lambda: [words[j * kz.WORDS_WIDTH + kz.FIRST_ROW] for j in range(2)]
+        self.assertEqual(firsts(), [0, 0])
+        s.load()
+        self.assertEqual((s.build(), firsts()), (5, [0, 3]))
+        s.set_masks("one", locked_axes=kz.LIN_X | kz.LIN_Y)
+        self.assertEqual((s.built, masks(0), masks(1), firsts()), (False, [3, 0, 0, 0], [1, 0, 4, 0], [0, 2]))
+        with self.assertRaises(kz.Refused) as caught:
+            s.build(1.0, 1)
+        self.assertEqual(caught.exception.number, kz.NOT_BUILT)
+        self.assertEqual(s.build(), 4)
+        s.set_masks("two", 0, 0, 0, 0)
+        self.assertEqual((masks(1), firsts(), s.build()), ([0, 0, 0, 0], [0, 2], 2))
+        # a first row that a caller alters is nobody's until a load or a mask change
+        words[kz.WORDS_WIDTH + kz.FIRST_ROW] = 77
+        s.set_masks("one")
+        self.assertEqual((s.built, masks(0), firsts()), (False, [3, 0, 0, 0], [0, 2]))
+        words[kz.WORDS_WIDTH + kz.FIRST_ROW] = 77
+        self.assertEqual((s.build(), firsts()), (2, [0, 77]))
+        self.assertEqual([len(s.read_rows(j)) for j in range(2)], [2, 0])
+        s.load()
+        self.assertEqual(firsts(), [0, 2])
+
     def test_motor_table(self):
         records = [(0, 2, -1500), (127, 0, 8000000), (3, 1, 0)]
         text = kz.write_motor_table(records)
@@ -283,8 +312,17 @@ class Refusals(unittest.TestCase):
             self.refused(number, s, lambda: s.set_targets(table))
         s.build()
         self.refused(kz.TOO_MANY_ROUNDS, s, lambda: s.sweep(65))
-        for call in (lambda: s.read_rows(1), lambda: s.read_velocity(1), lambda: s.read_velocity(kz.WORLD), lambda: s.place(7, 0.0, 0.0)):
+        for call in (
+            lambda: s.read_rows(1), lambda: s.read_velocity(1), lambda: s.read_velocity(kz.WORLD), lambda: s.place(7, 0.0, 0.0), lambda: s.set_masks(1),
+            lambda: s.set_masks(kz.WORLD, 7, 7, 7, 7),
+        ):
             self.refused(kz.ABSENT, s, call)
+        self.refused(kz.LARGE_MASK, s, lambda: s.set_masks(1, 8))
+        s.rows = array.array("f", [0.0] * 72)
+        self.refused(kz.SMALL_STORAGE, s, lambda: s.set_masks(0, limit_axes=kz.LIN_X | kz.ANG_X, locked_axes=0, motor_axes=kz.ALL_AXES))
+        s.rows = array.array("f", [0.0] * 71)
+        self.refused(kz.SMALL_STORAGE, s, lambda: s.set_masks(1))
+        s.set_masks(0, limit_axes=0)
 
     def test_short(self):
         s = pendulum()
@@ -311,7 +349,7 @@ class Refusals(unittest.TestCase):
         s = pendulum()
         s.load()
         s.build()
-        for call in (lambda: s.sweep(2**32), lambda: s.read_rows(2**32), lambda: s.read_velocity(-1)):
+        for call in (lambda: s.sweep(2**32), lambda: s.read_rows(2**32), lambda: s.read_velocity(-1), lambda: s.set_masks(0, 2**32)):
             with self.assertRaises(OverflowError):
                 call()
         whole = array.array("f", [0.0] * 200)
@@ -354,7 +392,7 @@ class Arrays(unittest.TestCase):
             self.assertIsInstance(s.bodies, array.array)
             print("numpy: left out, because it is not installed; the arrays are the module array's")
         else:
-            self.assertEqual((s.bodies.shape, s.words.shape, s.numbers.shape, s.rows.shape), ((1, 10), (1, 11), (1, 42), (6, 18)))
+            self.assertEqual((s.bodies.shape, s.words.shape, s.numbers.shape, s.rows.shape), ((1, 10), (1, 12), (1, 42), (6, 18)))
             self.assertEqual((s.bodies.dtype, s.words.dtype), (kz.numpy.float32, kz.numpy.uint32))
 
     def test_bits(self):

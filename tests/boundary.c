@@ -5,7 +5,7 @@
  * Each slice lies in a page of its own between two pages that cannot be read, flush with one of them, and the rest of its page holds a pattern. So a
  * number or byte read or written past an end of a slice that is flush there ends the program; one that is written elsewhere breaks the pattern. A refused call, and one whose
  * slice is too short, must leave every slice as it was; a granted one may change only the slices that the header names, a build and a row read only so
- * many rows as they answer, a sweep only the first 128 of the bytes for its counts. The program itself is to be compiled with -fsanitize=address,undefined.
+ * many rows as they answer, a sweep only the first 128 of the bytes for its counts, a load only first rows, a mask change these and four masks. The program itself is to be compiled with -fsanitize=address,undefined.
  */
 #define _DEFAULT_SOURCE
 #include "katydidzinc.h"
@@ -33,11 +33,12 @@ static const size_t whole[SLICES] = {BODIES * KATYDIDZINC_BODY_WIDTH,
                                      KATYDIDZINC_READ_NUMBERS,
                                      KATYDIDZINC_READ_IDS};
 
-enum { LOAD, PLACE, BUILD, WARM_START, SWEEP, REMOVE_BIAS, WRITE_BACK, READ_ROWS, READ_VELOCITY, SET_TARGETS, REACTION, RESIDUAL, CALLS };
-static const char *const call_names[CALLS] = {"load", "place", "build", "warm start", "sweep", "bias removal", "write-back", "row read", "velocity read", "motor table", "reaction", "residual"};
+enum { LOAD, PLACE, BUILD, WARM_START, SWEEP, REMOVE_BIAS, WRITE_BACK, READ_ROWS, READ_VELOCITY, SET_TARGETS, SET_MASKS, REACTION, RESIDUAL, CALLS };
+static const char *const call_names[CALLS] = {"load",          "place",       "build",       "warm start", "sweep",   "bias removal", "write-back", "row read",
+                                              "velocity read", "motor table", "mask change", "reaction",   "residual"};
 /* which slices a granted call may write */
-static const unsigned writes[CALLS] = {0, 1 << IN_BODIES, 1 << IN_ROWS, 1 << IN_BODIES, 1 << IN_BODIES | 1 << IN_ROWS,
-                                       1 << IN_ROWS, 1 << IN_NUMBERS, 1 << IN_OUT | 1 << IN_IDS, 1 << IN_OUT, 1 << IN_NUMBERS, 1 << IN_OUT, 0};
+static const unsigned writes[CALLS] = {1 << IN_WORDS, 1 << IN_BODIES, 1 << IN_ROWS, 1 << IN_BODIES, 1 << IN_BODIES | 1 << IN_ROWS,
+                                       1 << IN_ROWS, 1 << IN_NUMBERS, 1 << IN_OUT | 1 << IN_IDS, 1 << IN_OUT, 1 << IN_NUMBERS, 1 << IN_WORDS, 1 << IN_OUT, 0};
 
 /* A slice of bytes beside those: a sweep's counts, or a motor table. */
 static unsigned char *byte_page;
@@ -52,6 +53,7 @@ static uint64_t answers[CALLS][17]; /* granted, refused with 1 to 15, short */
 static unsigned char lengths_seen[SLICES][MOST];
 
 static uint64_t motors_at_bound; /* counted by granted sweeps */
+static uint64_t first_rows;      /* above 0, stored by granted loads and mask changes */
 static uint64_t tables_read;
 static uint64_t residuals; /* that are not 0 */
 
@@ -117,6 +119,7 @@ static void vary(void)
         }
         model[IN_WORDS][j * KATYDIDZINC_WORDS_WIDTH + KATYDIDZINC_ENABLED] = draw(8) == 0 ? draw(3) : 0;
         model[IN_WORDS][j * KATYDIDZINC_WORDS_WIDTH + KATYDIDZINC_CENTER_CHOICE] = draw(4) == 0;
+        model[IN_WORDS][j * KATYDIDZINC_WORDS_WIDTH + KATYDIDZINC_FIRST_ROW] = draw(2) ? UINT32_C(0xFFFFFF00) : draw(20);
     }
     j = (int)draw(JOINTS);
     switch (draw(24)) {
@@ -226,6 +229,35 @@ static int guarded(int slice, uint32_t *at, size_t len)
     return 1;
 }
 
+/* The words after a granted load, or a mask change of a joint: the joints that are there have their first rows, each at most six rows after the one before; that joint has the
+ * new masks; every other word is as it was. */
+static int right_words(const uint32_t *words, const size_t *lens, int changes, uint32_t joint, const uint32_t *masks)
+{
+    size_t joints = lens[IN_WORDS] / KATYDIDZINC_WORDS_WIDTH, of_numbers = lens[IN_NUMBERS] / KATYDIDZINC_NUMBERS_WIDTH, k;
+    uint32_t last = 0, most = 0;
+    joints = joints < of_numbers ? joints : of_numbers;
+    for (k = 0; k < lens[IN_WORDS]; k++) {
+        size_t j = k / KATYDIDZINC_WORDS_WIDTH, place = k % KATYDIDZINC_WORDS_WIDTH;
+        uint32_t wanted = model[IN_WORDS][k];
+        if (j < joints && place == KATYDIDZINC_FIRST_ROW) {
+            if (words[k] < last || words[k] - last > most) {
+                return 0;
+            }
+            last = words[k];
+            most = KATYDIDZINC_MOST_ROWS;
+            first_rows += last > 0;
+            continue;
+        }
+        if (changes && j == joint && place >= KATYDIDZINC_LOCKED_AXES && place <= KATYDIDZINC_COUPLED_AXES) {
+            wanted = masks[place - KATYDIDZINC_LOCKED_AXES];
+        }
+        if (words[k] != wanted) {
+            return 0;
+        }
+    }
+    return 1;
+}
+
 static void one_call(void)
 {
     katydidzinc_study s;
@@ -234,10 +266,14 @@ static void one_call(void)
     int call = (int)draw(CALLS), i, at_end = (int)draw(2);
     uint32_t index = draw(3) == 0 ? draw(2) ? KATYDIDZINC_WORLD : 3 : draw(3), n = draw(16) == 0 ? 65 + draw(3) : draw(4);
     uint32_t mark = draw(4) == 0 ? 0 : draw(2) ? 1 : UINT32_C(0xFFFFFF00), before = mark;
+    uint32_t masks[4];
     uint64_t answer = 0;
     size_t filled[SLICES], bytes_len, k;
     unsigned char *bytes_at;
     vary();
+    for (i = 0; i < 4; i++) {
+        masks[i] = draw(32) == 0 ? 8 + draw(1000) : draw(i == 3 && draw(4) > 0 ? 1 : 8);
+    }
     bytes_len = call == SET_TARGETS ? draw_table() : draw_counts();
     bytes_at = lend_bytes(bytes_len, at_end);
     if (call == SWEEP) {
@@ -267,6 +303,7 @@ static void one_call(void)
     case READ_ROWS: answer = katydidzinc_study_read_rows(&s, index, (float *)(void *)at[IN_OUT], lens[IN_OUT], at[IN_IDS], lens[IN_IDS]); break;
     case READ_VELOCITY: answer = katydidzinc_study_read_velocity(&s, index, (float *)(void *)at[IN_OUT], lens[IN_OUT]); break;
     case SET_TARGETS: answer = katydidzinc_study_set_targets(&s, bytes_at, bytes_len); break;
+    case SET_MASKS: answer = katydidzinc_study_set_masks(&s, index, masks[0], masks[1], masks[2], masks[3]); break;
     /* no calls on a model: any rows, any joint, any number of rows, and nothing is refused */
     case REACTION:
         answer = katydidzinc_reaction(s.bodies, s.bodies_len, s.words, s.words_len, s.numbers, s.numbers_len, index, s.rows, s.rows_len, draw(2) ? draw(9) : KATYDIDZINC_WORLD,
@@ -280,7 +317,10 @@ static void one_call(void)
         if ((call == BUILD || call == READ_ROWS) != (answer >= KATYDIDZINC_ROWS_GRANTED)) {
             fail("a wrong kind of answer", call, SLICES, answer, lens);
         }
-        before = call == LOAD ? 0 : call == BUILD ? 1 : mark;
+        before = call == LOAD || call == SET_MASKS ? 0 : call == BUILD ? 1 : mark;
+        if ((call == LOAD || call == SET_MASKS) && !right_words(at[IN_WORDS], lens, call == SET_MASKS, index, masks)) {
+            fail("other words than first rows and new masks", call, IN_WORDS, answer, lens);
+        }
         if (call == READ_ROWS && (lens[IN_OUT] < KATYDIDZINC_READ_NUMBERS || lens[IN_IDS] < KATYDIDZINC_READ_IDS)) {
             fail("granted into a short slice", call, IN_OUT, answer, lens);
         }
@@ -520,8 +560,8 @@ int main(int argc, char **argv)
             return count >= 100000;
         }
     }
-    printf("%" PRIu64 " motors at a bound in the last rounds; %" PRIu64 " residuals that are not 0; %" PRIu64 " motor tables read, written and read again\n", motors_at_bound, residuals,
-           tables_read);
+    printf("%" PRIu64 " motors at a bound in the last rounds; %" PRIu64 " residuals that are not 0; %" PRIu64 " motor tables read, written and read again; %" PRIu64 " first rows above 0 stored\n",
+           motors_at_bound, residuals, tables_read, first_rows);
     printf("%ld calls, every length from 0 to two past the last record, no guard broken\n", count);
     return 0;
 }

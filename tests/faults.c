@@ -1,16 +1,20 @@
 /* Faults at the boundary, each of which tests/boundary.c must find: the library's functions with one of them, which the variable FAULT names; 0 is
- * none. Linked with --wrap for load, build, read_rows and read_velocity. */
+ * none. Linked with --wrap for load, set_masks, build, read_rows and read_velocity. */
 #include "katydidzinc.h"
 
 #include <stdlib.h>
 
-#define MODEL                                                                                                                              \
-    float dt, float length_unit, float normalized, uint32_t built, const float *bodies, size_t bodies_len, const uint32_t *words,        \
+#define MODEL_OF(WORDS)                                                                                                                   \
+    float dt, float length_unit, float normalized, uint32_t built, const float *bodies, size_t bodies_len, WORDS *words,                  \
         size_t words_len, const float *numbers, size_t numbers_len
+#define MODEL MODEL_OF(const uint32_t)
+#define MASKS uint32_t joint, uint32_t locked, uint32_t limit, uint32_t motor, uint32_t coupled
 #define HANDED dt, length_unit, normalized, built, bodies, bodies_len, words, words_len, numbers, numbers_len
 
-uint64_t __real_katydidzinc_load(MODEL, const float *rows, size_t rows_len);
-uint64_t __wrap_katydidzinc_load(MODEL, const float *rows, size_t rows_len);
+uint64_t __real_katydidzinc_load(MODEL_OF(uint32_t), const float *rows, size_t rows_len);
+uint64_t __wrap_katydidzinc_load(MODEL_OF(uint32_t), const float *rows, size_t rows_len);
+uint64_t __real_katydidzinc_set_masks(MODEL_OF(uint32_t), const float *rows, size_t rows_len, MASKS);
+uint64_t __wrap_katydidzinc_set_masks(MODEL_OF(uint32_t), const float *rows, size_t rows_len, MASKS);
 uint64_t __real_katydidzinc_build(MODEL, float *rows, size_t rows_len, uint32_t warm, float coefficient, uint32_t substep_id);
 uint64_t __wrap_katydidzinc_build(MODEL, float *rows, size_t rows_len, uint32_t warm, float coefficient, uint32_t substep_id);
 uint64_t __real_katydidzinc_read_rows(MODEL, const float *rows, size_t rows_len, uint32_t joint, float *out, size_t out_len, uint32_t *ids, size_t ids_len);
@@ -30,14 +34,35 @@ static int fault(void)
     return number;
 }
 
-uint64_t __wrap_katydidzinc_load(MODEL, const float *rows, size_t rows_len)
+uint64_t __wrap_katydidzinc_load(MODEL_OF(uint32_t), const float *rows, size_t rows_len)
 {
+    uint64_t answer;
     switch (fault()) {
     case 1: read = bodies[bodies_len]; break;
     case 2: read = *(numbers - 1); break;
     default: break;
     }
-    return __real_katydidzinc_load(HANDED, rows, rows_len);
+    answer = __real_katydidzinc_load(HANDED, rows, rows_len);
+    if (fault() == 10 && !katydidzinc_granted(answer) && words_len > KATYDIDZINC_FIRST_ROW) {
+        words[KATYDIDZINC_FIRST_ROW] = 0; /* a refused call writes */
+    }
+    if (fault() == 11 && katydidzinc_granted(answer) && words_len > KATYDIDZINC_WORDS_WIDTH) {
+        words[words_len - 1] = 0; /* a word that is no first row */
+    }
+    return answer;
+}
+
+uint64_t __wrap_katydidzinc_set_masks(MODEL_OF(uint32_t), const float *rows, size_t rows_len, MASKS)
+{
+    uint32_t last = words_len == 3 * KATYDIDZINC_WORDS_WIDTH ? words[words_len - 1] : 0;
+    uint64_t answer = __real_katydidzinc_set_masks(HANDED, rows, rows_len, joint, locked, limit, motor, coupled);
+    if (fault() == 12 && !katydidzinc_granted(answer) && words_len > KATYDIDZINC_LOCKED_AXES) {
+        words[KATYDIDZINC_LOCKED_AXES] = locked;
+    }
+    if (fault() == 13 && katydidzinc_granted(answer) && words_len == 3 * KATYDIDZINC_WORDS_WIDTH) {
+        words[words_len - 1] = last; /* a later joint's first row is left */
+    }
+    return answer;
 }
 
 uint64_t __wrap_katydidzinc_build(MODEL, float *rows, size_t rows_len, uint32_t warm, float coefficient, uint32_t substep_id)

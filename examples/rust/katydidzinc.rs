@@ -15,7 +15,7 @@ pub const INERTIA: usize = 4;
 pub const MASS_X: usize = 5;
 pub const MASS_Y: usize = 6;
 pub const VELOCITY_X: usize = 7;
-pub const WORDS_WIDTH: usize = 11;
+pub const WORDS_WIDTH: usize = 12;
 pub const BODY1: usize = 0;
 pub const BODY2: usize = 1;
 pub const LOCKED_AXES: usize = 2;
@@ -56,11 +56,11 @@ pub const MICRO_NAN: i64 = 8589934592;
 
 /// Declares the calls: all take the settings, the mark and the model's three slices, each as pointer and length, and then what is listed.
 macro_rules! calls {
-    ($($name:ident($bodies:ty, $numbers:ty, $($argument:ident: $type:ty),*);)*) => {
+    ($($name:ident($bodies:ty, $words:ty, $numbers:ty, $($argument:ident: $type:ty),*);)*) => {
         unsafe extern "C" {
             $(fn $name(
                 dt: f32, length_unit: f32, normalized: f32, built: u32,
-                bodies: $bodies, bodies_len: usize, words: *const u32, words_len: usize, numbers: $numbers, numbers_len: usize,
+                bodies: $bodies, bodies_len: usize, words: $words, words_len: usize, numbers: $numbers, numbers_len: usize,
                 $($argument: $type),*
             ) -> u64;)*
             fn katydidzinc_micro_report(x: f32) -> i64;
@@ -69,16 +69,17 @@ macro_rules! calls {
 }
 
 calls! {
-    katydidzinc_load(*const f32, *const f32, rows: *const f32, rows_len: usize);
-    katydidzinc_place(*mut f32, *const f32, body: u32, re: f32, im: f32, x: f32, y: f32);
-    katydidzinc_build(*const f32, *const f32, rows: *mut f32, rows_len: usize, warm: u32, coefficient: f32, substep_id: u32);
-    katydidzinc_warm_start(*mut f32, *const f32, rows: *const f32, rows_len: usize);
-    katydidzinc_sweep(*mut f32, *const f32, rows: *mut f32, rows_len: usize, n: u32, counts: *mut u8, counts_len: usize);
-    katydidzinc_remove_bias(*const f32, *const f32, rows: *mut f32, rows_len: usize);
-    katydidzinc_write_back(*const f32, *mut f32, rows: *const f32, rows_len: usize);
-    katydidzinc_read_rows(*const f32, *const f32, rows: *const f32, rows_len: usize, joint: u32, out: *mut f32, out_len: usize, ids: *mut u32, ids_len: usize);
-    katydidzinc_read_velocity(*const f32, *const f32, body: u32, out: *mut f32, out_len: usize);
-    katydidzinc_set_targets(*const f32, *mut f32, table: *const u8, table_len: usize);
+    katydidzinc_load(*const f32, *mut u32, *const f32, rows: *const f32, rows_len: usize);
+    katydidzinc_set_masks(*const f32, *mut u32, *const f32, rows: *const f32, rows_len: usize, joint: u32, locked_axes: u32, limit_axes: u32, motor_axes: u32, coupled_axes: u32);
+    katydidzinc_place(*mut f32, *const u32, *const f32, body: u32, re: f32, im: f32, x: f32, y: f32);
+    katydidzinc_build(*const f32, *const u32, *const f32, rows: *mut f32, rows_len: usize, warm: u32, coefficient: f32, substep_id: u32);
+    katydidzinc_warm_start(*mut f32, *const u32, *const f32, rows: *const f32, rows_len: usize);
+    katydidzinc_sweep(*mut f32, *const u32, *const f32, rows: *mut f32, rows_len: usize, n: u32, counts: *mut u8, counts_len: usize);
+    katydidzinc_remove_bias(*const f32, *const u32, *const f32, rows: *mut f32, rows_len: usize);
+    katydidzinc_write_back(*const f32, *const u32, *mut f32, rows: *const f32, rows_len: usize);
+    katydidzinc_read_rows(*const f32, *const u32, *const f32, rows: *const f32, rows_len: usize, joint: u32, out: *mut f32, out_len: usize, ids: *mut u32, ids_len: usize);
+    katydidzinc_read_velocity(*const f32, *const u32, *const f32, body: u32, out: *mut f32, out_len: usize);
+    katydidzinc_set_targets(*const f32, *const u32, *mut f32, table: *const u8, table_len: usize);
 }
 
 /// The number of the rule that refused a call; the header has its words.
@@ -112,7 +113,7 @@ pub fn millionths(x: f32) -> String {
     }
 }
 
-/// A model with its row storage and the mark, which load clears and build sets.
+/// A model with its row storage and the mark, which load and a mask change clear and build sets.
 pub struct Study {
     pub dt: f32,
     pub length_unit: f32,
@@ -124,18 +125,18 @@ pub struct Study {
     pub rows: Vec<f32>,
 }
 
-/// A call on a study: `call!(self, name, [bodies], [numbers], arguments)`, where a slice of the model is lent to be read or, as `mut`, to be written.
+/// A call on a study: `call!(self, name, [bodies], [words], [numbers], arguments)`, where a slice of the model is lent to be read or, as `mut`, to be written.
 macro_rules! call {
-    ($s:ident, $name:ident, $bodies:ident, $numbers:ident $(, $argument:expr)*) => {{
+    ($s:ident, $name:ident, $bodies:ident, $words:ident, $numbers:ident $(, $argument:expr)*) => {{
         if !float_mode() {
             return Err(Refused(FLOAT_MODE));
         }
-        let (bodies, numbers) = ($s.bodies.$bodies(), $s.numbers.$numbers());
+        let (bodies, words, numbers) = ($s.bodies.$bodies(), $s.words.$words(), $s.numbers.$numbers());
         let settings = ($s.dt, $s.length_unit, $s.normalized_max_corrective_velocity, $s.built as u32);
         answer(unsafe {
             $name(
                 settings.0, settings.1, settings.2, settings.3,
-                bodies, $s.bodies.len(), $s.words.as_ptr(), $s.words.len(), numbers, $s.numbers.len() $(, $argument)*
+                bodies, $s.bodies.len(), words, $s.words.len(), numbers, $s.numbers.len() $(, $argument)*
             )
         })
     }};
@@ -195,56 +196,64 @@ impl Study {
     }
 
     pub fn load(&mut self) -> Answer {
-        let a = call!(self, katydidzinc_load, as_ptr, as_ptr, self.rows.as_ptr(), self.rows.len())?;
+        let a = call!(self, katydidzinc_load, as_ptr, as_mut_ptr, as_ptr, self.rows.as_ptr(), self.rows.len())?;
+        self.built = false;
+        Ok(a)
+    }
+
+    /// New masks of a joint: locked, limit, motor and coupled axes.
+    pub fn set_masks(&mut self, joint: u32, [locked, limit, motor, coupled]: [u32; 4]) -> Answer {
+        let rows = (self.rows.as_ptr(), self.rows.len());
+        let a = call!(self, katydidzinc_set_masks, as_ptr, as_mut_ptr, as_ptr, rows.0, rows.1, joint, locked, limit, motor, coupled)?;
         self.built = false;
         Ok(a)
     }
 
     pub fn place(&mut self, body: u32, re: f32, im: f32, x: f32, y: f32) -> Answer {
-        call!(self, katydidzinc_place, as_mut_ptr, as_ptr, body, re, im, x, y)
+        call!(self, katydidzinc_place, as_mut_ptr, as_ptr, as_ptr, body, re, im, x, y)
     }
 
     pub fn build(&mut self, warm: Option<f32>, substep_id: u32) -> Answer {
         let coefficient = warm.unwrap_or(0.0);
-        let a = call!(self, katydidzinc_build, as_ptr, as_ptr, self.rows.as_mut_ptr(), self.rows.len(), warm.is_some() as u32, coefficient, substep_id)?;
+        let a = call!(self, katydidzinc_build, as_ptr, as_ptr, as_ptr, self.rows.as_mut_ptr(), self.rows.len(), warm.is_some() as u32, coefficient, substep_id)?;
         self.built = true;
         Ok(a)
     }
 
     pub fn warm_start(&mut self) -> Answer {
-        call!(self, katydidzinc_warm_start, as_mut_ptr, as_ptr, self.rows.as_ptr(), self.rows.len())
+        call!(self, katydidzinc_warm_start, as_mut_ptr, as_ptr, as_ptr, self.rows.as_ptr(), self.rows.len())
     }
 
     /// How many motors of each joint were at a bound in the last round.
     pub fn sweep(&mut self, n: u32) -> Result<[u8; MOST_JOINTS], Refused> {
         let mut counts = [0; MOST_JOINTS];
-        call!(self, katydidzinc_sweep, as_mut_ptr, as_ptr, self.rows.as_mut_ptr(), self.rows.len(), n, counts.as_mut_ptr(), counts.len())?;
+        call!(self, katydidzinc_sweep, as_mut_ptr, as_ptr, as_ptr, self.rows.as_mut_ptr(), self.rows.len(), n, counts.as_mut_ptr(), counts.len())?;
         Ok(counts)
     }
 
     pub fn remove_bias(&mut self) -> Answer {
-        call!(self, katydidzinc_remove_bias, as_ptr, as_ptr, self.rows.as_mut_ptr(), self.rows.len())
+        call!(self, katydidzinc_remove_bias, as_ptr, as_ptr, as_ptr, self.rows.as_mut_ptr(), self.rows.len())
     }
 
     pub fn write_back(&mut self) -> Answer {
-        call!(self, katydidzinc_write_back, as_ptr, as_mut_ptr, self.rows.as_ptr(), self.rows.len())
+        call!(self, katydidzinc_write_back, as_ptr, as_ptr, as_mut_ptr, self.rows.as_ptr(), self.rows.len())
     }
 
     /// A joint's rows and their ids, stored from the starts of `out` and `ids`; how many they are.
     pub fn read_rows(&self, joint: u32, out: &mut [f32], ids: &mut [u32]) -> Answer {
         let rows = (self.rows.as_ptr(), self.rows.len());
-        call!(self, katydidzinc_read_rows, as_ptr, as_ptr, rows.0, rows.1, joint, out.as_mut_ptr(), out.len(), ids.as_mut_ptr(), ids.len())
+        call!(self, katydidzinc_read_rows, as_ptr, as_ptr, as_ptr, rows.0, rows.1, joint, out.as_mut_ptr(), out.len(), ids.as_mut_ptr(), ids.len())
     }
 
     /// A body's velocity: x, y, angular.
     pub fn read_velocity(&self, body: u32) -> Result<[f32; VELOCITY_NUMBERS], Refused> {
         let mut v = [0.0; VELOCITY_NUMBERS];
-        call!(self, katydidzinc_read_velocity, as_ptr, as_ptr, body, v.as_mut_ptr(), v.len())?;
+        call!(self, katydidzinc_read_velocity, as_ptr, as_ptr, as_ptr, body, v.as_mut_ptr(), v.len())?;
         Ok(v)
     }
 
     /// The target velocities of a motor table's records.
     pub fn set_targets(&mut self, table: &[u8]) -> Answer {
-        call!(self, katydidzinc_set_targets, as_ptr, as_mut_ptr, table.as_ptr(), table.len())
+        call!(self, katydidzinc_set_targets, as_ptr, as_ptr, as_mut_ptr, table.as_ptr(), table.len())
     }
 }
