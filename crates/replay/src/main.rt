@@ -19,11 +19,13 @@ use model::calls::place;
 use model::calls::read_rows;
 use model::calls::read_velocity;
 use model::calls::remove_bias;
+use model::calls::set_masks;
 use model::calls::set_targets;
 use model::calls::sweep;
 use model::calls::warm_start;
 use model::calls::write_back;
 use model::header::Header;
+use rows::generic_joint::Masks;
 use rows::integration_parameters::IntegrationParameters;
 use rows::joint_constraint_builder::Warmstart;
 use rows::joint_velocity_constraint::JointConstraint;
@@ -283,12 +285,32 @@ fn plain(header: Header, answer: Plain) -> Done {
     }
 }
 
-fn run_load(header: Header, bodies: &[f32], words: &[u32], numbers: &[f32], rows: &[f32]) -> Done {
-    let answer = load(header, bodies, words, numbers, rows);
+// The answer of a load or a mask change.
+fn loaded(header: Header, answer: LoadAnswer) -> Done {
     match answer {
         LoadAnswer::Loaded(after) => refused(after, 0),
         LoadAnswer::Refused(k) => refused(header, k),
     }
+}
+
+fn run_set_masks(
+    l: Line,
+    header: Header,
+    bodies: &[f32],
+    words: &mut [u32],
+    numbers: &[f32],
+    rows: &[f32],
+) -> Done {
+    let masks = Masks {
+        locked_axes: l.b,
+        limit_axes: l.c,
+        motor_axes: l.d,
+        coupled_axes: l.e,
+    };
+    loaded(
+        header,
+        set_masks(header, bodies, words, numbers, rows, l.a, masks),
+    )
 }
 
 fn run_place(l: Line, header: Header, bodies: &mut [f32], words: &[u32], numbers: &[f32]) -> Done {
@@ -419,13 +441,13 @@ fn call(
     l: Line,
     header: Header,
     bodies: &mut [f32],
-    words: &[u32],
+    words: &mut [u32],
     numbers: &mut [f32],
     rows: &mut [f32],
 ) -> Done {
     let op = l.op;
     match op {
-        0 => run_load(header, bodies, words, numbers, rows),
+        0 => loaded(header, load(header, bodies, words, numbers, rows)),
         1 => run_place(l, header, bodies, words, numbers),
         2 => run_build(l, header, bodies, words, numbers, rows),
         3 => plain(header, warm_start(header, bodies, words, numbers, rows)),
@@ -434,6 +456,7 @@ fn call(
         6 => plain(header, write_back(header, bodies, words, numbers, rows)),
         7 => run_read_rows(l, header, bodies, words, numbers, rows),
         11 => run_table(l, header, bodies, words, numbers),
+        12 => run_set_masks(l, header, bodies, words, numbers, rows),
         _ => run_read_velocity(l, header, bodies, words, numbers),
     }
 }
@@ -561,7 +584,7 @@ fn call_on(
     header: Header,
     lengths: Lengths,
     bodies: &mut [f32],
-    words: &[u32],
+    words: &mut [u32],
     numbers: &mut [f32],
     rows: &mut [f32],
 ) -> Done {
@@ -573,7 +596,7 @@ fn call_on(
         l,
         header,
         &mut bodies[0..b],
-        &words[0..w],
+        &mut words[0..w],
         &mut numbers[0..n],
         &mut rows[0..r],
     )
@@ -719,7 +742,7 @@ fn study(bodies: &mut [f32], words: &mut [u32], numbers: &mut [f32], rows: &mut 
 
 fn main() {
     let mut bodies = [0.0f32; 1300];
-    let mut words = [0u32; 1500];
+    let mut words = [0u32; 1600];
     let mut numbers = [0.0f32; 5500];
     let mut rows = [0.0f32; 1000];
     let studies = how_many();

@@ -7,7 +7,7 @@ use Rattle.replay.proofs.main.Statement.{statement}
 use Rattle.replay.proofs.main.Tie as tie
 
 abbrev Inv-loop : tie.InvT-loop
-Inv-loop bodies₀ words₀ numbers₀ rows₀ studies i₀ run₀ wrong₀ t10 t11 bodies words numbers rows i run wrong = (i ≤ studies) × (length bodies ≡ 1300) × (length words ≡ 1500) × (length numbers ≡ 5500) × (length rows ≡ 1000)
+Inv-loop bodies₀ words₀ numbers₀ rows₀ studies i₀ run₀ wrong₀ t10 t11 bodies words numbers rows i run wrong = (i ≤ studies) × (length bodies ≡ 1300) × (length words ≡ 1600) × (length numbers ≡ 5500) × (length rows ≡ 1000)
 
 abbrev μ-loop : tie.MeasureT-loop
 μ-loop bodies₀ words₀ numbers₀ rows₀ studies i₀ run₀ wrong₀ t10 t11 bodies words numbers rows i run wrong = studies - i
