@@ -8,9 +8,10 @@ use native.Mathlib.Omega.{arith}
 use borrow.Author.Tests.{ltb-true, leb-true}
 use lib.Bits.{bitOr}
 use lib.Dec.{ltb, leb}
+use Rattle.model.specs.Layout.{bodyWidth, wordsWidth, numbersWidth}
 use Rattle.study_reader.specs.Words.{nextWord, isEmpty, sameBytes, bytesOf}
 use Rattle.study_reader.specs.Faults.{faultAxis}
-use Rattle.study_reader.specs.Storage.{bodyBase, jointBase, wordsBase}
+use Rattle.study_reader.specs.Storage.{mostItems, settingsWidth, jointsPlace, numbersSize, wordsSize, bodyBase, jointBase, wordsBase}
 use Rattle.study_reader.specs.Keywords.{Named, meaning, axisOf, fieldOf}
 use Rattle.study_reader.specs.Draft.{Draft}
 use Rattle.study_reader.specs.Items.{whole, bitOf, axesFrom}
@@ -25,17 +26,17 @@ below : (b : Bool) (x y n : ℕ) → (b ≡ true → x ≤ n) → y ≤ n → co
 below true x y n h k = h refl
 below false x y n h k = k
 
-pub body-base-small : (i : ℕ) → bodyBase i ≤ 6711
+pub body-base-small : (i : ℕ) → bodyBase i ≤ numbersSize
 unfolding bodyBase
-body-base-small i = below (ltb i 129) (3 + 10 * i) 6711 6711 (λ e. let h = ltb-true i 129 e in omega arith) (omega arith)
+body-base-small i = below (ltb i mostItems) (settingsWidth + bodyWidth * i) numbersSize numbersSize (λ e. let h = ltb-true i mostItems e in omega arith) (omega arith)
 
-pub joint-base-small : (j : ℕ) → jointBase j ≤ 6711
+pub joint-base-small : (j : ℕ) → jointBase j ≤ numbersSize
 unfolding jointBase
-joint-base-small j = below (ltb j 129) (1293 + 42 * j) 6711 6711 (λ e. let h = ltb-true j 129 e in omega arith) (omega arith)
+joint-base-small j = below (ltb j mostItems) (jointsPlace + numbersWidth * j) numbersSize numbersSize (λ e. let h = ltb-true j mostItems e in omega arith) (omega arith)
 
-pub words-base-small : (j : ℕ) → wordsBase j ≤ 1419
+pub words-base-small : (j : ℕ) → wordsBase j ≤ wordsSize
 unfolding wordsBase
-words-base-small j = below (ltb j 129) (11 * j) 1419 1419 (λ e. let h = ltb-true j 129 e in omega arith) (omega arith)
+words-base-small j = below (ltb j mostItems) (wordsWidth * j) wordsSize wordsSize (λ e. let h = ltb-true j mostItems e in omega arith) (omega arith)
 
 -- ---- fields: a place of the table, with the axes' strides, is one of the item
 

@@ -14,7 +14,8 @@ use lib.Seq.{getD-set-same, getD-set-other}
 use Rattle.texts.specs.Ascii.{ascii}
 use Rattle.study_reader.specs.Words.{nextWord, isEmpty, isWord, wholeOf}
 use Rattle.study_reader.specs.Faults.{faultUnknown, faultNoBody, faultAxis, faultBodiesFull, faultJointsFull, faultAfterCalls, faultModel, faultOpenRepeat}
-use Rattle.study_reader.specs.Storage.{jointBase}
+use Rattle.model.specs.Layout.{centerPlace}
+use Rattle.study_reader.specs.Storage.{mostItems, jointBase}
 use Rattle.study_reader.specs.Names.{ABSENT, findEnd}
 use Rattle.study_reader.specs.Keywords.{axisOf, fieldOf, noItem, callsItem, itemKeyword, callKeyword, lockKeyword, motorModelKeyword, enabledKeyword, centerKeyword, settingsKeyword, bodyKeyword, repeatKeyword}
 use Rattle.study_reader.specs.Calls.{readCall}
@@ -87,7 +88,7 @@ manyIn (Call keyword at) = 0
 
 record Sound (text : List ℕ) (change : Change) : Type 0 where
   pub place : placeIn change ≤ length text
-  pub many : manyIn change ≤ 129
+  pub many : manyIn change ≤ mostItems
 
 module _ (text : List ℕ) where
   wrong-sound : (fault at : ℕ) → at ≤ length text → Sound text (Wrong fault at)
@@ -176,18 +177,18 @@ module _ (text : List ℕ) where
       cond-sound (ltb keyword lockKeyword) _ _ (given-line-sound (w .end) keyword h)
       (cond-sound (ltb keyword motorModelKeyword) _ _ (mask-line-sound (w .end) (2 + (keyword - lockKeyword)) h)
       (cond-sound (eqb keyword motorModelKeyword) _ _ (model-sound (w .end) h)
-      (cond-sound (eqb keyword centerKeyword) _ _ (numbers-sound (w .end) 40 2 byPair h)
+      (cond-sound (eqb keyword centerKeyword) _ _ (numbers-sound (w .end) centerPlace 2 byPair h)
       (whole-sound (w .end) _ h (word-sound 9 (keyword - enabledKeyword) (w .start))))))
 
-  -- one more than a number below 129 is at most 129
-  counted-sound : (n : ℕ) (some : Change) (at fault : ℕ) → at ≤ length text → (n < 129 → Sound text some) → Sound text (cond (ltb n 129) some (Wrong fault at))
-  counted-sound n some at fault h s = by-cases (ltb n 129) (λ e. rw e (s (ltb-true n 129 e))) (λ e. rw e (wrong-sound _ _ h))
+  -- one more than a number below the most is at most the most
+  counted-sound : (n : ℕ) (some : Change) (at fault : ℕ) → at ≤ length text → (n < mostItems → Sound text some) → Sound text (cond (ltb n mostItems) some (Wrong fault at))
+  counted-sound n some at fault h s = by-cases (ltb n mostItems) (λ e. rw e (s (ltb-true n mostItems e))) (λ e. rw e (wrong-sound _ _ h))
 
-  body-sound : (w : Word) (n : ℕ) → n ≤ 129 → Sound text (OpenBody w n)
+  body-sound : (w : Word) (n : ℕ) → n ≤ mostItems → Sound text (OpenBody w n)
   unfolding placeIn manyIn
   body-sound w n h = record { place = omega arith; many = h }
 
-  joint-sound : (w : Word) (n : ℕ) (e : _) → n ≤ 129 → Sound text (OpenJoint w n e)
+  joint-sound : (w : Word) (n : ℕ) (e : _) → n ≤ mostItems → Sound text (OpenJoint w n e)
   unfolding placeIn manyIn
   joint-sound w n e h = record { place = omega arith; many = h }
 
@@ -200,7 +201,7 @@ module _ (text : List ℕ) where
       (counted-sound (st .bodies) _ (w .start) faultBodiesFull s
       (λ l. whole-sound (w .end) _ (end-inside text at h) (body-sound w (st .bodies + 1) (omega arith))))
 
-  ends-sound : (names : List ℕ) (bodies : ℕ) (u : Word) (joints : ℕ) → u .end ≤ length text → joints ≤ 129 → Sound text (endsLine text names bodies u joints)
+  ends-sound : (names : List ℕ) (bodies : ℕ) (u : Word) (joints : ℕ) → u .end ≤ length text → joints ≤ mostItems → Sound text (endsLine text names bodies u joints)
   unfolding endsLine
   ends-sound names bodies u joints h l =
       let v = nextWord text (u .end) in
@@ -263,8 +264,8 @@ record Kept (text : List ℕ) (st : State) : Type 0 where
   pub at : st .at ≤ length text
   pub fault : st .«fault_at» ≤ length text
   pub repeat : st .«repeat_at» ≤ length text
-  pub bodies : st .bodies ≤ 129
-  pub joints : st .joints ≤ 129
+  pub bodies : st .bodies ≤ mostItems
+  pub joints : st .joints ≤ mostItems
 
 module _ (text : List ℕ) where
   applied-kept : (change : Change) (d : Draft) → Sound text change → Kept text (d .state) → Kept text (applied change d .state)

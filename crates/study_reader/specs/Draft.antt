@@ -1,11 +1,12 @@
 -- What has been read of a study at some line, and what an item has where its lines give nothing: the Rust's defaults.
 use mathlib.Core.Bool.{Bool, true, false, cond}
 use mathlib.Core.List.{List, [], _∷_, _++_}
-use Prim.Native.Nat.{ℕ, _+_}
+use Prim.Native.Nat.{ℕ, _+_, _*_}
 use lib.Dec.{eqb}
 use lib.Ieee.{Float}
 use lib.ListN.{set}
 use Rattle.floats.specs.Operators.{bits}
+use Rattle.model.specs.Layout.{posePlace, frame1Place, frame2Place, limitsPlace, limitsWidth, motorsPlace, motorWidth, softnessPlace, centerPlace}
 use Rattle.study_reader.specs.Storage.{bodyBase, jointBase}
 use Rattle.study_reader.specs.Keywords.{noItem, settingsItem, bodyItem, jointItem, callsItem, repeatKeyword, endKeyword}
 use Rattle.study_reader.specs.declared.draft.State.{State}
@@ -109,18 +110,25 @@ settingsDefaults = default 0 (bits 0x3C88_8889) ∷ default 1 one ∷ default 2 
 
 -- the cosine of the rotation
 abbrev pub bodyDefaults : List Default
-bodyDefaults = default 0 one ∷ []
+bodyDefaults = default posePlace one ∷ []
 
--- the two ends of x, y and the angle
+-- the two ends of an axis, and its motor's maximum force
+abbrev pub endDefaults : ℕ → List Default
+endDefaults axis = default (limitsPlace + axis * limitsWidth) least ∷ default (limitsPlace + axis * limitsWidth + 1) most ∷ []
+
+abbrev pub forceDefault : ℕ → Default
+forceDefault axis = default (motorsPlace + axis * motorWidth + 4) most
+
+-- of x, y and the angle
 abbrev pub limitDefaults : List Default
-limitDefaults = default 8 least ∷ default 9 most ∷ default 11 least ∷ default 12 most ∷ default 14 least ∷ default 15 most ∷ []
+limitDefaults = endDefaults 0 ++ (endDefaults 1 ++ endDefaults 2)
 
--- the motors' maximum forces
 abbrev pub forceDefaults : List Default
-forceDefaults = default 21 most ∷ default 27 most ∷ default 33 most ∷ []
+forceDefaults = forceDefault 0 ∷ forceDefault 1 ∷ forceDefault 2 ∷ []
 
 -- and the cosines of the two frames; softness, 1000000 and 1; the centre's cosine
 abbrev pub jointDefaults : List Default
 jointDefaults =
     limitDefaults
-    ++ (forceDefaults ++ (default 0 one ∷ default 4 one ∷ default 35 (bits 0x4974_2400) ∷ default 36 one ∷ default 40 one ∷ []))
+    ++ (forceDefaults
+    ++ (default frame1Place one ∷ default frame2Place one ∷ default softnessPlace (bits 0x4974_2400) ∷ default (softnessPlace + 1) one ∷ default centerPlace one ∷ []))

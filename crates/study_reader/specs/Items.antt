@@ -10,6 +10,7 @@ use Rattle.floats.specs.Operators.{bits}
 use Rattle.floats.specs.Utils.{invOf}
 use Rattle.floats.specs.SinCos.{rotationFromAngleOf}
 use Rattle.texts.specs.Ascii.{ascii}
+use Rattle.model.specs.Layout.{posePlace, inertiaPlace, massPlace, masksPlace, modelsPlace, enabledPlace, frame1Place, frame2Place, centerPlace}
 use Rattle.study_reader.specs.Words.{nextWord, isEmpty, isWord, holdsByte, wholeOf}
 use Rattle.study_reader.specs.Numbers.{numberIn, numberFault, valueOf}
 use Rattle.study_reader.specs.Storage.{mostItems}
@@ -77,12 +78,12 @@ rotated place angle at = given2 place (rotationFromAngleOf angle .re) (rotationF
 -- `frame2_angle`: a rotation. `center_angle`: a centre, by its angle.
 unfoldable pub givenBy : ℕ → Float → ℕ → Numbers
 givenBy keyword x at =
-    cond (eqb keyword massKeyword) (given2 5 (invOf x) (invOf x) at at noCenter)
-    (cond (eqb keyword inverseMassKeyword) (given2 5 x x at at noCenter)
-    (cond (eqb keyword inertiaKeyword) (given1 4 (invOf x) at noCenter)
-    (cond (eqb keyword angleKeyword) (rotated 0 x at)
-    (cond (eqb keyword frame1AngleKeyword) (rotated 0 x at)
-    (cond (eqb keyword frame2AngleKeyword) (rotated 4 x at) (given1 40 x at byAngle))))))
+    cond (eqb keyword massKeyword) (given2 massPlace (invOf x) (invOf x) at at noCenter)
+    (cond (eqb keyword inverseMassKeyword) (given2 massPlace x x at at noCenter)
+    (cond (eqb keyword inertiaKeyword) (given1 inertiaPlace (invOf x) at noCenter)
+    (cond (eqb keyword angleKeyword) (rotated posePlace x at)
+    (cond (eqb keyword frame1AngleKeyword) (rotated frame1Place x at)
+    (cond (eqb keyword frame2AngleKeyword) (rotated frame2Place x at) (given1 centerPlace x at byAngle))))))
 
 unfoldable pub givenLine : List ℕ → ℕ → ℕ → Change
 givenLine text at keyword =
@@ -133,18 +134,18 @@ modelLine text at =
     let w = nextWord text (v .end) in
     let axis = axisOf text v in
     cond (ltb 2 axis) (Wrong faultAxis (v .start))
-    (cond (isWord text w (ascii "acceleration")) (whole text (w .end) (JointWord (6 + axis) 0 (w .start)))
-    (cond (isWord text w (ascii "force")) (whole text (w .end) (JointWord (6 + axis) 1 (w .start))) (Wrong faultModel (w .start))))
+    (cond (isWord text w (ascii "acceleration")) (whole text (w .end) (JointWord (modelsPlace + axis) 0 (w .start)))
+    (cond (isWord text w (ascii "force")) (whole text (w .end) (JointWord (modelsPlace + axis) 1 (w .start))) (Wrong faultModel (w .start))))
 
 -- What follows a word w that gives no plain number: one number, a mask, a motor's model, a centre, or nothing (`enabled`, `disabled_by_attached_body`,
 -- `disabled`: the Rust's `JointEnabled` in its order).
 unfoldable pub wordLine : List ℕ → ℕ → Word → Change
 wordLine text keyword w =
     cond (ltb keyword lockKeyword) (givenLine text (w .end) keyword)
-    (cond (ltb keyword motorModelKeyword) (maskLine text (w .end) (2 + (keyword - lockKeyword)))
+    (cond (ltb keyword motorModelKeyword) (maskLine text (w .end) (masksPlace + (keyword - lockKeyword)))
     (cond (eqb keyword motorModelKeyword) (modelLine text (w .end))
-    (cond (eqb keyword centerKeyword) (numbersFrom text (w .end) 40 2 byPair)
-    (whole text (w .end) (JointWord 9 (keyword - enabledKeyword) (w .start))))))
+    (cond (eqb keyword centerKeyword) (numbersFrom text (w .end) centerPlace 2 byPair)
+    (whole text (w .end) (JointWord enabledPlace (keyword - enabledKeyword) (w .start))))))
 
 -- ---- items
 

@@ -8,9 +8,10 @@ use lib.Ieee.{Float, lt}
 use lib.ListN.{length, getD, set, replicate}
 use Rattle.floats.specs.Operators.{bits, _⊕_, _⊖_, _⊗_}
 use Rattle.floats.specs.Constants.{half, pi}
+use Rattle.model.specs.Layout.{body1Place, body2Place, centerChoicePlace, limitsPlace, limitsWidth, centerPlace}
 use Rattle.study_reader.specs.Words.{nextLine}
 use Rattle.study_reader.specs.Faults.{faultOpenRepeat}
-use Rattle.study_reader.specs.Storage.{numbersSize, wordsSize, jointNames, bodyBase, jointBase, wordsBase, kept}
+use Rattle.study_reader.specs.Storage.{numbersSize, wordsSize, jointNames, namesSize, bodyBase, jointBase, wordsBase, kept}
 use Rattle.study_reader.specs.Keywords.{settingsItem, bodyItem, jointItem}
 use Rattle.study_reader.specs.Draft.{Draft, draft, withState, start, faulty, reached, opened, called, itemBase, puts, settingsDefaults, bodyDefaults, jointDefaults}
 use Rattle.study_reader.specs.Items.{byAngle, noCenter, lineOf}
@@ -22,10 +23,6 @@ use Rattle.study_reader.specs.declared.items.Change.{Change}
 use Rattle.study_reader.specs.declared.items.Change.the-variants.{Nothing, Wrong, Given, JointWord, OpenSettings, OpenBody, OpenJoint, Call}
 
 -- ---- what a line says, written
-
--- where a joint's words say how its centre is given
-abbrev pub centerWord : ℕ
-centerWord = 10
 
 -- the second of two entries
 unfoldable pub second : {A : Type 0} → ℕ → List A → ℕ → A → List A
@@ -40,7 +37,7 @@ originsWith st n origins = let place = itemBase st + n .place in second (n .many
 
 -- how a centre is given, where the numbers are a centre's
 unfoldable pub centerWith : ℕ → ℕ → List ℕ → List ℕ
-centerWith item center words = cond (ltb center noCenter) (set words (wordsBase item + centerWord) center) words
+centerWith item center words = cond (ltb center noCenter) (set words (wordsBase item + centerChoicePlace) center) words
 
 -- a word of a joint, and the place that gave it
 unfoldable pub wordWith : ℕ → ℕ → ℕ → List ℕ → List ℕ
@@ -65,8 +62,8 @@ unfoldable pub openJoint : Word → ℕ → Ends → Draft → Draft
 openJoint w joints ends d =
     let j = d .state .joints in
     draft (opened (d .state) jointItem j (d .state .bodies) joints) (puts (jointBase j) jointDefaults (d .numbers))
-    (originWith j 1 (ends .at2) (originWith j 0 (ends .at1) (d .origins)))
-    (wordWith j 1 (ends .body2) (wordWith j 0 (ends .body1) (d .words)))
+    (originWith j body2Place (ends .at2) (originWith j body1Place (ends .at1) (d .origins)))
+    (wordWith j body2Place (ends .body2) (wordWith j body1Place (ends .body1) (d .words)))
     (nameWith jointNames j w (d .names))
 
 unfoldable pub applied : Change → Draft → Draft
@@ -102,21 +99,28 @@ ended st = cond (eqb (st .fault) 0) (cond (st .repeats) (faulty st faultOpenRepe
 
 -- ---- a centre that is left out
 
+-- the two ends of the angular limit
+abbrev pub angularMin : ℕ
+angularMin = limitsPlace + 2 * limitsWidth
+
+abbrev pub angularMax : ℕ
+angularMax = angularMin + 1
+
 -- no centre is given, the angular limit is, and its two ends are less than a turn apart
 unfoldable pub isLeftOut : List Float → List ℕ → ℕ → Bool
 isLeftOut numbers origins base =
-    eqb (getD origins (base + 40) 0) 0
-    && (not (eqb (getD origins (base + 14) 0) 0) && lt ((getD numbers (base + 15) (bits 0) ⊖ getD numbers (base + 14) (bits 0)) ⊗ half) pi)
+    eqb (getD origins (base + centerPlace) 0) 0
+    && (not (eqb (getD origins (base + angularMin) 0) 0) && lt ((getD numbers (base + angularMax) (bits 0) ⊖ getD numbers (base + angularMin) (bits 0)) ⊗ half) pi)
 
 -- the middle of the two ends
 unfoldable pub middle : List Float → ℕ → Float
-middle numbers base = (getD numbers (base + 14) (bits 0) ⊕ getD numbers (base + 15) (bits 0)) ⊗ half
+middle numbers base = (getD numbers (base + angularMin) (bits 0) ⊕ getD numbers (base + angularMax) (bits 0)) ⊗ half
 
 unfoldable pub centerJoint : ℕ → Draft → Draft
 centerJoint j d =
     let base = jointBase j in
     cond (isLeftOut (d .numbers) (d .origins) base)
-    (draft (d .state) (set (d .numbers) (base + 40) (middle (d .numbers) base)) (d .origins) (set (d .words) (wordsBase j + centerWord) byAngle)
+    (draft (d .state) (set (d .numbers) (base + centerPlace) (middle (d .numbers) base)) (d .origins) (set (d .words) (wordsBase j + centerChoicePlace) byAngle)
     (d .names)) d
 
 -- so many joints from joint j on
@@ -135,4 +139,4 @@ readStudy text numbers origins words names =
 
 -- The study that a text describes: in storage of its full size, with nothing in it before.
 unfoldable pub studyOf : List ℕ → Draft
-studyOf text = readStudy text (replicate numbersSize (bits 0)) (replicate (numbersSize + wordsSize) 0) (replicate wordsSize 0) (replicate (2 * jointNames) 0)
+studyOf text = readStudy text (replicate numbersSize (bits 0)) (replicate (numbersSize + wordsSize) 0) (replicate wordsSize 0) (replicate namesSize 0)

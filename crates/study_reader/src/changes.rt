@@ -19,12 +19,19 @@ use crate::fields::SETTINGS_ITEM;
 use crate::items::Change;
 use crate::items::Ends;
 use crate::items::Numbers;
+use crate::layout::BODY1_WORD;
+use crate::layout::BODY2_WORD;
+use crate::storage::JOINT_NAMES;
 use crate::storage::NUMBERS;
 use crate::storage::kept;
 use crate::storage::set;
 use crate::storage::set_word;
 use crate::storage::words_base;
 use crate::words::Word;
+use model::layout::CENTER_CHOICE;
+
+// Where the joints' names start, in 32 bits.
+const FROM_JOINTS: u32 = JOINT_NAMES as u32;
 
 // ---- numbers
 
@@ -49,7 +56,7 @@ fn put_center(words: &mut [u32], item: u32, center: u32)
     ensures { λ _. ⌜ now (words .exit) ≡ centerWith item center (now (words .entry)) ⌝ }
 {
     if center < 2 {
-        set_word(words, words_base(item) + 10, center);
+        set_word(words, words_base(item) + CENTER_CHOICE, center);
     }
 }
 
@@ -105,10 +112,10 @@ fn open_joint(
     ensures { λ r. ⌜ draft r (now (numbers .exit)) (now (origins .exit)) (now (words .exit)) (now (names .exit)) ≡ openJoint w joints ends (draft st (now (numbers .entry)) (now (origins .entry)) (now (words .entry)) (now (names .entry))) ⌝ }
 {
     let j = st.joints;
-    put_name(names, 258, j, w);
+    put_name(names, FROM_JOINTS, j, w);
     default_joint(numbers, j);
-    put_word(origins, words, j, 0, ends.body1, ends.at1);
-    put_word(origins, words, j, 1, ends.body2, ends.at2);
+    put_word(origins, words, j, BODY1_WORD, ends.body1, ends.at1);
+    put_word(origins, words, j, BODY2_WORD, ends.body2, ends.at2);
     opened(st, JOINT_ITEM, j, st.bodies, joints)
 }
 

@@ -1,7 +1,7 @@
 // How far the reading of a study has come, and the numbers that an item has where its lines give none.
 ghost use mathlib.Core.Path.{_≡_};
 ghost use Prim.Native.Nat.{_≤_};
-ghost use Rattle.study_reader.specs.Storage.{bodyBase, jointBase};
+ghost use Rattle.study_reader.specs.Storage.{bodyBase, jointBase, numbersSize};
 ghost use Rattle.study_reader.specs.Draft.{start, faulty, reached, opened, firstCall, repeatsAfter, repeatAfter, called, itemBase, puts, settingsDefaults, bodyDefaults, limitDefaults, forceDefaults, jointDefaults};
 use crate::fields::BODY_ITEM;
 use crate::fields::CALLS;
@@ -13,6 +13,29 @@ use crate::storage::body_base;
 use crate::storage::joint_base;
 use crate::storage::set;
 use floats::bits::from_bits;
+use model::layout::CENTER_RE;
+use model::layout::DAMPING_RATIO;
+use model::layout::FRAME2;
+use model::layout::LIMITS_ANGULAR;
+use model::layout::LIMITS_X;
+use model::layout::LIMITS_Y;
+use model::layout::MOTOR_ANGULAR;
+use model::layout::MOTOR_X;
+use model::layout::MOTOR_Y;
+use model::layout::NATURAL_FREQUENCY;
+
+// The upper end of each axis's limits, and its motor's maximum force.
+const MAX_X: usize = LIMITS_X + 1;
+
+const MAX_Y: usize = LIMITS_Y + 1;
+
+pub const MAX_ANGULAR: usize = LIMITS_ANGULAR + 1;
+
+const MAX_FORCE_X: usize = MOTOR_X + 4;
+
+const MAX_FORCE_Y: usize = MOTOR_Y + 4;
+
+const MAX_FORCE_ANGULAR: usize = MOTOR_ANGULAR + 4;
 
 // Where the next line starts; the item that is open and its number; how many bodies and joints there are; the first fault and its place; where the calls
 // start; whether a `repeat` is open, and where the last one stands.
@@ -124,7 +147,7 @@ pub fn called(st: State, keyword: u32, at: usize) -> State
 
 // Where the numbers of the item that is open start.
 pub fn item_base(st: State) -> usize
-    ensures { λ r. ⌜ (r ≡ itemBase st) × (r ≤ 6711) ⌝ }
+    ensures { λ r. ⌜ (r ≡ itemBase st) × (r ≤ numbersSize) ⌝ }
 {
     if st.kind == BODY_ITEM {
         return body_base(st.item);
@@ -150,27 +173,27 @@ pub fn default_body(numbers: &mut [f32], i: u32)
 }
 
 fn default_limits(numbers: &mut [f32], o: usize)
-    requires { ⌜ o ≤ 6711 ⌝ }
+    requires { ⌜ o ≤ numbersSize ⌝ }
     ensures { λ _. ⌜ now (numbers .exit) ≡ puts o limitDefaults (now (numbers .entry)) ⌝ }
 {
     let most = from_bits(0x7f7f_ffff);
     let least = from_bits(0xff7f_ffff);
-    set(numbers, o + 8, least);
-    set(numbers, o + 9, most);
-    set(numbers, o + 11, least);
-    set(numbers, o + 12, most);
-    set(numbers, o + 14, least);
-    set(numbers, o + 15, most);
+    set(numbers, o + LIMITS_X, least);
+    set(numbers, o + MAX_X, most);
+    set(numbers, o + LIMITS_Y, least);
+    set(numbers, o + MAX_Y, most);
+    set(numbers, o + LIMITS_ANGULAR, least);
+    set(numbers, o + MAX_ANGULAR, most);
 }
 
 fn default_forces(numbers: &mut [f32], o: usize)
-    requires { ⌜ o ≤ 6711 ⌝ }
+    requires { ⌜ o ≤ numbersSize ⌝ }
     ensures { λ _. ⌜ now (numbers .exit) ≡ puts o forceDefaults (now (numbers .entry)) ⌝ }
 {
     let most = from_bits(0x7f7f_ffff);
-    set(numbers, o + 21, most);
-    set(numbers, o + 27, most);
-    set(numbers, o + 33, most);
+    set(numbers, o + MAX_FORCE_X, most);
+    set(numbers, o + MAX_FORCE_Y, most);
+    set(numbers, o + MAX_FORCE_ANGULAR, most);
 }
 
 pub fn default_joint(numbers: &mut [f32], j: u32)
@@ -180,8 +203,8 @@ pub fn default_joint(numbers: &mut [f32], j: u32)
     default_limits(numbers, o);
     default_forces(numbers, o);
     set(numbers, o, 1.0);
-    set(numbers, o + 4, 1.0);
-    set(numbers, o + 35, 1000000.0);
-    set(numbers, o + 36, 1.0);
-    set(numbers, o + 40, 1.0);
+    set(numbers, o + FRAME2, 1.0);
+    set(numbers, o + NATURAL_FREQUENCY, 1000000.0);
+    set(numbers, o + DAMPING_RATIO, 1.0);
+    set(numbers, o + CENTER_RE, 1.0);
 }

@@ -38,6 +38,15 @@ use crate::keywords::SETTINGS;
 use crate::keywords::axis_of;
 use crate::keywords::call_keyword;
 use crate::keywords::item_keyword;
+use crate::layout::CENTER_NUMBERS;
+use crate::layout::ENABLED_WORD;
+use crate::layout::FRAME1_NUMBERS;
+use crate::layout::FRAME2_NUMBERS;
+use crate::layout::INERTIA_NUMBER;
+use crate::layout::MASK_WORDS;
+use crate::layout::MASS_NUMBERS;
+use crate::layout::MODEL_WORDS;
+use crate::layout::POSE_NUMBERS;
 use crate::names::ABSENT;
 use crate::names::find_body;
 use crate::names::find_end;
@@ -179,24 +188,24 @@ fn given_by(keyword: u32, x: f32, at: usize) -> Numbers
     ensures { λ r. ⌜ r ≡ givenBy keyword x at ⌝ }
 {
     if keyword == MASS {
-        return given2(5, inv(x), inv(x), at, at, 2);
+        return given2(MASS_NUMBERS, inv(x), inv(x), at, at, 2);
     }
     if keyword == INVERSE_MASS {
-        return given2(5, x, x, at, at, 2);
+        return given2(MASS_NUMBERS, x, x, at, at, 2);
     }
     if keyword == INERTIA {
-        return given1(4, inv(x), at, 2);
+        return given1(INERTIA_NUMBER, inv(x), at, 2);
     }
     if keyword == ANGLE {
-        return rotated(0, x, at);
+        return rotated(POSE_NUMBERS, x, at);
     }
     if keyword == FRAME1_ANGLE {
-        return rotated(0, x, at);
+        return rotated(FRAME1_NUMBERS, x, at);
     }
     if keyword == FRAME2_ANGLE {
-        return rotated(4, x, at);
+        return rotated(FRAME2_NUMBERS, x, at);
     }
-    given1(40, x, at, 1)
+    given1(CENTER_NUMBERS, x, at, 1)
 }
 
 fn read_given(text: &[u8], at: usize, keyword: u32) -> Change
@@ -297,10 +306,18 @@ fn read_motor_model(text: &[u8], at: usize) -> Change
         return Change::Wrong(AXIS, v.start);
     }
     if is(text, w, b"acceleration") {
-        return whole(text, w.end, Change::JointWord(6 + axis, 0, w.start));
+        return whole(
+            text,
+            w.end,
+            Change::JointWord(MODEL_WORDS + axis, 0, w.start),
+        );
     }
     if is(text, w, b"force") {
-        return whole(text, w.end, Change::JointWord(6 + axis, 1, w.start));
+        return whole(
+            text,
+            w.end,
+            Change::JointWord(MODEL_WORDS + axis, 1, w.start),
+        );
     }
     Change::Wrong(MODEL, w.start)
 }
@@ -313,18 +330,18 @@ fn read_word(text: &[u8], keyword: u32, w: Word) -> Change
         return read_given(text, w.end, keyword);
     }
     if keyword < MOTOR_MODEL {
-        return read_mask(text, w.end, 2 + (keyword - LOCK));
+        return read_mask(text, w.end, MASK_WORDS + (keyword - LOCK));
     }
     if keyword == MOTOR_MODEL {
         return read_motor_model(text, w.end);
     }
     if keyword == CENTER {
-        return read_numbers(text, w.end, 40, 2, 0);
+        return read_numbers(text, w.end, CENTER_NUMBERS, 2, 0);
     }
     whole(
         text,
         w.end,
-        Change::JointWord(9, keyword - ENABLED, w.start),
+        Change::JointWord(ENABLED_WORD, keyword - ENABLED, w.start),
     )
 }
 

@@ -6,6 +6,7 @@ pub mod faults;
 pub mod fields;
 pub mod items;
 pub mod keywords;
+mod layout;
 pub mod names;
 pub mod number;
 pub mod read;

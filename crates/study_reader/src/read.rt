@@ -3,10 +3,12 @@ ghost use mathlib.Core.Path.{_≡_};
 ghost use mathlib.Core.List.{List};
 ghost use Prim.Native.Nat.{ℕ, _≤_};
 ghost use lib.ListN.{length};
+ghost use Rattle.study_reader.specs.Storage.{numbersSize};
 ghost use Rattle.study_reader.specs.Draft.{draft, start};
 ghost use Rattle.study_reader.specs.Study.{isLeftOut, middle, centerJoint, centerJoints, lineRead, linesRead, ended, readStudy};
 ghost use Rattle.study_reader.specs.declared.draft.State.{State};
 use crate::changes::apply;
+use crate::draft::MAX_ANGULAR;
 use crate::draft::State;
 use crate::draft::default_settings;
 use crate::draft::faulty;
@@ -22,21 +24,25 @@ use crate::storage::word_at;
 use crate::storage::words_base;
 use crate::words::next_line;
 use floats::bits::from_bits;
+use model::layout::CENTER_CHOICE;
+use model::layout::CENTER_RE;
+use model::layout::LIMITS_ANGULAR;
 
 // ---- a centre that is left out
 
 // No centre is given, the ends of the angular limit are, and they are less than a turn apart.
 fn is_left_out(numbers: &[f32], origins: &[u32], base: usize) -> bool
-    requires { ⌜ base ≤ 6711 ⌝ }
+    requires { ⌜ base ≤ numbersSize ⌝ }
     ensures { λ r. ⌜ r ≡ isLeftOut (now (numbers .entry)) (now (origins .entry)) base ⌝ }
 {
-    if word_at(origins, base + 40) != 0 {
+    if word_at(origins, base + CENTER_RE) != 0 {
         return false;
     }
-    if word_at(origins, base + 14) == 0 {
+    if word_at(origins, base + LIMITS_ANGULAR) == 0 {
         return false;
     }
-    (number_at(numbers, base + 15) - number_at(numbers, base + 14)) * 0.5 < from_bits(0x4049_0fdb)
+    (number_at(numbers, base + MAX_ANGULAR) - number_at(numbers, base + LIMITS_ANGULAR)) * 0.5
+        < from_bits(0x4049_0fdb)
 }
 
 // The middle of the two ends of joint j's angular limit, as the Rust takes it.
@@ -45,10 +51,10 @@ fn center_joint(numbers: &mut [f32], origins: &[u32], words: &mut [u32], j: u32)
 {
     let base = joint_base(j);
     if is_left_out(numbers, origins, base) {
-        let min = number_at(numbers, base + 14);
-        let max = number_at(numbers, base + 15);
-        set(numbers, base + 40, (min + max) * 0.5);
-        set_word(words, words_base(j) + 10, 1);
+        let min = number_at(numbers, base + LIMITS_ANGULAR);
+        let max = number_at(numbers, base + MAX_ANGULAR);
+        set(numbers, base + CENTER_RE, (min + max) * 0.5);
+        set_word(words, words_base(j) + CENTER_CHOICE, 1);
     }
 }
 

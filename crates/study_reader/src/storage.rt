@@ -11,21 +11,21 @@ use model::layout::WORDS_WIDTH;
 // One more body or joint than a model may have is kept, so that a load can refuse it.
 pub const MOST: u32 = 129;
 
-// Where bodies and joints start in the numbers, and the joints' words in the offsets.
+// Where bodies and joints start in the numbers, after the three of the settings; and how many numbers, words and offsets there are.
 pub const BODIES: usize = 3;
 
-pub const JOINTS: usize = 1293;
+pub const JOINTS: usize = BODIES + MOST as usize * BODY_WIDTH;
 
-pub const NUMBERS: usize = 6711;
+pub const NUMBERS: usize = JOINTS + MOST as usize * NUMBERS_WIDTH;
 
-pub const ORIGINS: usize = 8130;
+pub const WORDS: usize = MOST as usize * WORDS_WIDTH;
 
-pub const WORDS: usize = 1419;
+pub const ORIGINS: usize = NUMBERS + WORDS;
 
 // Names: start and end, of bodies and then of joints.
-pub const JOINT_NAMES: usize = 258;
+pub const JOINT_NAMES: usize = 2 * MOST as usize;
 
-pub const NAMES: usize = 516;
+pub const NAMES: usize = 2 * JOINT_NAMES;
 
 // Where body i's numbers start, and joint j's numbers and words.
 pub fn body_base(i: u32) -> usize

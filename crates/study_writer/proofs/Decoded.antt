@@ -1,12 +1,13 @@
 -- Words and numbers that are held decode as the model's do.
 use mathlib.Core.Path.{_≡_, refl, ap, _∙_}
 use mathlib.Core.Bool.{Bool, true, false, cond}
-use Prim.Native.Nat.{ℕ, _<_}
+use Prim.Native.Nat.{ℕ, _+_, _<_}
 use native.Mathlib.Omega.{arith}
 use lib.Dec.{eqb}
 use lib.Ieee.{Float}
 use Rattle.rows.specs.declared.motor_model.MotorModel.the-variants.{AccelerationBased, ForceBased}
 use Rattle.rows.specs.declared.generic_joint.JointEnabled.the-variants.{Enabled, DisabledByAttachedBody, Disabled}
+use Rattle.model.specs.Layout.{masksPlace, modelsPlace, enabledPlace, centerChoicePlace, centerPlace}
 use Rattle.model.specs.Store.{motorModelOf, enabledOf, dataOf, centerOf, rotationOf, jointOf}
 use Rattle.model.specs.declared.store.LimitCenter.the-variants.{CosineSine, Angle}
 use Rattle.study_writer.proofs.Kept.{binary, ternary}
@@ -27,15 +28,15 @@ enabled-same v = go (eqb v 0) (eqb v 1)
     go false true = refl
     go false false = refl
 
-module _ (f′ f : ℕ → Float) (g′ g : ℕ → ℕ) (h : (c : ℕ) → c < 41 → f′ c ≡ f c) (last : eqb (g 10) 0 ≡ true → f′ 41 ≡ f 41)
-    (w2 : g′ 2 ≡ g 2) (w3 : g′ 3 ≡ g 3) (w4 : g′ 4 ≡ g 4) (w5 : g′ 5 ≡ g 5) (w6 : g′ 6 ≡ binary (g 6)) (w7 : g′ 7 ≡ binary (g 7)) (w8 : g′ 8 ≡ binary (g 8))
-    (w9 : g′ 9 ≡ ternary (g 9)) (w10 : g′ 10 ≡ binary (g 10)) where
+module _ (f′ f : ℕ → Float) (g′ g : ℕ → ℕ) (h : (c : ℕ) → c < centerPlace + 1 → f′ c ≡ f c) (last : eqb (g centerChoicePlace) 0 ≡ true → f′ (centerPlace + 1) ≡ f (centerPlace + 1))
+    (w2 : g′ masksPlace ≡ g masksPlace) (w3 : g′ (masksPlace + 1) ≡ g (masksPlace + 1)) (w4 : g′ (masksPlace + 2) ≡ g (masksPlace + 2)) (w5 : g′ (masksPlace + 3) ≡ g (masksPlace + 3)) (w6 : g′ modelsPlace ≡ binary (g modelsPlace)) (w7 : g′ (modelsPlace + 1) ≡ binary (g (modelsPlace + 1))) (w8 : g′ (modelsPlace + 2) ≡ binary (g (modelsPlace + 2)))
+    (w9 : g′ enabledPlace ≡ ternary (g enabledPlace)) (w10 : g′ centerChoicePlace ≡ binary (g centerChoicePlace)) where
   pub center-same : centerOf f′ g′ ≡ centerOf f g
-  center-same = ap (λ (n : ℕ). cond (eqb n 0) (CosineSine (f′ 40) (f′ 41)) (Angle (f′ 40))) w10 ∙ go (eqb (g 10) 0) refl
+  center-same = ap (λ (n : ℕ). cond (eqb n 0) (CosineSine (f′ centerPlace) (f′ (centerPlace + 1))) (Angle (f′ centerPlace))) w10 ∙ go (eqb (g centerChoicePlace) 0) refl
     where
-      go : (t : Bool) → eqb (g 10) 0 ≡ t → cond (eqb (cond t 0 1) 0) (CosineSine (f′ 40) (f′ 41)) (Angle (f′ 40)) ≡ cond t (CosineSine (f 40) (f 41)) (Angle (f 40))
-      go true e = let a = h 40 (omega arith) in let b = last e in cc
-      go false e = let a = h 40 (omega arith) in cc
+      go : (t : Bool) → eqb (g centerChoicePlace) 0 ≡ t → cond (eqb (cond t 0 1) 0) (CosineSine (f′ centerPlace) (f′ (centerPlace + 1))) (Angle (f′ centerPlace)) ≡ cond t (CosineSine (f centerPlace) (f (centerPlace + 1))) (Angle (f centerPlace))
+      go true e = let a = h centerPlace (omega arith) in let b = last e in cc
+      go false e = let a = h centerPlace (omega arith) in cc
 
   data-same : dataOf f′ g′ ≡ dataOf f g
   data-same =
@@ -81,10 +82,10 @@ module _ (f′ f : ℕ → Float) (g′ g : ℕ → ℕ) (h : (c : ℕ) → c < 
         w3,
         w4,
         w5,
-        ap motorModelOf w6 ∙ model-same (g 6),
-        ap motorModelOf w7 ∙ model-same (g 7),
-        ap motorModelOf w8 ∙ model-same (g 8),
-        ap enabledOf w9 ∙ enabled-same (g 9),
+        ap motorModelOf w6 ∙ model-same (g modelsPlace),
+        ap motorModelOf w7 ∙ model-same (g (modelsPlace + 1)),
+        ap motorModelOf w8 ∙ model-same (g (modelsPlace + 2)),
+        ap enabledOf w9 ∙ enabled-same (g enabledPlace),
       )
 
   pub joint-same : jointOf f′ g′ ≡ jointOf f g

@@ -8,12 +8,13 @@ use lib.Dec.{eqb, ltb}
 use lib.Ieee.{Float}
 use lib.ListN.{length, getD}
 use Rattle.texts.specs.Digits.{decimal}
-use Rattle.model.specs.Layout.{bodyWidth, wordsWidth, numbersWidth}
+use Rattle.model.specs.Layout.{bodyWidth, wordsWidth, body1Place, body2Place, masksPlace, modelsPlace, enabledPlace, centerChoicePlace, numbersWidth, limitsPlace, limitsWidth, motorsPlace, motorWidth, softnessPlace, centerPlace}
 use Rattle.model.specs.Records.{num, word}
 use Rattle.model.specs.Store.{world}
 use Rattle.multibody.specs.Model.{Model}
 use Rattle.texts.specs.Ascii.{ascii}
 use Rattle.study_reader.specs.Keywords.{meaning, axisWords}
+use Rattle.study_reader.specs.Storage.{settingsWidth}
 use Rattle.study_reader.specs.Draft.{Draft}
 use Rattle.study_reader.specs.Study.{lineRead}
 use Rattle.study_reader.specs.declared.draft.State.{State}
@@ -55,7 +56,7 @@ model-proper v = go (eqb v 0)
 
 module _ (text : List ℕ) (m : Model) (f32 : AllF32 m) where
   settings-one : {k : ℕ} {kw : List ℕ} {ls : List Line} {d : Draft} → FieldWord kw 1 k 1 0
-      → On text m 1 0 0 0 k 0 0 0 0 ((kw ∷ numberWord (setting m k) ∷ []) ∷ ls) d → k < 3 → IsF32 (setting m k)
+      → On text m 1 0 0 0 k 0 0 0 0 ((kw ∷ numberWord (setting m k) ∷ []) ∷ ls) d → k < settingsWidth → IsF32 (setting m k)
       → On text m 1 0 0 0 (k + 1) 0 0 0 0 ls (lineRead text d)
   settings-one {k} {kw} {ls} {d} f o r x =
       let l = kw ∷ numberWord (setting m k) ∷ [] in
@@ -73,7 +74,7 @@ module _ (text : List ℕ) (m : Model) (f32 : AllF32 m) where
       record { here = e .0; kept = kept-same-as text m 0 0 0 0 0 0 0 d (lineRead text d) (o .kept) (record { numbers≡ = e .1; origins≡ = e .2; words≡ = e .3; names≡ = e .4 }) }
 
   pub settings-read : {ls : List Line} {d : Draft} → On text m 0 0 0 0 0 0 0 0 0 (settingsLines (m .params) ++ ls) d
-      → On text m 1 0 0 0 3 0 0 0 0 ls (readAll text (settingsLines (m .params)) d)
+      → On text m 1 0 0 0 settingsWidth 0 0 0 0 ls (readAll text (settingsLines (m .params)) d)
   unfolding settingsLines readAll
   settings-read {ls} {d} o =
       settings-one field-normalized-max-corrective-velocity
@@ -84,30 +85,30 @@ module _ (text : List ℕ) (m : Model) (f32 : AllF32 m) where
 
 module _ (text : List ℕ) (small : length text < 4294967295) (m : Model) (f32 : AllF32 m) (i : ℕ) (few : i < 128) where
   body-one : {kw : List ℕ} {k : ℕ} {ls : List Line} {d : Draft} → FieldWord kw 2 k 1 0
-      → On text m 2 i (i + 1) 0 3 (i * 10 + k) 0 0 0 ((kw ∷ numberWord (bodyNumber m (i * 10 + k)) ∷ []) ∷ ls) d → k < 10
-      → On text m 2 i (i + 1) 0 3 (i * 10 + (k + 1)) 0 0 0 ls (lineRead text d)
+      → On text m 2 i (i + 1) 0 settingsWidth (i * bodyWidth + k) 0 0 0 ((kw ∷ numberWord (bodyNumber m (i * bodyWidth + k)) ∷ []) ∷ ls) d → k < bodyWidth
+      → On text m 2 i (i + 1) 0 settingsWidth (i * bodyWidth + (k + 1)) 0 0 0 ls (lineRead text d)
   body-one {kw} {k} {ls} {d} f o r =
-      let x = bodyNumber m (i * 10 + k) in
+      let x = bodyNumber m (i * bodyWidth + k) in
       let l = kw ∷ numberWord x ∷ [] in
       let p = proper-one kw x (f .is-proper) in
       on-body1 text m i k l ls d o p few r
       (one-line text (d .names) (d .state) kw (linesText ls) 2 k x (here text d 2 i (i + 1) 0 l ls (o .here) p) f
-      (ap (λ (s : State). s .kind) (o .here .state)) (f32 .bodies (i * 10 + k)))
+      (ap (λ (s : State). s .kind) (o .here .state)) (f32 .bodies (i * bodyWidth + k)))
 
   body-two : {kw : List ℕ} {k : ℕ} {ls : List Line} {d : Draft} → FieldWord kw 2 k 2 0
-      → On text m 2 i (i + 1) 0 3 (i * 10 + k) 0 0 0 ((kw ∷ numberWord (bodyNumber m (i * 10 + k)) ∷ numberWord (bodyNumber m (i * 10 + (k + 1))) ∷ []) ∷ ls) d → k < 9
-      → On text m 2 i (i + 1) 0 3 (i * 10 + (k + 2)) 0 0 0 ls (lineRead text d)
+      → On text m 2 i (i + 1) 0 settingsWidth (i * bodyWidth + k) 0 0 0 ((kw ∷ numberWord (bodyNumber m (i * bodyWidth + k)) ∷ numberWord (bodyNumber m (i * bodyWidth + (k + 1))) ∷ []) ∷ ls) d → k + 1 < bodyWidth
+      → On text m 2 i (i + 1) 0 settingsWidth (i * bodyWidth + (k + 2)) 0 0 0 ls (lineRead text d)
   body-two {kw} {k} {ls} {d} f o r =
-      let x = bodyNumber m (i * 10 + k) in
-      let y = bodyNumber m (i * 10 + (k + 1)) in
+      let x = bodyNumber m (i * bodyWidth + k) in
+      let y = bodyNumber m (i * bodyWidth + (k + 1)) in
       let l = kw ∷ numberWord x ∷ numberWord y ∷ [] in
       let p = proper-two kw x y (f .is-proper) in
       on-body2 text m i k l ls d o p few r
       (two-line text (d .names) (d .state) kw (linesText ls) 2 k x y (here text d 2 i (i + 1) 0 l ls (o .here) p) f
-      (ap (λ (s : State). s .kind) (o .here .state)) (f32 .bodies (i * 10 + k)) (f32 .bodies (i * 10 + (k + 1))))
+      (ap (λ (s : State). s .kind) (o .here .state)) (f32 .bodies (i * bodyWidth + k)) (f32 .bodies (i * bodyWidth + (k + 1))))
 
   body-open : {kind item : ℕ} {ls : List Line} {d : Draft} → eqb kind 4 ≡ false
-      → On text m kind item i 0 3 (i * 10) 0 0 0 ((ascii "body" ∷ bodyWord i ∷ []) ∷ ls) d → On text m 2 i (i + 1) 0 3 (i * 10 + 0) 0 0 0 ls (lineRead text d)
+      → On text m kind item i 0 settingsWidth (i * bodyWidth) 0 0 0 ((ascii "body" ∷ bodyWord i ∷ []) ∷ ls) d → On text m 2 i (i + 1) 0 settingsWidth (i * bodyWidth + 0) 0 0 0 ls (lineRead text d)
   body-open {kind} {item} {ls} {d} c o =
       let l = ascii "body" ∷ bodyWord i ∷ [] in
       let p : properLine l ≡ true = simp (body-proper i) in
@@ -117,8 +118,8 @@ module _ (text : List ℕ) (small : length text < 4294967295) (m : Model) (f32 :
       (ap (λ (s : State). s .joints) (o .here .state)) few (o .kept .bodyNames))
 
   pub body-read : {kind item : ℕ} {ls : List Line} {d : Draft} → eqb kind 4 ≡ false
-      → On text m kind item i 0 3 (i * 10) 0 0 0 (bodyLines i (num bodyWidth (m .bodies) i) ++ ls) d
-      → On text m 2 i (i + 1) 0 3 (i * 10 + 10) 0 0 0 ls (readAll text (bodyLines i (num bodyWidth (m .bodies) i)) d)
+      → On text m kind item i 0 settingsWidth (i * bodyWidth) 0 0 0 (bodyLines i (num bodyWidth (m .bodies) i) ++ ls) d
+      → On text m 2 i (i + 1) 0 settingsWidth (i * bodyWidth + bodyWidth) 0 0 0 ls (readAll text (bodyLines i (num bodyWidth (m .bodies) i)) d)
   unfolding bodyLines readAll
   body-read {kind} {item} {ls} {d} c o =
       let o0 = body-open c o in
@@ -134,136 +135,136 @@ module _ (text : List ℕ) (small : length text < 4294967295) (m : Model) (f32 :
 module _ (text : List ℕ) (small : length text < 4294967295) (m : Model) (f32 : AllF32 m) (nb : ℕ) (fb : nb ≤ 128) (j : ℕ) (few : j < 128) where
   -- joint j is open, with so many of its numbers and words
   abbrev Joint : ℕ → ℕ → List Line → Draft → Type 0
-  Joint k w ls d = On text m 3 j nb (j + 1) 3 (nb * 10) (j * 42 + k) (j * 11 + w) j ls d
+  Joint k w ls d = On text m 3 j nb (j + 1) settingsWidth (nb * bodyWidth) (j * numbersWidth + k) (j * wordsWidth + w) j ls d
 
   abbrev x : ℕ → Float
-  x k = jointNumber m (j * 42 + k)
+  x k = jointNumber m (j * numbersWidth + k)
 
   abbrev g : ℕ → ℕ
-  g k = getD (m .words) (j * 11 + k) 0
+  g k = getD (m .words) (j * wordsWidth + k) 0
 
-  joint-one : {kw : List ℕ} {k : ℕ} {ls : List Line} {d : Draft} → FieldWord kw 3 k 1 0 → Joint k 10 ((kw ∷ numberWord (x k) ∷ []) ∷ ls) d → k < 42
-      → Joint (k + 1) 10 ls (lineRead text d)
+  joint-one : {kw : List ℕ} {k : ℕ} {ls : List Line} {d : Draft} → FieldWord kw 3 k 1 0 → Joint k centerChoicePlace ((kw ∷ numberWord (x k) ∷ []) ∷ ls) d → k < numbersWidth
+      → Joint (k + 1) centerChoicePlace ls (lineRead text d)
   joint-one {kw} {k} {ls} {d} f o r =
       let l = kw ∷ numberWord (x k) ∷ [] in
       let p = proper-one kw (x k) (f .is-proper) in
-      on-joint1 text m j nb k (j * 11 + 10) j l ls d o p few fb r
+      on-joint1 text m j nb k (j * wordsWidth + centerChoicePlace) j l ls d o p few fb r
       (one-line text (d .names) (d .state) kw (linesText ls) 3 k (x k) (here text d 3 j nb (j + 1) l ls (o .here) p) f
-      (ap (λ (s : State). s .kind) (o .here .state)) (f32 .numbers (j * 42 + k)))
+      (ap (λ (s : State). s .kind) (o .here .state)) (f32 .numbers (j * numbersWidth + k)))
 
   joint-two : {kw : List ℕ} {k : ℕ} {ls : List Line} {d : Draft} → FieldWord kw 3 k 2 0
-      → Joint k 10 ((kw ∷ numberWord (x k) ∷ numberWord (x (k + 1)) ∷ []) ∷ ls) d → k < 41 → Joint (k + 2) 10 ls (lineRead text d)
+      → Joint k centerChoicePlace ((kw ∷ numberWord (x k) ∷ numberWord (x (k + 1)) ∷ []) ∷ ls) d → k + 1 < numbersWidth → Joint (k + 2) centerChoicePlace ls (lineRead text d)
   joint-two {kw} {k} {ls} {d} f o r =
       let l = kw ∷ numberWord (x k) ∷ numberWord (x (k + 1)) ∷ [] in
       let p = proper-two kw (x k) (x (k + 1)) (f .is-proper) in
-      on-joint2 text m j nb k (j * 11 + 10) j l ls d o p few fb r
+      on-joint2 text m j nb k (j * wordsWidth + centerChoicePlace) j l ls d o p few fb r
       (two-line text (d .names) (d .state) kw (linesText ls) 3 k (x k) (x (k + 1)) (here text d 3 j nb (j + 1) l ls (o .here) p) f
-      (ap (λ (s : State). s .kind) (o .here .state)) (f32 .numbers (j * 42 + k)) (f32 .numbers (j * 42 + (k + 1))))
+      (ap (λ (s : State). s .kind) (o .here .state)) (f32 .numbers (j * numbersWidth + k)) (f32 .numbers (j * numbersWidth + (k + 1))))
 
   -- the same of an axis
   module _ (a : ℕ) (aw : List ℕ) (pa : proper aw ≡ true) (am : meaning axisWords 3 aw ≡ a) (r : a < 3) where
     axis-one : {kw : List ℕ} {k t : ℕ} {ls : List Line} {d : Draft} → FieldWord kw 3 k 1 t → eqb t 0 ≡ false
-        → Joint (k + a * t) 10 ((kw ∷ aw ∷ numberWord (x (k + a * t)) ∷ []) ∷ ls) d → k + a * t < 42 → Joint (k + a * t + 1) 10 ls (lineRead text d)
+        → Joint (k + a * t) centerChoicePlace ((kw ∷ aw ∷ numberWord (x (k + a * t)) ∷ []) ∷ ls) d → k + a * t < numbersWidth → Joint (k + a * t + 1) centerChoicePlace ls (lineRead text d)
     axis-one {kw} {k} {t} {ls} {d} f z o u =
         let n = k + a * t in
         let l = kw ∷ aw ∷ numberWord (x n) ∷ [] in
         let p : properLine l ≡ true = simp (f .is-proper, pa, number-proper (x n)) in
-        on-joint1 text m j nb n (j * 11 + 10) j l ls d o p few fb u
+        on-joint1 text m j nb n (j * wordsWidth + centerChoicePlace) j l ls d o p few fb u
         (one-axis-line text (d .names) (d .state) kw (linesText ls) a aw pa am r 3 k t (x n) (here text d 3 j nb (j + 1) l ls (o .here) p) f z
-        (ap (λ (s : State). s .kind) (o .here .state)) (f32 .numbers (j * 42 + n)))
+        (ap (λ (s : State). s .kind) (o .here .state)) (f32 .numbers (j * numbersWidth + n)))
 
     axis-two : {kw : List ℕ} {k t : ℕ} {ls : List Line} {d : Draft} → FieldWord kw 3 k 2 t → eqb t 0 ≡ false
-        → Joint (k + a * t) 10 ((kw ∷ aw ∷ numberWord (x (k + a * t)) ∷ numberWord (x (k + a * t + 1)) ∷ []) ∷ ls) d → k + a * t < 41
-        → Joint (k + a * t + 2) 10 ls (lineRead text d)
+        → Joint (k + a * t) centerChoicePlace ((kw ∷ aw ∷ numberWord (x (k + a * t)) ∷ numberWord (x (k + a * t + 1)) ∷ []) ∷ ls) d → k + a * t + 1 < numbersWidth
+        → Joint (k + a * t + 2) centerChoicePlace ls (lineRead text d)
     axis-two {kw} {k} {t} {ls} {d} f z o u =
         let n = k + a * t in
         let l = kw ∷ aw ∷ numberWord (x n) ∷ numberWord (x (n + 1)) ∷ [] in
         let p : properLine l ≡ true = simp (f .is-proper, pa, number-proper (x n), number-proper (x (n + 1))) in
-        on-joint2 text m j nb n (j * 11 + 10) j l ls d o p few fb u
+        on-joint2 text m j nb n (j * wordsWidth + centerChoicePlace) j l ls d o p few fb u
         (two-axis-line text (d .names) (d .state) kw (linesText ls) a aw pa am r 3 k t (x n) (x (n + 1)) (here text d 3 j nb (j + 1) l ls (o .here) p) f z
-        (ap (λ (s : State). s .kind) (o .here .state)) (f32 .numbers (j * 42 + n)) (f32 .numbers (j * 42 + (n + 1))))
+        (ap (λ (s : State). s .kind) (o .here .state)) (f32 .numbers (j * numbersWidth + n)) (f32 .numbers (j * numbersWidth + (n + 1))))
 
     -- a motor's model
-    axis-model : {ls : List Line} {d : Draft} → Joint 0 (6 + a) ((ascii "motor_model" ∷ aw ∷ modelWord (g (6 + a)) ∷ []) ∷ ls) d
-        → canonical (6 + a) (g (6 + a)) ≡ cond (eqb (g (6 + a)) 0) 0 1 → Joint 0 (6 + a + 1) ls (lineRead text d)
+    axis-model : {ls : List Line} {d : Draft} → Joint 0 (modelsPlace + a) ((ascii "motor_model" ∷ aw ∷ modelWord (g (modelsPlace + a)) ∷ []) ∷ ls) d
+        → canonical (modelsPlace + a) (g (modelsPlace + a)) ≡ cond (eqb (g (modelsPlace + a)) 0) 0 1 → Joint 0 (modelsPlace + a + 1) ls (lineRead text d)
     axis-model {ls} {d} o e =
-        let l = ascii "motor_model" ∷ aw ∷ modelWord (g (6 + a)) ∷ [] in
-        let p : properLine l ≡ true = simp (pa, model-proper (g (6 + a))) in
-        let h = model-line text (d .names) (d .state) (ascii "motor_model") (linesText ls) a aw pa am r (g (6 + a)) (here text d 3 j nb (j + 1) l ls (o .here) p)
+        let l = ascii "motor_model" ∷ aw ∷ modelWord (g (modelsPlace + a)) ∷ [] in
+        let p : properLine l ≡ true = simp (pa, model-proper (g (modelsPlace + a))) in
+        let h = model-line text (d .names) (d .state) (ascii "motor_model") (linesText ls) a aw pa am r (g (modelsPlace + a)) (here text d 3 j nb (j + 1) l ls (o .here) p)
         word-motor-model (ap (λ (s : State). s .kind) (o .here .state)) in
-        on-word text m j nb (6 + a) (j * 42 + 0) j l ls d o p few (omega arith) (omega arith) (rw e h)
+        on-word text m j nb (modelsPlace + a) (j * numbersWidth + 0) j l ls d o p few (omega arith) (omega arith) (rw e h)
 
-  joint-mask : (c : ℕ) {kw : List ℕ} {ls : List Line} {d : Draft} → JointKeyword kw (8 + c) → Joint 0 (2 + c) ((kw ∷ decimal (g (2 + c)) ∷ []) ∷ ls) d → c < 4
-      → g (2 + c) ≤ 7 → canonical (2 + c) (g (2 + c)) ≡ g (2 + c) → Joint 0 (2 + c + 1) ls (lineRead text d)
+  joint-mask : (c : ℕ) {kw : List ℕ} {ls : List Line} {d : Draft} → JointKeyword kw (8 + c) → Joint 0 (masksPlace + c) ((kw ∷ decimal (g (masksPlace + c)) ∷ []) ∷ ls) d → c < 4
+      → g (masksPlace + c) ≤ 7 → canonical (masksPlace + c) (g (masksPlace + c)) ≡ g (masksPlace + c) → Joint 0 (masksPlace + c + 1) ls (lineRead text d)
   joint-mask c {kw} {ls} {d} f o r u e =
-      let l = kw ∷ decimal (g (2 + c)) ∷ [] in
-      let p : properLine l ≡ true = simp (f .is-proper, decimal-proper (g (2 + c))) in
-      let h = mask-line text (d .names) (d .state) kw (linesText ls) (8 + c) (g (2 + c)) (here text d 3 j nb (j + 1) l ls (o .here) p) f (omega arith) (omega arith)
+      let l = kw ∷ decimal (g (masksPlace + c)) ∷ [] in
+      let p : properLine l ≡ true = simp (f .is-proper, decimal-proper (g (masksPlace + c))) in
+      let h = mask-line text (d .names) (d .state) kw (linesText ls) (8 + c) (g (masksPlace + c)) (here text d 3 j nb (j + 1) l ls (o .here) p) f (omega arith) (omega arith)
       (ap (λ (s : State). s .kind) (o .here .state)) (omega arith) in
-      let q : 2 + (8 + c - 8) ≡ 2 + c = omega arith in
-      let h′ : Worded text (d .names) (d .state) (2 + c) (g (2 + c)) = rw q at h in
-      on-word text m j nb (2 + c) (j * 42 + 0) j l ls d o p few (omega arith) (omega arith) (rw e h′)
+      let q : masksPlace + (8 + c - 8) ≡ masksPlace + c = omega arith in
+      let h′ : Worded text (d .names) (d .state) (masksPlace + c) (g (masksPlace + c)) = rw q at h in
+      on-word text m j nb (masksPlace + c) (j * numbersWidth + 0) j l ls d o p few (omega arith) (omega arith) (rw e h′)
 
-  joint-kind : (c : ℕ) {kw : List ℕ} {ls : List Line} {d : Draft} → JointKeyword kw (13 + c) → Joint 0 9 ((kw ∷ []) ∷ ls) d → c < 3
-      → canonical 9 (g 9) ≡ c → Joint 0 10 ls (lineRead text d)
+  joint-kind : (c : ℕ) {kw : List ℕ} {ls : List Line} {d : Draft} → JointKeyword kw (13 + c) → Joint 0 enabledPlace ((kw ∷ []) ∷ ls) d → c < 3
+      → canonical enabledPlace (g enabledPlace) ≡ c → Joint 0 centerChoicePlace ls (lineRead text d)
   joint-kind c {kw} {ls} {d} f o r e =
       let l = kw ∷ [] in
       let p : properLine l ≡ true = simp (f .is-proper) in
       let h = enabled-line text (d .names) (d .state) kw (linesText ls) (13 + c) (here text d 3 j nb (j + 1) l ls (o .here) p) f (omega arith) (omega arith)
       (ap (λ (s : State). s .kind) (o .here .state)) in
       let q : 13 + c - 13 ≡ c = omega arith in
-      let h′ : Worded text (d .names) (d .state) 9 c = rw q at h in
-      on-word text m j nb 9 (j * 42 + 0) j l ls d o p few (omega arith) (omega arith) (rw e h′)
+      let h′ : Worded text (d .names) (d .state) enabledPlace c = rw q at h in
+      on-word text m j nb enabledPlace (j * numbersWidth + 0) j l ls d o p few (omega arith) (omega arith) (rw e h′)
 
-  enabled-cases : {ls : List Line} {d : Draft} (s t : Bool) → eqb (g 9) 0 ≡ s → eqb (g 9) 1 ≡ t
-      → Joint 0 9 ((cond s (ascii "enabled") (cond t (ascii "disabled_by_attached_body") (ascii "disabled")) ∷ []) ∷ ls) d → Joint 0 10 ls (lineRead text d)
+  enabled-cases : {ls : List Line} {d : Draft} (s t : Bool) → eqb (g enabledPlace) 0 ≡ s → eqb (g enabledPlace) 1 ≡ t
+      → Joint 0 enabledPlace ((cond s (ascii "enabled") (cond t (ascii "disabled_by_attached_body") (ascii "disabled")) ∷ []) ∷ ls) d → Joint 0 centerChoicePlace ls (lineRead text d)
   unfolding canonical
   enabled-cases true t e f o = joint-kind 0 word-enabled o (omega arith) (simp e)
   enabled-cases false true e f o = joint-kind 1 word-disabled-by-attached-body o (omega arith) (simp (e, f))
   enabled-cases false false e f o = joint-kind 2 word-disabled o (omega arith) (simp (e, f))
 
-  joint-enabled : {ls : List Line} {d : Draft} → Joint 0 9 ((enabledWord (g 9) ∷ []) ∷ ls) d → Joint 0 10 ls (lineRead text d)
+  joint-enabled : {ls : List Line} {d : Draft} → Joint 0 enabledPlace ((enabledWord (g enabledPlace) ∷ []) ∷ ls) d → Joint 0 centerChoicePlace ls (lineRead text d)
   unfolding enabledWord
-  joint-enabled o = enabled-cases (eqb (g 9) 0) (eqb (g 9) 1) refl refl o
+  joint-enabled o = enabled-cases (eqb (g enabledPlace) 0) (eqb (g enabledPlace) 1) refl refl o
 
   -- the joint with its centre, so with all
-  center-cases : {ls : List Line} {d : Draft} (t : Bool) → eqb (g 10) 0 ≡ t → Joint 40 10 (cond t (two "center" (x 40) (x 41)) (one "center_angle" (x 40)) ∷ ls) d
-      → On text m 3 j nb (j + 1) 3 (nb * 10) (j * 42 + 42) (j * 11 + 11) (j + 1) ls (lineRead text d)
+  center-cases : {ls : List Line} {d : Draft} (t : Bool) → eqb (g centerChoicePlace) 0 ≡ t → Joint centerPlace centerChoicePlace (cond t (two "center" (x centerPlace) (x (centerPlace + 1))) (one "center_angle" (x centerPlace)) ∷ ls) d
+      → On text m 3 j nb (j + 1) settingsWidth (nb * bodyWidth) (j * numbersWidth + numbersWidth) (j * wordsWidth + wordsWidth) (j + 1) ls (lineRead text d)
   center-cases {ls} {d} true e o =
-      let l = two "center" (x 40) (x 41) in
-      let p = proper-two (ascii "center") (x 40) (x 41) refl in
+      let l = two "center" (x centerPlace) (x (centerPlace + 1)) in
+      let p = proper-two (ascii "center") (x centerPlace) (x (centerPlace + 1)) refl in
       on-center text m j nb l ls d o p few fb e
-      (center-line text (d .names) (d .state) (ascii "center") (linesText ls) (x 40) (x 41) (here text d 3 j nb (j + 1) l ls (o .here) p) word-center
-      (ap (λ (s : State). s .kind) (o .here .state)) (f32 .numbers (j * 42 + 40)) (f32 .numbers (j * 42 + 41)))
+      (center-line text (d .names) (d .state) (ascii "center") (linesText ls) (x centerPlace) (x (centerPlace + 1)) (here text d 3 j nb (j + 1) l ls (o .here) p) word-center
+      (ap (λ (s : State). s .kind) (o .here .state)) (f32 .numbers (j * numbersWidth + centerPlace)) (f32 .numbers (j * numbersWidth + (centerPlace + 1))))
   center-cases {ls} {d} false e o =
-      let l = one "center_angle" (x 40) in
-      let p = proper-one (ascii "center_angle") (x 40) refl in
+      let l = one "center_angle" (x centerPlace) in
+      let p = proper-one (ascii "center_angle") (x centerPlace) refl in
       on-angle text m j nb l ls d o p few fb e
-      (angle-line text (d .names) (d .state) (ascii "center_angle") (linesText ls) (x 40) (here text d 3 j nb (j + 1) l ls (o .here) p) word-center-angle
-      (ap (λ (s : State). s .kind) (o .here .state)) (f32 .numbers (j * 42 + 40)))
+      (angle-line text (d .names) (d .state) (ascii "center_angle") (linesText ls) (x centerPlace) (here text d 3 j nb (j + 1) l ls (o .here) p) word-center-angle
+      (ap (λ (s : State). s .kind) (o .here .state)) (f32 .numbers (j * numbersWidth + centerPlace)))
 
-  joint-center : {ls : List Line} {d : Draft} → Joint 40 10 (centerLine (g 10) (x 40) (x 41) ∷ ls) d
-      → On text m 3 j nb (j + 1) 3 (nb * 10) (j * 42 + 42) (j * 11 + 11) (j + 1) ls (lineRead text d)
+  joint-center : {ls : List Line} {d : Draft} → Joint centerPlace centerChoicePlace (centerLine (g centerChoicePlace) (x centerPlace) (x (centerPlace + 1)) ∷ ls) d
+      → On text m 3 j nb (j + 1) settingsWidth (nb * bodyWidth) (j * numbersWidth + numbersWidth) (j * wordsWidth + wordsWidth) (j + 1) ls (lineRead text d)
   unfolding centerLine
-  joint-center o = center-cases (eqb (g 10) 0) refl o
+  joint-center o = center-cases (eqb (g centerChoicePlace) 0) refl o
 
-  joint-open : {kind item : ℕ} {ls : List Line} {d : Draft} → eqb kind 4 ≡ false → (eqb (g 0) world || ltb (g 0) nb) ≡ true → (eqb (g 1) world || ltb (g 1) nb) ≡ true
-      → On text m kind item nb j 3 (nb * 10) (j * 42) (j * 11) j ((ascii "joint" ∷ jointWord j ∷ endWord (g 0) ∷ endWord (g 1) ∷ []) ∷ ls) d
-      → Joint 0 2 ls (lineRead text d)
+  joint-open : {kind item : ℕ} {ls : List Line} {d : Draft} → eqb kind 4 ≡ false → (eqb (g body1Place) world || ltb (g body1Place) nb) ≡ true → (eqb (g body2Place) world || ltb (g body2Place) nb) ≡ true
+      → On text m kind item nb j settingsWidth (nb * bodyWidth) (j * numbersWidth) (j * wordsWidth) j ((ascii "joint" ∷ jointWord j ∷ endWord (g body1Place) ∷ endWord (g body2Place) ∷ []) ∷ ls) d
+      → Joint 0 masksPlace ls (lineRead text d)
   joint-open {kind} {item} {ls} {d} c p1 p2 o =
-      let l = ascii "joint" ∷ jointWord j ∷ endWord (g 0) ∷ endWord (g 1) ∷ [] in
-      let p : properLine l ≡ true = simp (joint-proper j, end-proper (g 0), end-proper (g 1)) in
+      let l = ascii "joint" ∷ jointWord j ∷ endWord (g body1Place) ∷ endWord (g body2Place) ∷ [] in
+      let p : properLine l ≡ true = simp (joint-proper j, end-proper (g body1Place), end-proper (g body2Place)) in
       on-open-joint text small m kind item nb j l ls d p o fb few
-      (joint-line text (d .names) (d .state) (ascii "joint") (linesText ls) j nb (g 0) (g 1) (here text d kind item nb j l ls (o .here) p) (item-joint .is-proper)
+      (joint-line text (d .names) (d .state) (ascii "joint") (linesText ls) j nb (g body1Place) (g body2Place) (here text d kind item nb j l ls (o .here) p) (item-joint .is-proper)
       (item-joint .no-call) (item-joint .means) (ap (λ (s : State). eqb (s .kind) 4) (o .here .state) ∙ c) (ap (λ (s : State). s .bodies) (o .here .state))
       (ap (λ (s : State). s .joints) (o .here .state)) few fb (o .kept .bodyNames) (o .kept .jointNames) p1 p2)
 
   -- ---- the parts of a joint's lines
 
-  pub head-read : {kind item : ℕ} {ls : List Line} {d : Draft} → eqb kind 4 ≡ false → (eqb (g 0) world || ltb (g 0) nb) ≡ true → (eqb (g 1) world || ltb (g 1) nb) ≡ true
-      → g 2 ≤ 7 → g 3 ≤ 7 → g 4 ≤ 7 → g 5 ≤ 7
-      → On text m kind item nb j 3 (nb * 10) (j * 42) (j * 11) j (jointHead j (word wordsWidth (m .words) j) ++ ls) d
-      → Joint 0 10 ls (readAll text (jointHead j (word wordsWidth (m .words) j)) d)
+  pub head-read : {kind item : ℕ} {ls : List Line} {d : Draft} → eqb kind 4 ≡ false → (eqb (g body1Place) world || ltb (g body1Place) nb) ≡ true → (eqb (g body2Place) world || ltb (g body2Place) nb) ≡ true
+      → g masksPlace ≤ 7 → g (masksPlace + 1) ≤ 7 → g (masksPlace + 2) ≤ 7 → g (masksPlace + 3) ≤ 7
+      → On text m kind item nb j settingsWidth (nb * bodyWidth) (j * numbersWidth) (j * wordsWidth) j (jointHead j (word wordsWidth (m .words) j) ++ ls) d
+      → Joint 0 centerChoicePlace ls (readAll text (jointHead j (word wordsWidth (m .words) j)) d)
   unfolding readAll canonical
   head-read {kind} {item} {ls} {d} c p1 p2 u2 u3 u4 u5 o =
       let o0 = joint-open c p1 p2 o in
@@ -276,8 +277,8 @@ module _ (text : List ℕ) (small : length text < 4294967295) (m : Model) (f32 :
       let o7 = axis-model 2 (ascii "angle") refl axis-angle (omega arith) o6 refl in
       joint-enabled o7
 
-  pub frames-read : {ls : List Line} {d : Draft} → Joint 0 10 (frameLines (num numbersWidth (m .numbers) j) ++ ls) d
-      → Joint 8 10 ls (readAll text (frameLines (num numbersWidth (m .numbers) j)) d)
+  pub frames-read : {ls : List Line} {d : Draft} → Joint 0 centerChoicePlace (frameLines (num numbersWidth (m .numbers) j) ++ ls) d
+      → Joint limitsPlace centerChoicePlace ls (readAll text (frameLines (num numbersWidth (m .numbers) j)) d)
   unfolding readAll
   frames-read {ls} {d} o =
       let o1 = joint-two field-frame1-rotation o (omega arith) in
@@ -288,13 +289,13 @@ module _ (text : List ℕ) (small : length text < 4294967295) (m : Model) (f32 :
   abbrev f : ℕ → Float
   f = num numbersWidth (m .numbers) j
 
-  limits-x : {ls : List Line} {d : Draft} → Joint 8 10 (limitsLines "x" f 8 ++ ls) d → Joint 11 10 ls (readAll text (limitsLines "x" f 8) d)
+  limits-x : {ls : List Line} {d : Draft} → Joint limitsPlace centerChoicePlace (limitsLines "x" f limitsPlace ++ ls) d → Joint (limitsPlace + limitsWidth) centerChoicePlace ls (readAll text (limitsLines "x" f limitsPlace) d)
   unfolding readAll
   limits-x {ls} {d} o =
       let o1 = axis-two 0 (ascii "x") refl axis-x (omega arith) field-limits refl o (omega arith) in
       axis-one 0 (ascii "x") refl axis-x (omega arith) field-limit-impulse refl o1 (omega arith)
 
-  motor-x : {ls : List Line} {d : Draft} → Joint 17 10 (motorLines "x" f 17 ++ ls) d → Joint 23 10 ls (readAll text (motorLines "x" f 17) d)
+  motor-x : {ls : List Line} {d : Draft} → Joint motorsPlace centerChoicePlace (motorLines "x" f motorsPlace ++ ls) d → Joint (motorsPlace + motorWidth) centerChoicePlace ls (readAll text (motorLines "x" f motorsPlace) d)
   unfolding readAll
   motor-x {ls} {d} o =
       let o1 = axis-one 0 (ascii "x") refl axis-x (omega arith) field-target-velocity refl o (omega arith) in
@@ -304,13 +305,13 @@ module _ (text : List ℕ) (small : length text < 4294967295) (m : Model) (f32 :
       let o5 = axis-one 0 (ascii "x") refl axis-x (omega arith) field-max-force refl o4 (omega arith) in
       axis-one 0 (ascii "x") refl axis-x (omega arith) field-motor-impulse refl o5 (omega arith)
 
-  limits-y : {ls : List Line} {d : Draft} → Joint 11 10 (limitsLines "y" f 11 ++ ls) d → Joint 14 10 ls (readAll text (limitsLines "y" f 11) d)
+  limits-y : {ls : List Line} {d : Draft} → Joint (limitsPlace + limitsWidth) centerChoicePlace (limitsLines "y" f (limitsPlace + limitsWidth) ++ ls) d → Joint (limitsPlace + 2 * limitsWidth) centerChoicePlace ls (readAll text (limitsLines "y" f (limitsPlace + limitsWidth)) d)
   unfolding readAll
   limits-y {ls} {d} o =
       let o1 = axis-two 1 (ascii "y") refl axis-y (omega arith) field-limits refl o (omega arith) in
       axis-one 1 (ascii "y") refl axis-y (omega arith) field-limit-impulse refl o1 (omega arith)
 
-  motor-y : {ls : List Line} {d : Draft} → Joint 23 10 (motorLines "y" f 23 ++ ls) d → Joint 29 10 ls (readAll text (motorLines "y" f 23) d)
+  motor-y : {ls : List Line} {d : Draft} → Joint (motorsPlace + motorWidth) centerChoicePlace (motorLines "y" f (motorsPlace + motorWidth) ++ ls) d → Joint (motorsPlace + 2 * motorWidth) centerChoicePlace ls (readAll text (motorLines "y" f (motorsPlace + motorWidth)) d)
   unfolding readAll
   motor-y {ls} {d} o =
       let o1 = axis-one 1 (ascii "y") refl axis-y (omega arith) field-target-velocity refl o (omega arith) in
@@ -320,13 +321,13 @@ module _ (text : List ℕ) (small : length text < 4294967295) (m : Model) (f32 :
       let o5 = axis-one 1 (ascii "y") refl axis-y (omega arith) field-max-force refl o4 (omega arith) in
       axis-one 1 (ascii "y") refl axis-y (omega arith) field-motor-impulse refl o5 (omega arith)
 
-  limits-angle : {ls : List Line} {d : Draft} → Joint 14 10 (limitsLines "angle" f 14 ++ ls) d → Joint 17 10 ls (readAll text (limitsLines "angle" f 14) d)
+  limits-angle : {ls : List Line} {d : Draft} → Joint (limitsPlace + 2 * limitsWidth) centerChoicePlace (limitsLines "angle" f (limitsPlace + 2 * limitsWidth) ++ ls) d → Joint motorsPlace centerChoicePlace ls (readAll text (limitsLines "angle" f (limitsPlace + 2 * limitsWidth)) d)
   unfolding readAll
   limits-angle {ls} {d} o =
       let o1 = axis-two 2 (ascii "angle") refl axis-angle (omega arith) field-limits refl o (omega arith) in
       axis-one 2 (ascii "angle") refl axis-angle (omega arith) field-limit-impulse refl o1 (omega arith)
 
-  motor-angle : {ls : List Line} {d : Draft} → Joint 29 10 (motorLines "angle" f 29 ++ ls) d → Joint 35 10 ls (readAll text (motorLines "angle" f 29) d)
+  motor-angle : {ls : List Line} {d : Draft} → Joint (motorsPlace + 2 * motorWidth) centerChoicePlace (motorLines "angle" f (motorsPlace + 2 * motorWidth) ++ ls) d → Joint softnessPlace centerChoicePlace ls (readAll text (motorLines "angle" f (motorsPlace + 2 * motorWidth)) d)
   unfolding readAll
   motor-angle {ls} {d} o =
       let o1 = axis-one 2 (ascii "angle") refl axis-angle (omega arith) field-target-velocity refl o (omega arith) in
@@ -336,8 +337,8 @@ module _ (text : List ℕ) (small : length text < 4294967295) (m : Model) (f32 :
       let o5 = axis-one 2 (ascii "angle") refl axis-angle (omega arith) field-max-force refl o4 (omega arith) in
       axis-one 2 (ascii "angle") refl axis-angle (omega arith) field-motor-impulse refl o5 (omega arith)
 
-  softness-read : {ls : List Line} {d : Draft} → Joint 35 10 (softnessLines f (g 10) ++ ls) d
-      → On text m 3 j nb (j + 1) 3 (nb * 10) (j * 42 + 42) (j * 11 + 11) (j + 1) ls (readAll text (softnessLines f (g 10)) d)
+  softness-read : {ls : List Line} {d : Draft} → Joint softnessPlace centerChoicePlace (softnessLines f (g centerChoicePlace) ++ ls) d
+      → On text m 3 j nb (j + 1) settingsWidth (nb * bodyWidth) (j * numbersWidth + numbersWidth) (j * wordsWidth + wordsWidth) (j + 1) ls (readAll text (softnessLines f (g centerChoicePlace)) d)
   unfolding readAll
   softness-read {ls} {d} o =
       let o1 = joint-one field-natural-frequency o (omega arith) in
@@ -348,19 +349,19 @@ module _ (text : List ℕ) (small : length text < 4294967295) (m : Model) (f32 :
       joint-center o5
 
   -- all lines of a joint
-  pub joint-read : {kind item : ℕ} {ls : List Line} {d : Draft} → eqb kind 4 ≡ false → (eqb (g 0) world || ltb (g 0) nb) ≡ true → (eqb (g 1) world || ltb (g 1) nb) ≡ true
-      → g 2 ≤ 7 → g 3 ≤ 7 → g 4 ≤ 7 → g 5 ≤ 7
-      → On text m kind item nb j 3 (nb * 10) (j * 42) (j * 11) j (jointLines j (word wordsWidth (m .words) j) f ++ ls) d
-      → On text m 3 j nb (j + 1) 3 (nb * 10) (j * 42 + 42) (j * 11 + 11) (j + 1) ls (readAll text (jointLines j (word wordsWidth (m .words) j) f) d)
+  pub joint-read : {kind item : ℕ} {ls : List Line} {d : Draft} → eqb kind 4 ≡ false → (eqb (g body1Place) world || ltb (g body1Place) nb) ≡ true → (eqb (g body2Place) world || ltb (g body2Place) nb) ≡ true
+      → g masksPlace ≤ 7 → g (masksPlace + 1) ≤ 7 → g (masksPlace + 2) ≤ 7 → g (masksPlace + 3) ≤ 7
+      → On text m kind item nb j settingsWidth (nb * bodyWidth) (j * numbersWidth) (j * wordsWidth) j (jointLines j (word wordsWidth (m .words) j) f ++ ls) d
+      → On text m 3 j nb (j + 1) settingsWidth (nb * bodyWidth) (j * numbersWidth + numbersWidth) (j * wordsWidth + wordsWidth) (j + 1) ls (readAll text (jointLines j (word wordsWidth (m .words) j) f) d)
   unfolding jointLines readAll
   joint-read {kind} {item} {ls} {d} c p1 p2 u2 u3 u4 u5 o =
-      let s8 = softnessLines f (g 10) in
-      let s7 = motorLines "angle" f 29 ++ s8 in
-      let s6 = motorLines "y" f 23 ++ s7 in
-      let s5 = motorLines "x" f 17 ++ s6 in
-      let s4 = limitsLines "angle" f 14 ++ s5 in
-      let s3 = limitsLines "y" f 11 ++ s4 in
-      let s2 = limitsLines "x" f 8 ++ s3 in
+      let s8 = softnessLines f (g centerChoicePlace) in
+      let s7 = motorLines "angle" f (motorsPlace + 2 * motorWidth) ++ s8 in
+      let s6 = motorLines "y" f (motorsPlace + motorWidth) ++ s7 in
+      let s5 = motorLines "x" f motorsPlace ++ s6 in
+      let s4 = limitsLines "angle" f (limitsPlace + 2 * limitsWidth) ++ s5 in
+      let s3 = limitsLines "y" f (limitsPlace + limitsWidth) ++ s4 in
+      let s2 = limitsLines "x" f limitsPlace ++ s3 in
       let s1 = frameLines f ++ s2 in
       let o0 = head-read {ls = s1 ++ ls} c p1 p2 u2 u3 u4 u5 o in
       let o1 = frames-read {ls = s2 ++ ls} o0 in

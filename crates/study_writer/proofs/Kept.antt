@@ -9,8 +9,9 @@ use lib.Dec.{eqb, ltb}
 use lib.Ieee.{Float, nan}
 use lib.ListN.{length, getD, set, length-set}
 use lib.Seq.{getD-set-other}
+use Rattle.model.specs.Layout.{bodyWidth, wordsWidth, modelsPlace, enabledPlace, centerChoicePlace, numbersWidth, centerPlace}
 use Rattle.multibody.specs.Model.{Model}
-use Rattle.study_reader.specs.Storage.{kept}
+use Rattle.study_reader.specs.Storage.{mostItems, settingsWidth, jointsPlace, numbersSize, wordsSize, namesSize, kept}
 use Rattle.study_reader.specs.Draft.{Draft, draft}
 use Rattle.study_writer.proofs.NameLines.{BodyNames, JointNames, below}
 use Rattle.study_writer.proofs.Held.{Held, Every, held-next, held-past, held-cast, kept-some, given-set}
@@ -29,7 +30,7 @@ jointNumber m c = getD (m .numbers) c nan
 
 -- the number beside an angle is nobody's
 abbrev pub Matters : Model → ℕ → Type 0
-Matters m c = c % 42 ≡ 41 → eqb (getD (m .words) (c / 42 * 11 + 10) 0) 0 ≡ true
+Matters m c = c % numbersWidth ≡ centerPlace + 1 → eqb (getD (m .words) (c / numbersWidth * wordsWidth + centerChoicePlace) 0) 0 ≡ true
 
 -- a motor's model and a kind of centre are 0 or 1, `JointEnabled` is 0, 1 or 2
 abbrev pub binary : ℕ → ℕ
@@ -39,27 +40,31 @@ abbrev pub ternary : ℕ → ℕ
 ternary v = cond (eqb v 0) 0 (cond (eqb v 1) 1 2)
 
 unfoldable pub canonical : ℕ → ℕ → ℕ
-canonical k v = cond (ltb k 6) v (cond (eqb k 9) (ternary v) (binary v))
+canonical k v = cond (ltb k modelsPlace) v (cond (eqb k enabledPlace) (ternary v) (binary v))
 
 abbrev pub jointWordAt : Model → ℕ → ℕ
-jointWordAt m c = canonical (c % 11) (getD (m .words) c 0)
+jointWordAt m c = canonical (c % wordsWidth) (getD (m .words) c 0)
+
+-- where the centre of the first joint stands among the numbers
+abbrev pub centersPlace : ℕ
+centersPlace = jointsPlace + centerPlace
 
 -- ---- what is held
 
 -- so many of the settings, of the bodies' numbers, of the joints' numbers and words; the names of so many bodies and joints; and the centres of so many
 -- joints are given
 pub record Kept (text : List ℕ) (m : Model) (s low high done nb nj cs : ℕ) (d : Draft) : Type 0 where
-  pub numbersRoom : 6711 ≤ length (d .numbers)
-  pub originsRoom : 6711 ≤ length (d .origins)
-  pub wordsRoom : 1419 ≤ length (d .words)
-  pub namesRoom : 516 ≤ length (d .names)
+  pub numbersRoom : numbersSize ≤ length (d .numbers)
+  pub originsRoom : numbersSize ≤ length (d .origins)
+  pub wordsRoom : wordsSize ≤ length (d .words)
+  pub namesRoom : namesSize ≤ length (d .names)
   pub settings : Held (d .numbers) nan 0 s Every (setting m)
-  pub bodies : Held (d .numbers) nan 3 low Every (bodyNumber m)
-  pub joints : Held (d .numbers) nan 1293 high (Matters m) (jointNumber m)
+  pub bodies : Held (d .numbers) nan settingsWidth low Every (bodyNumber m)
+  pub joints : Held (d .numbers) nan jointsPlace high (Matters m) (jointNumber m)
   pub words : Held (d .words) 0 0 done Every (jointWordAt m)
   pub bodyNames : BodyNames text (d .names) nb
   pub jointNames : JointNames text (d .names) nj
-  pub centers : (k : ℕ) → k < cs → 0 < getD (d .origins) (1333 + 42 * k) 0
+  pub centers : (k : ℕ) → k < cs → 0 < getD (d .origins) (centersPlace + numbersWidth * k) 0
 
 -- the same storage, by equations
 pub record Same (d : Draft) (numbers : List Float) (origins words names : List ℕ) : Type 0 where
@@ -88,7 +93,7 @@ module _ (text : List ℕ) (m : Model) (s low high done nb nj cs : ℕ) where
 
   module _ (d : Draft) (k : Kept text m s low high done nb nj cs d) where
     -- the next of the settings; of the bodies' numbers; of the joints'. Its place in the text is given.
-    pub setting-kept : (a : ℕ) → 0 < a → s < 3 → low ≡ 0 → high ≡ 0
+    pub setting-kept : (a : ℕ) → 0 < a → s < settingsWidth → low ≡ 0 → high ≡ 0
         → Kept text m (s + 1) low high done nb nj cs (draft (d .state) (set (d .numbers) (0 + s) (setting m s)) (set (d .origins) (0 + s) (kept a)) (d .words) (d .names))
     setting-kept a pos l z z′ =
         record {
@@ -102,45 +107,45 @@ module _ (text : List ℕ) (m : Model) (s low high done nb nj cs : ℕ) where
           words = k .words;
           bodyNames = k .bodyNames;
           jointNames = k .jointNames;
-          centers = λ c q. given-set (d .origins) (0 + s) (kept a) (1333 + 42 * c) (kept-some a pos) (k .centers c q);
+          centers = λ c q. given-set (d .origins) (0 + s) (kept a) (centersPlace + numbersWidth * c) (kept-some a pos) (k .centers c q);
         }
 
-    pub body-kept : (a : ℕ) → 0 < a → s ≡ 3 → low < 1290 → high ≡ 0
-        → Kept text m s (low + 1) high done nb nj cs (draft (d .state) (set (d .numbers) (3 + low) (bodyNumber m low)) (set (d .origins) (3 + low) (kept a)) (d .words) (d .names))
+    pub body-kept : (a : ℕ) → 0 < a → s ≡ settingsWidth → low < mostItems * bodyWidth → high ≡ 0
+        → Kept text m s (low + 1) high done nb nj cs (draft (d .state) (set (d .numbers) (settingsWidth + low) (bodyNumber m low)) (set (d .origins) (settingsWidth + low) (kept a)) (d .words) (d .names))
     body-kept a pos e l z =
         record {
           numbersRoom = rw length-set (k .numbersRoom);
           originsRoom = rw length-set (k .originsRoom);
           wordsRoom = k .wordsRoom;
           namesRoom = k .namesRoom;
-          settings = held-past (d .numbers) nan 0 s Every (setting m) (k .settings) (3 + low) (bodyNumber m low) (omega arith);
-          bodies = held-next (d .numbers) nan 3 low Every (bodyNumber m) (k .bodies) (omega (arith, k .numbersRoom));
+          settings = held-past (d .numbers) nan 0 s Every (setting m) (k .settings) (settingsWidth + low) (bodyNumber m low) (omega arith);
+          bodies = held-next (d .numbers) nan settingsWidth low Every (bodyNumber m) (k .bodies) (omega (arith, k .numbersRoom));
           joints = λ c q u. absurd (let n : ⊥ = omega arith in n);
           words = k .words;
           bodyNames = k .bodyNames;
           jointNames = k .jointNames;
-          centers = λ c q. given-set (d .origins) (3 + low) (kept a) (1333 + 42 * c) (kept-some a pos) (k .centers c q);
+          centers = λ c q. given-set (d .origins) (settingsWidth + low) (kept a) (centersPlace + numbersWidth * c) (kept-some a pos) (k .centers c q);
         }
 
-    pub joint-kept : (a : ℕ) → 0 < a → s ≡ 3 → low ≤ 1290 → high < 5418
-        → Kept text m s low (high + 1) done nb nj cs (draft (d .state) (set (d .numbers) (1293 + high) (jointNumber m high)) (set (d .origins) (1293 + high) (kept a)) (d .words) (d .names))
+    pub joint-kept : (a : ℕ) → 0 < a → s ≡ settingsWidth → low ≤ mostItems * bodyWidth → high < mostItems * numbersWidth
+        → Kept text m s low (high + 1) done nb nj cs (draft (d .state) (set (d .numbers) (jointsPlace + high) (jointNumber m high)) (set (d .origins) (jointsPlace + high) (kept a)) (d .words) (d .names))
     joint-kept a pos e l l′ =
         record {
           numbersRoom = rw length-set (k .numbersRoom);
           originsRoom = rw length-set (k .originsRoom);
           wordsRoom = k .wordsRoom;
           namesRoom = k .namesRoom;
-          settings = held-past (d .numbers) nan 0 s Every (setting m) (k .settings) (1293 + high) (jointNumber m high) (omega arith);
-          bodies = held-past (d .numbers) nan 3 low Every (bodyNumber m) (k .bodies) (1293 + high) (jointNumber m high) (omega arith);
-          joints = held-next (d .numbers) nan 1293 high (Matters m) (jointNumber m) (k .joints) (omega (arith, k .numbersRoom));
+          settings = held-past (d .numbers) nan 0 s Every (setting m) (k .settings) (jointsPlace + high) (jointNumber m high) (omega arith);
+          bodies = held-past (d .numbers) nan settingsWidth low Every (bodyNumber m) (k .bodies) (jointsPlace + high) (jointNumber m high) (omega arith);
+          joints = held-next (d .numbers) nan jointsPlace high (Matters m) (jointNumber m) (k .joints) (omega (arith, k .numbersRoom));
           words = k .words;
           bodyNames = k .bodyNames;
           jointNames = k .jointNames;
-          centers = λ c q. given-set (d .origins) (1293 + high) (kept a) (1333 + 42 * c) (kept-some a pos) (k .centers c q);
+          centers = λ c q. given-set (d .origins) (jointsPlace + high) (kept a) (centersPlace + numbersWidth * c) (kept-some a pos) (k .centers c q);
         }
 
     -- the next word of a joint; its origin stands past those of the numbers
-    pub word-kept : (a p : ℕ) → done < 1419 → 6711 ≤ p → cs ≤ 128
+    pub word-kept : (a p : ℕ) → done < wordsSize → numbersSize ≤ p → cs ≤ 128
         → Kept text m s low high (done + 1) nb nj cs (draft (d .state) (d .numbers) (set (d .origins) p (kept a)) (set (d .words) (0 + done) (jointWordAt m done)) (d .names))
     word-kept a p l q f =
         record {
@@ -154,11 +159,11 @@ module _ (text : List ℕ) (m : Model) (s low high done nb nj cs : ℕ) where
           words = held-next (d .words) 0 0 done Every (jointWordAt m) (k .words) (omega (arith, k .wordsRoom));
           bodyNames = k .bodyNames;
           jointNames = k .jointNames;
-          centers = λ c u. let e = getD-set-other (d .origins) p (1333 + 42 * c) (kept a) 0 (λ y. omega arith) in omega (arith, k .centers c u);
+          centers = λ c u. let e = getD-set-other (d .origins) p (centersPlace + numbersWidth * c) (kept a) 0 (λ y. omega arith) in omega (arith, k .centers c u);
         }
 
     -- a centre is given, by a word
-    pub center-kept : done < 1419 → 0 < getD (d .origins) (1333 + 42 * cs) 0
+    pub center-kept : done < wordsSize → 0 < getD (d .origins) (centersPlace + numbersWidth * cs) 0
         → Kept text m s low high (done + 1) nb nj (cs + 1) (draft (d .state) (d .numbers) (d .origins) (set (d .words) (0 + done) (jointWordAt m done)) (d .names))
     center-kept l g =
         record {
@@ -175,8 +180,8 @@ module _ (text : List ℕ) (m : Model) (s low high done nb nj cs : ℕ) where
           centers = λ c u. go c u (eqb c cs) refl;
         }
       where
-        go : (c : ℕ) → c < cs + 1 → (t : Bool) → eqb c cs ≡ t → 0 < getD (d .origins) (1333 + 42 * c) 0
-        go c u true t = let q = eqb-true c cs t in let y : getD (d .origins) (1333 + 42 * c) 0 ≡ getD (d .origins) (1333 + 42 * cs) 0 = ap (λ (i : ℕ). getD (d .origins) (1333 + 42 * i) 0) q in omega arith
+        go : (c : ℕ) → c < cs + 1 → (t : Bool) → eqb c cs ≡ t → 0 < getD (d .origins) (centersPlace + numbersWidth * c) 0
+        go c u true t = let q = eqb-true c cs t in let y : getD (d .origins) (centersPlace + numbersWidth * c) 0 ≡ getD (d .origins) (centersPlace + numbersWidth * cs) 0 = ap (λ (i : ℕ). getD (d .origins) (centersPlace + numbersWidth * i) 0) q in omega arith
         go c u false t = let q = eqb-false c cs t in k .centers c (below c cs (omega arith) q)
 
     -- the number beside an angle
@@ -196,7 +201,7 @@ module _ (text : List ℕ) (m : Model) (s low high done nb nj cs : ℕ) where
           centers = k .centers;
         }
       where
-        go : (c : ℕ) → c < high + 1 → Matters m c → (t : Bool) → eqb c high ≡ t → getD (d .numbers) (1293 + c) nan ≡ jointNumber m c
+        go : (c : ℕ) → c < high + 1 → Matters m c → (t : Bool) → eqb c high ≡ t → getD (d .numbers) (jointsPlace + c) nan ≡ jointNumber m c
         go c q u true t = let e = eqb-true c high t in absurd (f (rw e at u))
         go c q u false t = k .joints c (below c high (omega arith) (eqb-false c high t)) u
 
@@ -209,8 +214,8 @@ kept-cast text m s low high done nb nj cs low′ high′ done′ d k a b c =
       wordsRoom = k .wordsRoom;
       namesRoom = k .namesRoom;
       settings = k .settings;
-      bodies = held-cast (d .numbers) nan 3 low Every (bodyNumber m) (k .bodies) low′ a;
-      joints = held-cast (d .numbers) nan 1293 high (Matters m) (jointNumber m) (k .joints) high′ b;
+      bodies = held-cast (d .numbers) nan settingsWidth low Every (bodyNumber m) (k .bodies) low′ a;
+      joints = held-cast (d .numbers) nan jointsPlace high (Matters m) (jointNumber m) (k .joints) high′ b;
       words = held-cast (d .words) 0 0 done Every (jointWordAt m) (k .words) done′ c;
       bodyNames = k .bodyNames;
       jointNames = k .jointNames;

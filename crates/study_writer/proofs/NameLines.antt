@@ -10,6 +10,7 @@ use lib.ListN.{length, drop}
 use Rattle.model.specs.Store.{world}
 use Rattle.texts.specs.Ascii.{ascii}
 use Rattle.study_reader.specs.Words.{nextWord, bytesOf, sameBytes, isWord, sameWords, holdsByte}
+use Rattle.study_reader.specs.Storage.{mostItems}
 use Rattle.study_reader.specs.Names.{ABSENT, WORLD, bodyName, jointName, firstFrom, findBody, findJoint, findEnd}
 use Rattle.study_reader.specs.Items.{orFault, whole, nameFault, bodyLine, ends, endsLine, jointLine, openLine, itemLine, lineOf}
 use Rattle.study_reader.specs.declared.words.Word.{Word}
@@ -148,7 +149,7 @@ module _ (text names : List ℕ) (st : State) (kw rest : List ℕ) where
         w,
         record { starts = v .some; ends = v .within; bytes = v .bytes },
         item-line text names st kw (bodyWord i ∷ []) rest h p c
-            ∙ simp (s .bytes, t, k, fine, nb, lt-ltb i 129 (omega arith), no-word text (w .end) rest (v .after)),
+            ∙ simp (s .bytes, t, k, fine, nb, lt-ltb i mostItems (omega arith), no-word text (w .end) rest (v .after)),
       )
 
   pub joint-line : (j n b1 b2 : ℕ) → drop (st .at) text ≡ lineOnto (kw ∷ jointWord j ∷ endWord b1 ∷ endWord b2 ∷ []) rest → proper kw ≡ true → callTable kw ≡ 0
@@ -172,5 +173,5 @@ module _ (text names : List ℕ) (st : State) (kw rest : List ℕ) where
         w3 .start,
         record { starts = v .some; ends = v .within; bytes = v .bytes },
         item-line text names st kw (jointWord j ∷ endWord b1 ∷ endWord b2 ∷ []) rest h p c
-            ∙ simp (s .bytes, t, k, fine, nb, nj, lt-ltb j 129 (omega arith), that-end text names n w2 b1 ns p1 (x .bytes), that-end text names n w3 b2 ns p2 (y .bytes), present b1 n p1 m, present b2 n p2 m, no-word text (w3 .end) rest (y .after)),
+            ∙ simp (s .bytes, t, k, fine, nb, nj, lt-ltb j mostItems (omega arith), that-end text names n w2 b1 ns p1 (x .bytes), that-end text names n w3 b2 ns p2 (y .bytes), present b1 n p1 m, present b2 n p2 m, no-word text (w3 .end) rest (y .after)),
       )

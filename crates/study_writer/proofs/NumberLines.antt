@@ -8,6 +8,7 @@ use borrow.Author.Tests.{eq-eqb, ne-eqb, lt-leb, le-ltb}
 use lib.Dec.{T, eqb}
 use lib.Ieee.{Float, binary32, fits}
 use lib.ListN.{drop}
+use Rattle.model.specs.Layout.{centerPlace}
 use Rattle.study_reader.specs.Words.{nextWord}
 use Rattle.study_reader.specs.Numbers.{numberFault, valueOf}
 use Rattle.study_reader.specs.Keywords.{meaning, field, noField, settingsFields, bodyFields, frameFields, motorFields, softnessFields, axisWords, itemWords, bodyWords, maskWords, jointWords, callWords, readWords}
@@ -175,7 +176,7 @@ module _ (text names : List ℕ) (st : State) (kw rest : List ℕ) where
 
   -- a centre, by a pair or by an angle
   pub center-line : (x y : Float) → drop (st .at) text ≡ lineOnto (kw ∷ numberWord x ∷ numberWord y ∷ []) rest → JointKeyword kw 16
-      → st .kind ≡ 3 → T (fits binary32 x) → T (fits binary32 y) → Given2 text names st 40 x y byPair
+      → st .kind ≡ 3 → T (fits binary32 x) → T (fits binary32 y) → Given2 text names st centerPlace x y byPair
   unfolding wordLine
   center-line x y h f k fx fy =
       let s = first-word text (st .at) kw (numberWord x ∷ numberWord y ∷ []) rest h (f .is-proper) in
@@ -186,11 +187,11 @@ module _ (text names : List ℕ) (st : State) (kw rest : List ℕ) where
         omega (arith, s .some, v .later),
         omega (arith, v .some, u .later),
         keyword-line text names st kw (numberWord x ∷ numberWord y ∷ []) rest h 16 f (omega arith) (omega arith) k
-            ∙ two-numbers text w₁ 40 byPair x fx rest y fy (s .after),
+            ∙ two-numbers text w₁ centerPlace byPair x fx rest y fy (s .after),
       )
 
   pub angle-line : (x : Float) → drop (st .at) text ≡ lineOnto (kw ∷ numberWord x ∷ []) rest → JointKeyword kw 7
-      → st .kind ≡ 3 → T (fits binary32 x) → Given1 text names st 40 x byAngle
+      → st .kind ≡ 3 → T (fits binary32 x) → Given1 text names st centerPlace x byAngle
   unfolding wordLine givenLine givenBy whole orFault numberFault valueOf
   angle-line x h f k fx =
       let s = first-word text (st .at) kw (numberWord x ∷ []) rest h (f .is-proper) in

@@ -8,8 +8,9 @@ use borrow.Author.Tests.{lt-ltb}
 use lib.Dec.{eqb}
 use lib.Ieee.{Float}
 use lib.ListN.{length, getD, set}
+use Rattle.model.specs.Layout.{bodyWidth, wordsWidth, centerChoicePlace, numbersWidth, centerPlace}
 use Rattle.multibody.specs.Model.{Model}
-use Rattle.study_reader.specs.Storage.{bodyBase, jointBase, wordsBase, kept}
+use Rattle.study_reader.specs.Storage.{mostItems, settingsWidth, jointsPlace, numbersSize, wordsSize, jointNames, bodyBase, jointBase, wordsBase, kept}
 use Rattle.study_reader.specs.Draft.{Draft, itemBase, bodyDefaults, jointDefaults}
 use Rattle.study_reader.specs.Items.{given1, given2, ends, noCenter, byPair, byAngle, lineOf}
 use Rattle.study_reader.specs.Study.{second, numbersWith, originsWith, centerWith, wordWith, originWith, nameWith, lineRead}
@@ -23,7 +24,7 @@ use Rattle.study_writer.proofs.WordLines.{Worded}
 use Rattle.study_writer.proofs.NameLines.{Name}
 use Rattle.study_writer.proofs.Steps.{on, Here, given-moves, word-moves, body-moves, joint-moves}
 use Rattle.study_writer.proofs.Held.{kept-some, set-given, given-set}
-use Rattle.study_writer.proofs.Kept.{setting, bodyNumber, jointNumber, Matters, canonical, jointWordAt, Kept, kept-same-as, setting-kept, body-kept, joint-kept, word-kept, center-kept, skip-kept, kept-cast}
+use Rattle.study_writer.proofs.Kept.{setting, bodyNumber, jointNumber, Matters, canonical, jointWordAt, centersPlace, Kept, kept-same-as, setting-kept, body-kept, joint-kept, word-kept, center-kept, skip-kept, kept-cast}
 use Rattle.study_writer.proofs.Opened.{body-opened, joint-opened}
 
 pub record On (text : List ℕ) (m : Model) (kind item nb nj s low high done cs : ℕ) (ls : List Line) (d : Draft) : Type 0 where
@@ -31,21 +32,21 @@ pub record On (text : List ℕ) (m : Model) (kind item nb nj s low high done cs 
   pub kept : Kept text m s low high done nb nj cs d
 
 -- where the numbers of the open item start
-body-base : (st : State) (at i nb nj : ℕ) → st ≡ on at 2 i nb nj → i < 129 → itemBase st ≡ 3 + 10 * i
+body-base : (st : State) (at i nb nj : ℕ) → st ≡ on at 2 i nb nj → i < mostItems → itemBase st ≡ settingsWidth + bodyWidth * i
 unfolding itemBase bodyBase
-body-base st at i nb nj e l = ap itemBase e ∙ ap (λ (t : Bool). cond t (3 + 10 * i) 6711) (lt-ltb i 129 l)
+body-base st at i nb nj e l = ap itemBase e ∙ ap (λ (t : Bool). cond t (settingsWidth + bodyWidth * i) numbersSize) (lt-ltb i mostItems l)
 
-joint-base : (st : State) (at j nb nj : ℕ) → st ≡ on at 3 j nb nj → j < 129 → itemBase st ≡ 1293 + 42 * j
+joint-base : (st : State) (at j nb nj : ℕ) → st ≡ on at 3 j nb nj → j < mostItems → itemBase st ≡ jointsPlace + numbersWidth * j
 unfolding itemBase jointBase
-joint-base st at j nb nj e l = ap itemBase e ∙ ap (λ (t : Bool). cond t (1293 + 42 * j) 6711) (lt-ltb j 129 l)
+joint-base st at j nb nj e l = ap itemBase e ∙ ap (λ (t : Bool). cond t (jointsPlace + numbersWidth * j) numbersSize) (lt-ltb j mostItems l)
 
-words-base : (j : ℕ) → j < 129 → wordsBase j ≡ 11 * j
+words-base : (j : ℕ) → j < mostItems → wordsBase j ≡ wordsWidth * j
 unfolding wordsBase
-words-base j l = ap (λ (t : Bool). cond t (11 * j) 1419) (lt-ltb j 129 l)
+words-base j l = ap (λ (t : Bool). cond t (wordsWidth * j) wordsSize) (lt-ltb j mostItems l)
 
 -- ---- settings
 
-module _ (text : List ℕ) (m : Model) (k : ℕ) (l : Line) (ls : List Line) (d : Draft) (o : On text m 1 0 0 0 k 0 0 0 0 (l ∷ ls) d) (p : properLine l ≡ true) (r : k < 3) where
+module _ (text : List ℕ) (m : Model) (k : ℕ) (l : Line) (ls : List Line) (d : Draft) (o : On text m 1 0 0 0 k 0 0 0 0 (l ∷ ls) d) (p : properLine l ≡ true) (r : k < settingsWidth) where
   pub on-setting : Given1 text (d .names) (d .state) k (setting m k) noCenter → On text m 1 0 0 0 (k + 1) 0 0 0 0 ls (lineRead text d)
   unfolding numbersWith originsWith centerWith second itemBase
   on-setting g =
@@ -66,23 +67,23 @@ module _ (text : List ℕ) (m : Model) (k : ℕ) (l : Line) (ls : List Line) (d 
 
 -- ---- bodies
 
-module _ (text : List ℕ) (m : Model) (i k : ℕ) (l : Line) (ls : List Line) (d : Draft) (o : On text m 2 i (i + 1) 0 3 (i * 10 + k) 0 0 0 (l ∷ ls) d) (p : properLine l ≡ true) (few : i < 128) where
-  base : itemBase (d .state) ≡ 3 + 10 * i
+module _ (text : List ℕ) (m : Model) (i k : ℕ) (l : Line) (ls : List Line) (d : Draft) (o : On text m 2 i (i + 1) 0 settingsWidth (i * bodyWidth + k) 0 0 0 (l ∷ ls) d) (p : properLine l ≡ true) (few : i < 128) where
+  base : itemBase (d .state) ≡ settingsWidth + bodyWidth * i
   base = body-base (d .state) (o .here .at) i (i + 1) 0 (o .here .state) (omega arith)
 
-  pub on-body1 : k < 10 → Given1 text (d .names) (d .state) k (bodyNumber m (i * 10 + k)) noCenter
-      → On text m 2 i (i + 1) 0 3 (i * 10 + (k + 1)) 0 0 0 ls (lineRead text d)
+  pub on-body1 : k < bodyWidth → Given1 text (d .names) (d .state) k (bodyNumber m (i * bodyWidth + k)) noCenter
+      → On text m 2 i (i + 1) 0 settingsWidth (i * bodyWidth + (k + 1)) 0 0 0 ls (lineRead text d)
   unfolding numbersWith originsWith centerWith second
   on-body1 r g =
-      let low = i * 10 + k in
+      let low = i * bodyWidth + k in
       let e = given-moves text d 2 i (i + 1) 0 l ls (o .here) p (given1 k (bodyNumber m low) (g .0) noCenter) (g .2) in
-      let b : itemBase (d .state) + k ≡ 3 + low = ap (λ (n : ℕ). n + k) base ∙ omega arith in
-      let f = body-kept text m 3 low 0 0 (i + 1) 0 0 d (o .kept) (g .0) (g .1) refl (omega arith) refl in
+      let b : itemBase (d .state) + k ≡ settingsWidth + low = ap (λ (n : ℕ). n + k) base ∙ omega arith in
+      let f = body-kept text m settingsWidth low 0 0 (i + 1) 0 0 d (o .kept) (g .0) (g .1) refl (omega arith) refl in
       record {
         here = e .0;
         kept =
-            kept-cast text m 3 (low + 1) 0 0 (i + 1) 0 0 (i * 10 + (k + 1)) 0 0 (lineRead text d)
-            (kept-same-as text m 3 (low + 1) 0 0 (i + 1) 0 0 _ (lineRead text d) f
+            kept-cast text m settingsWidth (low + 1) 0 0 (i + 1) 0 0 (i * bodyWidth + (k + 1)) 0 0 (lineRead text d)
+            (kept-same-as text m settingsWidth (low + 1) 0 0 (i + 1) 0 0 _ (lineRead text d) f
             (record {
               numbers≡ = e .1 ∙ ap (λ (n : ℕ). set (d .numbers) n (bodyNumber m low)) b;
               origins≡ = e .2 ∙ ap (λ (n : ℕ). set (d .origins) n (kept (g .0))) b;
@@ -91,29 +92,29 @@ module _ (text : List ℕ) (m : Model) (i k : ℕ) (l : Line) (ls : List Line) (
             })) (omega arith) refl refl;
       }
 
-  pub on-body2 : k < 9 → Given2 text (d .names) (d .state) k (bodyNumber m (i * 10 + k)) (bodyNumber m (i * 10 + (k + 1))) noCenter
-      → On text m 2 i (i + 1) 0 3 (i * 10 + (k + 2)) 0 0 0 ls (lineRead text d)
+  pub on-body2 : k + 1 < bodyWidth → Given2 text (d .names) (d .state) k (bodyNumber m (i * bodyWidth + k)) (bodyNumber m (i * bodyWidth + (k + 1))) noCenter
+      → On text m 2 i (i + 1) 0 settingsWidth (i * bodyWidth + (k + 2)) 0 0 0 ls (lineRead text d)
   unfolding numbersWith originsWith centerWith second
   on-body2 r g =
-      let low = i * 10 + k in
+      let low = i * bodyWidth + k in
       let x = bodyNumber m low in
-      let y = bodyNumber m (i * 10 + (k + 1)) in
-      let y≡ : y ≡ bodyNumber m (low + 1) = ap (bodyNumber m) (let e : i * 10 + (k + 1) ≡ i * 10 + k + 1 = omega arith in e) in
+      let y = bodyNumber m (i * bodyWidth + (k + 1)) in
+      let y≡ : y ≡ bodyNumber m (low + 1) = ap (bodyNumber m) (let e : i * bodyWidth + (k + 1) ≡ i * bodyWidth + k + 1 = omega arith in e) in
       let e = given-moves text d 2 i (i + 1) 0 l ls (o .here) p (given2 k x y (g .0) (g .1) noCenter) (g .4) in
-      let b : itemBase (d .state) + k ≡ 3 + low = ap (λ (n : ℕ). n + k) base ∙ omega arith in
-      let c : itemBase (d .state) + k + 1 ≡ 3 + (low + 1) = omega arith in
-      let f = body-kept text m 3 low 0 0 (i + 1) 0 0 d (o .kept) (g .0) (g .2) refl (omega arith) refl in
-      let f′ = body-kept text m 3 (low + 1) 0 0 (i + 1) 0 0 _ f (g .1) (g .3) refl (omega arith) refl in
+      let b : itemBase (d .state) + k ≡ settingsWidth + low = ap (λ (n : ℕ). n + k) base ∙ omega arith in
+      let c : itemBase (d .state) + k + 1 ≡ settingsWidth + (low + 1) = omega arith in
+      let f = body-kept text m settingsWidth low 0 0 (i + 1) 0 0 d (o .kept) (g .0) (g .2) refl (omega arith) refl in
+      let f′ = body-kept text m settingsWidth (low + 1) 0 0 (i + 1) 0 0 _ f (g .1) (g .3) refl (omega arith) refl in
       record {
         here = e .0;
         kept =
-            kept-cast text m 3 (low + 1 + 1) 0 0 (i + 1) 0 0 (i * 10 + (k + 2)) 0 0 (lineRead text d)
-            (kept-same-as text m 3 (low + 1 + 1) 0 0 (i + 1) 0 0 _ (lineRead text d) f′
+            kept-cast text m settingsWidth (low + 1 + 1) 0 0 (i + 1) 0 0 (i * bodyWidth + (k + 2)) 0 0 (lineRead text d)
+            (kept-same-as text m settingsWidth (low + 1 + 1) 0 0 (i + 1) 0 0 _ (lineRead text d) f′
             (record {
-              numbers≡ = e .1 ∙ ap (λ (n : ℕ). set (set (d .numbers) n x) (itemBase (d .state) + k + 1) y) b ∙ ap (λ (n : ℕ). set (set (d .numbers) (3 + low) x) n y) c ∙ ap (λ (v : Float). set (set (d .numbers) (3 + low) x) (3 + (low + 1)) v) y≡;
+              numbers≡ = e .1 ∙ ap (λ (n : ℕ). set (set (d .numbers) n x) (itemBase (d .state) + k + 1) y) b ∙ ap (λ (n : ℕ). set (set (d .numbers) (settingsWidth + low) x) n y) c ∙ ap (λ (v : Float). set (set (d .numbers) (settingsWidth + low) x) (settingsWidth + (low + 1)) v) y≡;
               origins≡ =
                   e .2 ∙ ap (λ (n : ℕ). set (set (d .origins) n (kept (g .0))) (itemBase (d .state) + k + 1) (kept (g .1))) b
-                  ∙ ap (λ (n : ℕ). set (set (d .origins) (3 + low) (kept (g .0))) n (kept (g .1))) c;
+                  ∙ ap (λ (n : ℕ). set (set (d .origins) (settingsWidth + low) (kept (g .0))) n (kept (g .1))) c;
               words≡ = e .3;
               names≡ = e .4;
             })) (omega arith) refl refl;
@@ -121,26 +122,26 @@ module _ (text : List ℕ) (m : Model) (i k : ℕ) (l : Line) (ls : List Line) (
 
 -- ---- joints: numbers
 
-module _ (text : List ℕ) (m : Model) (j nb k done cs : ℕ) (l : Line) (ls : List Line) (d : Draft) (o : On text m 3 j nb (j + 1) 3 (nb * 10) (j * 42 + k) done cs (l ∷ ls) d) (p : properLine l ≡ true) (few : j < 128) (fb : nb ≤ 128) where
-  jbase : itemBase (d .state) ≡ 1293 + 42 * j
+module _ (text : List ℕ) (m : Model) (j nb k done cs : ℕ) (l : Line) (ls : List Line) (d : Draft) (o : On text m 3 j nb (j + 1) settingsWidth (nb * bodyWidth) (j * numbersWidth + k) done cs (l ∷ ls) d) (p : properLine l ≡ true) (few : j < 128) (fb : nb ≤ 128) where
+  jbase : itemBase (d .state) ≡ jointsPlace + numbersWidth * j
   jbase = joint-base (d .state) (o .here .at) j nb (j + 1) (o .here .state) (omega arith)
 
   item : d .state .item ≡ j
   item = ap (λ (s : State). s .item) (o .here .state)
 
-  pub on-joint1 : k < 42 → Given1 text (d .names) (d .state) k (jointNumber m (j * 42 + k)) noCenter
-      → On text m 3 j nb (j + 1) 3 (nb * 10) (j * 42 + (k + 1)) done cs ls (lineRead text d)
+  pub on-joint1 : k < numbersWidth → Given1 text (d .names) (d .state) k (jointNumber m (j * numbersWidth + k)) noCenter
+      → On text m 3 j nb (j + 1) settingsWidth (nb * bodyWidth) (j * numbersWidth + (k + 1)) done cs ls (lineRead text d)
   unfolding numbersWith originsWith centerWith second
   on-joint1 r g =
-      let high = j * 42 + k in
+      let high = j * numbersWidth + k in
       let e = given-moves text d 3 j nb (j + 1) l ls (o .here) p (given1 k (jointNumber m high) (g .0) noCenter) (g .2) in
-      let b : itemBase (d .state) + k ≡ 1293 + high = ap (λ (n : ℕ). n + k) jbase ∙ omega arith in
-      let f = joint-kept text m 3 (nb * 10) high done nb (j + 1) cs d (o .kept) (g .0) (g .1) refl (omega arith) (omega arith) in
+      let b : itemBase (d .state) + k ≡ jointsPlace + high = ap (λ (n : ℕ). n + k) jbase ∙ omega arith in
+      let f = joint-kept text m settingsWidth (nb * bodyWidth) high done nb (j + 1) cs d (o .kept) (g .0) (g .1) refl (omega arith) (omega arith) in
       record {
         here = e .0;
         kept =
-            kept-cast text m 3 (nb * 10) (high + 1) done nb (j + 1) cs (nb * 10) (j * 42 + (k + 1)) done (lineRead text d)
-            (kept-same-as text m 3 (nb * 10) (high + 1) done nb (j + 1) cs _ (lineRead text d) f
+            kept-cast text m settingsWidth (nb * bodyWidth) (high + 1) done nb (j + 1) cs (nb * bodyWidth) (j * numbersWidth + (k + 1)) done (lineRead text d)
+            (kept-same-as text m settingsWidth (nb * bodyWidth) (high + 1) done nb (j + 1) cs _ (lineRead text d) f
             (record {
               numbers≡ = e .1 ∙ ap (λ (n : ℕ). set (d .numbers) n (jointNumber m high)) b;
               origins≡ = e .2 ∙ ap (λ (n : ℕ). set (d .origins) n (kept (g .0))) b;
@@ -149,29 +150,29 @@ module _ (text : List ℕ) (m : Model) (j nb k done cs : ℕ) (l : Line) (ls : L
             })) refl (omega arith) refl;
       }
 
-  pub on-joint2 : k < 41 → Given2 text (d .names) (d .state) k (jointNumber m (j * 42 + k)) (jointNumber m (j * 42 + (k + 1))) noCenter
-      → On text m 3 j nb (j + 1) 3 (nb * 10) (j * 42 + (k + 2)) done cs ls (lineRead text d)
+  pub on-joint2 : k + 1 < numbersWidth → Given2 text (d .names) (d .state) k (jointNumber m (j * numbersWidth + k)) (jointNumber m (j * numbersWidth + (k + 1))) noCenter
+      → On text m 3 j nb (j + 1) settingsWidth (nb * bodyWidth) (j * numbersWidth + (k + 2)) done cs ls (lineRead text d)
   unfolding numbersWith originsWith centerWith second
   on-joint2 r g =
-      let high = j * 42 + k in
+      let high = j * numbersWidth + k in
       let x = jointNumber m high in
-      let y = jointNumber m (j * 42 + (k + 1)) in
-      let y≡ : y ≡ jointNumber m (high + 1) = ap (jointNumber m) (let e : j * 42 + (k + 1) ≡ j * 42 + k + 1 = omega arith in e) in
+      let y = jointNumber m (j * numbersWidth + (k + 1)) in
+      let y≡ : y ≡ jointNumber m (high + 1) = ap (jointNumber m) (let e : j * numbersWidth + (k + 1) ≡ j * numbersWidth + k + 1 = omega arith in e) in
       let e = given-moves text d 3 j nb (j + 1) l ls (o .here) p (given2 k x y (g .0) (g .1) noCenter) (g .4) in
-      let b : itemBase (d .state) + k ≡ 1293 + high = ap (λ (n : ℕ). n + k) jbase ∙ omega arith in
-      let c : itemBase (d .state) + k + 1 ≡ 1293 + (high + 1) = omega arith in
-      let f = joint-kept text m 3 (nb * 10) high done nb (j + 1) cs d (o .kept) (g .0) (g .2) refl (omega arith) (omega arith) in
-      let f′ = joint-kept text m 3 (nb * 10) (high + 1) done nb (j + 1) cs _ f (g .1) (g .3) refl (omega arith) (omega arith) in
+      let b : itemBase (d .state) + k ≡ jointsPlace + high = ap (λ (n : ℕ). n + k) jbase ∙ omega arith in
+      let c : itemBase (d .state) + k + 1 ≡ jointsPlace + (high + 1) = omega arith in
+      let f = joint-kept text m settingsWidth (nb * bodyWidth) high done nb (j + 1) cs d (o .kept) (g .0) (g .2) refl (omega arith) (omega arith) in
+      let f′ = joint-kept text m settingsWidth (nb * bodyWidth) (high + 1) done nb (j + 1) cs _ f (g .1) (g .3) refl (omega arith) (omega arith) in
       record {
         here = e .0;
         kept =
-            kept-cast text m 3 (nb * 10) (high + 1 + 1) done nb (j + 1) cs (nb * 10) (j * 42 + (k + 2)) done (lineRead text d)
-            (kept-same-as text m 3 (nb * 10) (high + 1 + 1) done nb (j + 1) cs _ (lineRead text d) f′
+            kept-cast text m settingsWidth (nb * bodyWidth) (high + 1 + 1) done nb (j + 1) cs (nb * bodyWidth) (j * numbersWidth + (k + 2)) done (lineRead text d)
+            (kept-same-as text m settingsWidth (nb * bodyWidth) (high + 1 + 1) done nb (j + 1) cs _ (lineRead text d) f′
             (record {
-              numbers≡ = e .1 ∙ ap (λ (n : ℕ). set (set (d .numbers) n x) (itemBase (d .state) + k + 1) y) b ∙ ap (λ (n : ℕ). set (set (d .numbers) (1293 + high) x) n y) c ∙ ap (λ (v : Float). set (set (d .numbers) (1293 + high) x) (1293 + (high + 1)) v) y≡;
+              numbers≡ = e .1 ∙ ap (λ (n : ℕ). set (set (d .numbers) n x) (itemBase (d .state) + k + 1) y) b ∙ ap (λ (n : ℕ). set (set (d .numbers) (jointsPlace + high) x) n y) c ∙ ap (λ (v : Float). set (set (d .numbers) (jointsPlace + high) x) (jointsPlace + (high + 1)) v) y≡;
               origins≡ =
                   e .2 ∙ ap (λ (n : ℕ). set (set (d .origins) n (kept (g .0))) (itemBase (d .state) + k + 1) (kept (g .1))) b
-                  ∙ ap (λ (n : ℕ). set (set (d .origins) (1293 + high) (kept (g .0))) n (kept (g .1))) c;
+                  ∙ ap (λ (n : ℕ). set (set (d .origins) (jointsPlace + high) (kept (g .0))) n (kept (g .1))) c;
               words≡ = e .3;
               names≡ = e .4;
             })) refl (omega arith) refl;
@@ -180,25 +181,25 @@ module _ (text : List ℕ) (m : Model) (j nb k done cs : ℕ) (l : Line) (ls : L
 -- ---- joints: words
 
 -- a word's canonical form, by its place
-pub canonical-at : (m : Model) (j k : ℕ) → k < 11 → jointWordAt m (j * 11 + k) ≡ canonical k (getD (m .words) (j * 11 + k) 0)
-canonical-at m j k l = let e : (j * 11 + k) % 11 ≡ k = omega arith in ap (λ (n : ℕ). canonical n (getD (m .words) (j * 11 + k) 0)) e
+pub canonical-at : (m : Model) (j k : ℕ) → k < wordsWidth → jointWordAt m (j * wordsWidth + k) ≡ canonical k (getD (m .words) (j * wordsWidth + k) 0)
+canonical-at m j k l = let e : (j * wordsWidth + k) % wordsWidth ≡ k = omega arith in ap (λ (n : ℕ). canonical n (getD (m .words) (j * wordsWidth + k) 0)) e
 
-module _ (text : List ℕ) (m : Model) (j nb k high cs : ℕ) (l : Line) (ls : List Line) (d : Draft) (o : On text m 3 j nb (j + 1) 3 (nb * 10) high (j * 11 + k) cs (l ∷ ls) d) (p : properLine l ≡ true) (few : j < 128) (fc : cs ≤ 128) where
-  pub on-word : k < 11 → Worded text (d .names) (d .state) k (canonical k (getD (m .words) (j * 11 + k) 0))
-      → On text m 3 j nb (j + 1) 3 (nb * 10) high (j * 11 + (k + 1)) cs ls (lineRead text d)
+module _ (text : List ℕ) (m : Model) (j nb k high cs : ℕ) (l : Line) (ls : List Line) (d : Draft) (o : On text m 3 j nb (j + 1) settingsWidth (nb * bodyWidth) high (j * wordsWidth + k) cs (l ∷ ls) d) (p : properLine l ≡ true) (few : j < 128) (fc : cs ≤ 128) where
+  pub on-word : k < wordsWidth → Worded text (d .names) (d .state) k (canonical k (getD (m .words) (j * wordsWidth + k) 0))
+      → On text m 3 j nb (j + 1) settingsWidth (nb * bodyWidth) high (j * wordsWidth + (k + 1)) cs ls (lineRead text d)
   unfolding wordWith originWith
   on-word r g =
-      let done = j * 11 + k in
+      let done = j * wordsWidth + k in
       let v = canonical k (getD (m .words) done 0) in
       let e = word-moves text d 3 j nb (j + 1) l ls (o .here) p k v (g .0) (g .1) in
       let i : d .state .item ≡ j = ap (λ (s : State). s .item) (o .here .state) in
       let b : wordsBase (d .state .item) + k ≡ 0 + done = ap (λ (n : ℕ). wordsBase n + k) i ∙ ap (λ (n : ℕ). n + k) (words-base j (omega arith)) ∙ omega arith in
-      let f = word-kept text m 3 (nb * 10) high done nb (j + 1) cs d (o .kept) (g .0) (6711 + (wordsBase (d .state .item) + k)) (omega arith) (omega arith) fc in
+      let f = word-kept text m settingsWidth (nb * bodyWidth) high done nb (j + 1) cs d (o .kept) (g .0) (numbersSize + (wordsBase (d .state .item) + k)) (omega arith) (omega arith) fc in
       record {
         here = e .0;
         kept =
-            kept-cast text m 3 (nb * 10) high (done + 1) nb (j + 1) cs (nb * 10) high (j * 11 + (k + 1)) (lineRead text d)
-            (kept-same-as text m 3 (nb * 10) high (done + 1) nb (j + 1) cs _ (lineRead text d) f
+            kept-cast text m settingsWidth (nb * bodyWidth) high (done + 1) nb (j + 1) cs (nb * bodyWidth) high (j * wordsWidth + (k + 1)) (lineRead text d)
+            (kept-same-as text m settingsWidth (nb * bodyWidth) high (done + 1) nb (j + 1) cs _ (lineRead text d) f
             (record {
               numbers≡ = e .1;
               origins≡ = e .2;
@@ -209,81 +210,81 @@ module _ (text : List ℕ) (m : Model) (j nb k high cs : ℕ) (l : Line) (ls : L
 
 -- ---- joints: centres
 
-module _ (text : List ℕ) (m : Model) (j nb : ℕ) (l : Line) (ls : List Line) (d : Draft) (o : On text m 3 j nb (j + 1) 3 (nb * 10) (j * 42 + 40) (j * 11 + 10) j (l ∷ ls) d) (p : properLine l ≡ true) (few : j < 128) (fb : nb ≤ 128) where
-  cbase : itemBase (d .state) ≡ 1293 + 42 * j
+module _ (text : List ℕ) (m : Model) (j nb : ℕ) (l : Line) (ls : List Line) (d : Draft) (o : On text m 3 j nb (j + 1) settingsWidth (nb * bodyWidth) (j * numbersWidth + centerPlace) (j * wordsWidth + centerChoicePlace) j (l ∷ ls) d) (p : properLine l ≡ true) (few : j < 128) (fb : nb ≤ 128) where
+  cbase : itemBase (d .state) ≡ jointsPlace + numbersWidth * j
   cbase = joint-base (d .state) (o .here .at) j nb (j + 1) (o .here .state) (omega arith)
 
-  wbase : wordsBase (d .state .item) + 10 ≡ 0 + (j * 11 + 10)
+  wbase : wordsBase (d .state .item) + centerChoicePlace ≡ 0 + (j * wordsWidth + centerChoicePlace)
   wbase =
-      ap (λ (s : State). wordsBase (s .item) + 10) (o .here .state) ∙ ap (λ (n : ℕ). n + 10) (words-base j (omega arith)) ∙ omega arith
+      ap (λ (s : State). wordsBase (s .item) + centerChoicePlace) (o .here .state) ∙ ap (λ (n : ℕ). n + centerChoicePlace) (words-base j (omega arith)) ∙ omega arith
 
-  pub on-center : eqb (getD (m .words) (j * 11 + 10) 0) 0 ≡ true
-      → Given2 text (d .names) (d .state) 40 (jointNumber m (j * 42 + 40)) (jointNumber m (j * 42 + 41)) byPair
-      → On text m 3 j nb (j + 1) 3 (nb * 10) (j * 42 + 42) (j * 11 + 11) (j + 1) ls (lineRead text d)
+  pub on-center : eqb (getD (m .words) (j * wordsWidth + centerChoicePlace) 0) 0 ≡ true
+      → Given2 text (d .names) (d .state) centerPlace (jointNumber m (j * numbersWidth + centerPlace)) (jointNumber m (j * numbersWidth + (centerPlace + 1))) byPair
+      → On text m 3 j nb (j + 1) settingsWidth (nb * bodyWidth) (j * numbersWidth + numbersWidth) (j * wordsWidth + wordsWidth) (j + 1) ls (lineRead text d)
   unfolding numbersWith originsWith centerWith second canonical
   on-center z g =
-      let high = j * 42 + 40 in
+      let high = j * numbersWidth + centerPlace in
       let x = jointNumber m high in
-      let y = jointNumber m (j * 42 + 41) in
-      let y≡ : y ≡ jointNumber m (high + 1) = ap (jointNumber m) (let e : j * 42 + 41 ≡ j * 42 + 40 + 1 = omega arith in e) in
-      let done = j * 11 + 10 in
-      let e = given-moves text d 3 j nb (j + 1) l ls (o .here) p (given2 40 x y (g .0) (g .1) byPair) (g .4) in
-      let b : itemBase (d .state) + 40 ≡ 1293 + high = ap (λ (n : ℕ). n + 40) cbase ∙ omega arith in
-      let c : itemBase (d .state) + 40 + 1 ≡ 1293 + (high + 1) = omega arith in
-      let f = joint-kept text m 3 (nb * 10) high done nb (j + 1) j d (o .kept) (g .0) (g .2) refl (omega arith) (omega arith) in
-      let f′ = joint-kept text m 3 (nb * 10) (high + 1) done nb (j + 1) j _ f (g .1) (g .3) refl (omega arith) (omega arith) in
-      let here : 1293 + high ≡ 1333 + 42 * j = omega arith in
-      let q = set-given (d .origins) (1293 + high) (kept (g .0)) (omega (arith, o .kept .originsRoom)) (kept-some (g .0) (g .2)) in
-      let q′ = given-set (set (d .origins) (1293 + high) (kept (g .0))) (1293 + (high + 1)) (kept (g .1)) (1293 + high) (kept-some (g .1) (g .3)) q in
-      let f″ = center-kept text m 3 (nb * 10) (high + 1 + 1) done nb (j + 1) j _ f′ (omega arith)
-      (subst (λ (n : ℕ). 0 < getD (set (set (d .origins) (1293 + high) (kept (g .0))) (1293 + (high + 1)) (kept (g .1))) n 0) here q′) in
-      let v : 0 ≡ jointWordAt m done = sym (canonical-at m j 10 (omega arith) ∙ ap (λ (t : Bool). cond t 0 1) z) in
+      let y = jointNumber m (j * numbersWidth + (centerPlace + 1)) in
+      let y≡ : y ≡ jointNumber m (high + 1) = ap (jointNumber m) (let e : j * numbersWidth + (centerPlace + 1) ≡ j * numbersWidth + centerPlace + 1 = omega arith in e) in
+      let done = j * wordsWidth + centerChoicePlace in
+      let e = given-moves text d 3 j nb (j + 1) l ls (o .here) p (given2 centerPlace x y (g .0) (g .1) byPair) (g .4) in
+      let b : itemBase (d .state) + centerPlace ≡ jointsPlace + high = ap (λ (n : ℕ). n + centerPlace) cbase ∙ omega arith in
+      let c : itemBase (d .state) + centerPlace + 1 ≡ jointsPlace + (high + 1) = omega arith in
+      let f = joint-kept text m settingsWidth (nb * bodyWidth) high done nb (j + 1) j d (o .kept) (g .0) (g .2) refl (omega arith) (omega arith) in
+      let f′ = joint-kept text m settingsWidth (nb * bodyWidth) (high + 1) done nb (j + 1) j _ f (g .1) (g .3) refl (omega arith) (omega arith) in
+      let here : jointsPlace + high ≡ centersPlace + numbersWidth * j = omega arith in
+      let q = set-given (d .origins) (jointsPlace + high) (kept (g .0)) (omega (arith, o .kept .originsRoom)) (kept-some (g .0) (g .2)) in
+      let q′ = given-set (set (d .origins) (jointsPlace + high) (kept (g .0))) (jointsPlace + (high + 1)) (kept (g .1)) (jointsPlace + high) (kept-some (g .1) (g .3)) q in
+      let f″ = center-kept text m settingsWidth (nb * bodyWidth) (high + 1 + 1) done nb (j + 1) j _ f′ (omega arith)
+      (subst (λ (n : ℕ). 0 < getD (set (set (d .origins) (jointsPlace + high) (kept (g .0))) (jointsPlace + (high + 1)) (kept (g .1))) n 0) here q′) in
+      let v : 0 ≡ jointWordAt m done = sym (canonical-at m j centerChoicePlace (omega arith) ∙ ap (λ (t : Bool). cond t 0 1) z) in
       record {
         here = e .0;
         kept =
-            kept-cast text m 3 (nb * 10) (high + 1 + 1) (done + 1) nb (j + 1) (j + 1) (nb * 10) (j * 42 + 42) (j * 11 + 11) (lineRead text d)
-            (kept-same-as text m 3 (nb * 10) (high + 1 + 1) (done + 1) nb (j + 1) (j + 1) _ (lineRead text d) f″
+            kept-cast text m settingsWidth (nb * bodyWidth) (high + 1 + 1) (done + 1) nb (j + 1) (j + 1) (nb * bodyWidth) (j * numbersWidth + numbersWidth) (j * wordsWidth + wordsWidth) (lineRead text d)
+            (kept-same-as text m settingsWidth (nb * bodyWidth) (high + 1 + 1) (done + 1) nb (j + 1) (j + 1) _ (lineRead text d) f″
             (record {
-              numbers≡ = e .1 ∙ ap (λ (n : ℕ). set (set (d .numbers) n x) (itemBase (d .state) + 40 + 1) y) b ∙ ap (λ (n : ℕ). set (set (d .numbers) (1293 + high) x) n y) c ∙ ap (λ (v : Float). set (set (d .numbers) (1293 + high) x) (1293 + (high + 1)) v) y≡;
+              numbers≡ = e .1 ∙ ap (λ (n : ℕ). set (set (d .numbers) n x) (itemBase (d .state) + centerPlace + 1) y) b ∙ ap (λ (n : ℕ). set (set (d .numbers) (jointsPlace + high) x) n y) c ∙ ap (λ (v : Float). set (set (d .numbers) (jointsPlace + high) x) (jointsPlace + (high + 1)) v) y≡;
               origins≡ =
-                  e .2 ∙ ap (λ (n : ℕ). set (set (d .origins) n (kept (g .0))) (itemBase (d .state) + 40 + 1) (kept (g .1))) b
-                  ∙ ap (λ (n : ℕ). set (set (d .origins) (1293 + high) (kept (g .0))) n (kept (g .1))) c;
+                  e .2 ∙ ap (λ (n : ℕ). set (set (d .origins) n (kept (g .0))) (itemBase (d .state) + centerPlace + 1) (kept (g .1))) b
+                  ∙ ap (λ (n : ℕ). set (set (d .origins) (jointsPlace + high) (kept (g .0))) n (kept (g .1))) c;
               words≡ = e .3 ∙ ap (λ (n : ℕ). set (d .words) n 0) wbase ∙ ap (λ (n : ℕ). set (d .words) (0 + done) n) v;
               names≡ = e .4;
             })) refl (omega arith) (omega arith);
       }
 
   -- the number beside an angle does not matter
-  beside : eqb (getD (m .words) (j * 11 + 10) 0) 0 ≡ false → Matters m (j * 42 + 40 + 1) → ⊥
+  beside : eqb (getD (m .words) (j * wordsWidth + centerChoicePlace) 0) 0 ≡ false → Matters m (j * numbersWidth + centerPlace + 1) → ⊥
   beside z u =
-      let e : (j * 42 + 40 + 1) / 42 ≡ j = omega arith in
-      let t : eqb (getD (m .words) ((j * 42 + 40 + 1) / 42 * 11 + 10) 0) 0 ≡ true = u (omega arith) in
-      let s : eqb (getD (m .words) (j * 11 + 10) 0) 0 ≡ true = rw e at t in
+      let e : (j * numbersWidth + centerPlace + 1) / numbersWidth ≡ j = omega arith in
+      let t : eqb (getD (m .words) ((j * numbersWidth + centerPlace + 1) / numbersWidth * wordsWidth + centerChoicePlace) 0) 0 ≡ true = u (omega arith) in
+      let s : eqb (getD (m .words) (j * wordsWidth + centerChoicePlace) 0) 0 ≡ true = rw e at t in
       let y : _≡_ {A = ℕ} 0 1 = cc in
       omega arith
 
-  pub on-angle : eqb (getD (m .words) (j * 11 + 10) 0) 0 ≡ false
-      → Given1 text (d .names) (d .state) 40 (jointNumber m (j * 42 + 40)) byAngle
-      → On text m 3 j nb (j + 1) 3 (nb * 10) (j * 42 + 42) (j * 11 + 11) (j + 1) ls (lineRead text d)
+  pub on-angle : eqb (getD (m .words) (j * wordsWidth + centerChoicePlace) 0) 0 ≡ false
+      → Given1 text (d .names) (d .state) centerPlace (jointNumber m (j * numbersWidth + centerPlace)) byAngle
+      → On text m 3 j nb (j + 1) settingsWidth (nb * bodyWidth) (j * numbersWidth + numbersWidth) (j * wordsWidth + wordsWidth) (j + 1) ls (lineRead text d)
   unfolding numbersWith originsWith centerWith second canonical
   on-angle z g =
-      let high = j * 42 + 40 in
+      let high = j * numbersWidth + centerPlace in
       let x = jointNumber m high in
-      let done = j * 11 + 10 in
-      let e = given-moves text d 3 j nb (j + 1) l ls (o .here) p (given1 40 x (g .0) byAngle) (g .2) in
-      let b : itemBase (d .state) + 40 ≡ 1293 + high = ap (λ (n : ℕ). n + 40) cbase ∙ omega arith in
-      let f = joint-kept text m 3 (nb * 10) high done nb (j + 1) j d (o .kept) (g .0) (g .1) refl (omega arith) (omega arith) in
-      let f′ = skip-kept text m 3 (nb * 10) (high + 1) done nb (j + 1) j _ f (beside z) in
-      let here : 1293 + high ≡ 1333 + 42 * j = omega arith in
-      let q = set-given (d .origins) (1293 + high) (kept (g .0)) (omega (arith, o .kept .originsRoom)) (kept-some (g .0) (g .1)) in
-      let f″ = center-kept text m 3 (nb * 10) (high + 1 + 1) done nb (j + 1) j _ f′ (omega arith)
-      (subst (λ (n : ℕ). 0 < getD (set (d .origins) (1293 + high) (kept (g .0))) n 0) here q) in
-      let v : 1 ≡ jointWordAt m done = sym (canonical-at m j 10 (omega arith) ∙ ap (λ (t : Bool). cond t 0 1) z) in
+      let done = j * wordsWidth + centerChoicePlace in
+      let e = given-moves text d 3 j nb (j + 1) l ls (o .here) p (given1 centerPlace x (g .0) byAngle) (g .2) in
+      let b : itemBase (d .state) + centerPlace ≡ jointsPlace + high = ap (λ (n : ℕ). n + centerPlace) cbase ∙ omega arith in
+      let f = joint-kept text m settingsWidth (nb * bodyWidth) high done nb (j + 1) j d (o .kept) (g .0) (g .1) refl (omega arith) (omega arith) in
+      let f′ = skip-kept text m settingsWidth (nb * bodyWidth) (high + 1) done nb (j + 1) j _ f (beside z) in
+      let here : jointsPlace + high ≡ centersPlace + numbersWidth * j = omega arith in
+      let q = set-given (d .origins) (jointsPlace + high) (kept (g .0)) (omega (arith, o .kept .originsRoom)) (kept-some (g .0) (g .1)) in
+      let f″ = center-kept text m settingsWidth (nb * bodyWidth) (high + 1 + 1) done nb (j + 1) j _ f′ (omega arith)
+      (subst (λ (n : ℕ). 0 < getD (set (d .origins) (jointsPlace + high) (kept (g .0))) n 0) here q) in
+      let v : 1 ≡ jointWordAt m done = sym (canonical-at m j centerChoicePlace (omega arith) ∙ ap (λ (t : Bool). cond t 0 1) z) in
       record {
         here = e .0;
         kept =
-            kept-cast text m 3 (nb * 10) (high + 1 + 1) (done + 1) nb (j + 1) (j + 1) (nb * 10) (j * 42 + 42) (j * 11 + 11) (lineRead text d)
-            (kept-same-as text m 3 (nb * 10) (high + 1 + 1) (done + 1) nb (j + 1) (j + 1) _ (lineRead text d) f″
+            kept-cast text m settingsWidth (nb * bodyWidth) (high + 1 + 1) (done + 1) nb (j + 1) (j + 1) (nb * bodyWidth) (j * numbersWidth + numbersWidth) (j * wordsWidth + wordsWidth) (lineRead text d)
+            (kept-same-as text m settingsWidth (nb * bodyWidth) (high + 1 + 1) (done + 1) nb (j + 1) (j + 1) _ (lineRead text d) f″
             (record {
               numbers≡ = e .1 ∙ ap (λ (n : ℕ). set (d .numbers) n x) b;
               origins≡ = e .2 ∙ ap (λ (n : ℕ). set (d .origins) n (kept (g .0))) b;
@@ -295,20 +296,20 @@ module _ (text : List ℕ) (m : Model) (j nb : ℕ) (l : Line) (ls : List Line) 
 -- ---- items are opened
 
 module _ (text : List ℕ) (small : length text < 4294967295) (m : Model) (kind item nb : ℕ) (l : Line) (ls : List Line) (d : Draft) (p : properLine l ≡ true) where
-  pub on-open-body : On text m kind item nb 0 3 (nb * 10) 0 0 0 (l ∷ ls) d → nb < 128
+  pub on-open-body : On text m kind item nb 0 settingsWidth (nb * bodyWidth) 0 0 0 (l ∷ ls) d → nb < 128
       → ((w : Word) × Name text w (bodyWord nb) × (lineOf text (d .names) (d .state) ≡ OpenBody w (nb + 1)))
-      → On text m 2 nb (nb + 1) 0 3 (nb * 10 + 0) 0 0 0 ls (lineRead text d)
+      → On text m 2 nb (nb + 1) 0 settingsWidth (nb * bodyWidth + 0) 0 0 0 ls (lineRead text d)
   unfolding bodyBase
   on-open-body o few g =
       let e = body-moves text d kind item nb 0 l ls (o .here) p (g .0) (g .2) in
       let i : d .state .bodies ≡ nb = ap (λ (s : State). s .bodies) (o .here .state) in
-      let b : bodyBase (d .state .bodies) ≡ 3 + 10 * nb = ap bodyBase i ∙ ap (λ (t : Bool). cond t (3 + 10 * nb) 6711) (lt-ltb nb 129 (omega arith)) in
-      let f = body-opened text small m 3 (nb * 10) 0 0 nb 0 0 d (o .kept) (bodyBase (d .state .bodies)) bodyDefaults (g .0) few (g .1) refl (omega arith) refl refl in
+      let b : bodyBase (d .state .bodies) ≡ settingsWidth + bodyWidth * nb = ap bodyBase i ∙ ap (λ (t : Bool). cond t (settingsWidth + bodyWidth * nb) numbersSize) (lt-ltb nb mostItems (omega arith)) in
+      let f = body-opened text small m settingsWidth (nb * bodyWidth) 0 0 nb 0 0 d (o .kept) (bodyBase (d .state .bodies)) bodyDefaults (g .0) few (g .1) refl (omega arith) refl refl in
       record {
         here = e .0;
         kept =
-            kept-cast text m 3 (nb * 10) 0 0 (nb + 1) 0 0 (nb * 10 + 0) 0 0 (lineRead text d)
-            (kept-same-as text m 3 (nb * 10) 0 0 (nb + 1) 0 0 _ (lineRead text d) f
+            kept-cast text m settingsWidth (nb * bodyWidth) 0 0 (nb + 1) 0 0 (nb * bodyWidth + 0) 0 0 (lineRead text d)
+            (kept-same-as text m settingsWidth (nb * bodyWidth) 0 0 (nb + 1) 0 0 _ (lineRead text d) f
             (record {
               numbers≡ = e .1;
               origins≡ = e .2;
@@ -318,41 +319,41 @@ module _ (text : List ℕ) (small : length text < 4294967295) (m : Model) (kind 
       }
 
 module _ (text : List ℕ) (small : length text < 4294967295) (m : Model) (kind item nb j : ℕ) (l : Line) (ls : List Line) (d : Draft) (p : properLine l ≡ true) where
-  pub on-open-joint : On text m kind item nb j 3 (nb * 10) (j * 42) (j * 11) j (l ∷ ls) d → nb ≤ 128 → j < 128
+  pub on-open-joint : On text m kind item nb j settingsWidth (nb * bodyWidth) (j * numbersWidth) (j * wordsWidth) j (l ∷ ls) d → nb ≤ 128 → j < 128
       → ((w : Word) × (a1 : ℕ) × (a2 : ℕ) × Name text w (jointWord j)
-      × (lineOf text (d .names) (d .state) ≡ OpenJoint w (j + 1) (ends (getD (m .words) (j * 11 + 0) 0) (getD (m .words) (j * 11 + 1) 0) a1 a2)))
-      → On text m 3 j nb (j + 1) 3 (nb * 10) (j * 42 + 0) (j * 11 + 2) j ls (lineRead text d)
+      × (lineOf text (d .names) (d .state) ≡ OpenJoint w (j + 1) (ends (getD (m .words) (j * wordsWidth + 0) 0) (getD (m .words) (j * wordsWidth + 1) 0) a1 a2)))
+      → On text m 3 j nb (j + 1) settingsWidth (nb * bodyWidth) (j * numbersWidth + 0) (j * wordsWidth + 2) j ls (lineRead text d)
   unfolding jointBase wordWith originWith canonical
   on-open-joint o fb few g =
-      let b1 = getD (m .words) (j * 11 + 0) 0 in
-      let b2 = getD (m .words) (j * 11 + 1) 0 in
+      let b1 = getD (m .words) (j * wordsWidth + 0) 0 in
+      let b2 = getD (m .words) (j * wordsWidth + 1) 0 in
       let e = joint-moves text d kind item nb j l ls (o .here) p (g .0) b1 b2 (g .1) (g .2) (g .4) in
       let i : d .state .joints ≡ j = ap (λ (s : State). s .joints) (o .here .state) in
-      let b : jointBase (d .state .joints) ≡ 1293 + 42 * j = ap jointBase i ∙ ap (λ (t : Bool). cond t (1293 + 42 * j) 6711) (lt-ltb j 129 (omega arith)) in
-      let f = joint-opened text small m 3 (nb * 10) (j * 42) (j * 11) nb j j d (o .kept) (jointBase (d .state .joints)) jointDefaults (g .0) few fb (g .3) refl (omega arith) (omega arith) in
-      let f′ = kept-cast text m 3 (nb * 10) (j * 42) (j * 11) nb (j + 1) j (nb * 10) (j * 42 + 0) (j * 11 + 0) _ f refl (omega arith) (omega arith) in
-      let wb : wordsBase (d .state .joints) ≡ 11 * j = ap wordsBase i ∙ words-base j (omega arith) in
-      let p0 : wordsBase (d .state .joints) + 0 ≡ 0 + (j * 11 + 0) = omega arith in
-      let p1 : wordsBase (d .state .joints) + 1 ≡ 0 + (j * 11 + 0 + 1) = omega arith in
-      let g0 = word-kept text m 3 (nb * 10) (j * 42 + 0) (j * 11 + 0) nb (j + 1) j _ f′ (g .1) (6711 + (wordsBase (d .state .joints) + 0)) (omega arith) (omega arith) (omega arith) in
-      let g1 = word-kept text m 3 (nb * 10) (j * 42 + 0) (j * 11 + 0 + 1) nb (j + 1) j _ g0 (g .2) (6711 + (wordsBase (d .state .joints) + 1)) (omega arith) (omega arith) (omega arith) in
-      let v0 : b1 ≡ jointWordAt m (j * 11 + 0) = sym (canonical-at m j 0 (omega arith)) in
-      let s1 : j * 11 + 1 ≡ j * 11 + 0 + 1 = omega arith in
-      let v1 : b2 ≡ jointWordAt m (j * 11 + 0 + 1) = sym (canonical-at m j 1 (omega arith)) ∙ ap (jointWordAt m) s1 in
+      let b : jointBase (d .state .joints) ≡ jointsPlace + numbersWidth * j = ap jointBase i ∙ ap (λ (t : Bool). cond t (jointsPlace + numbersWidth * j) numbersSize) (lt-ltb j mostItems (omega arith)) in
+      let f = joint-opened text small m settingsWidth (nb * bodyWidth) (j * numbersWidth) (j * wordsWidth) nb j j d (o .kept) (jointBase (d .state .joints)) jointDefaults (g .0) few fb (g .3) refl (omega arith) (omega arith) in
+      let f′ = kept-cast text m settingsWidth (nb * bodyWidth) (j * numbersWidth) (j * wordsWidth) nb (j + 1) j (nb * bodyWidth) (j * numbersWidth + 0) (j * wordsWidth + 0) _ f refl (omega arith) (omega arith) in
+      let wb : wordsBase (d .state .joints) ≡ wordsWidth * j = ap wordsBase i ∙ words-base j (omega arith) in
+      let p0 : wordsBase (d .state .joints) + 0 ≡ 0 + (j * wordsWidth + 0) = omega arith in
+      let p1 : wordsBase (d .state .joints) + 1 ≡ 0 + (j * wordsWidth + 0 + 1) = omega arith in
+      let g0 = word-kept text m settingsWidth (nb * bodyWidth) (j * numbersWidth + 0) (j * wordsWidth + 0) nb (j + 1) j _ f′ (g .1) (numbersSize + (wordsBase (d .state .joints) + 0)) (omega arith) (omega arith) (omega arith) in
+      let g1 = word-kept text m settingsWidth (nb * bodyWidth) (j * numbersWidth + 0) (j * wordsWidth + 0 + 1) nb (j + 1) j _ g0 (g .2) (numbersSize + (wordsBase (d .state .joints) + 1)) (omega arith) (omega arith) (omega arith) in
+      let v0 : b1 ≡ jointWordAt m (j * wordsWidth + 0) = sym (canonical-at m j 0 (omega arith)) in
+      let s1 : j * wordsWidth + 1 ≡ j * wordsWidth + 0 + 1 = omega arith in
+      let v1 : b2 ≡ jointWordAt m (j * wordsWidth + 0 + 1) = sym (canonical-at m j 1 (omega arith)) ∙ ap (jointWordAt m) s1 in
       record {
         here = e .0;
         kept =
-            kept-cast text m 3 (nb * 10) (j * 42 + 0) (j * 11 + 0 + 1 + 1) nb (j + 1) j (nb * 10) (j * 42 + 0) (j * 11 + 2) (lineRead text d)
-            (kept-same-as text m 3 (nb * 10) (j * 42 + 0) (j * 11 + 0 + 1 + 1) nb (j + 1) j _ (lineRead text d) g1
+            kept-cast text m settingsWidth (nb * bodyWidth) (j * numbersWidth + 0) (j * wordsWidth + 0 + 1 + 1) nb (j + 1) j (nb * bodyWidth) (j * numbersWidth + 0) (j * wordsWidth + 2) (lineRead text d)
+            (kept-same-as text m settingsWidth (nb * bodyWidth) (j * numbersWidth + 0) (j * wordsWidth + 0 + 1 + 1) nb (j + 1) j _ (lineRead text d) g1
             (record {
               numbers≡ = e .1;
               origins≡ = e .2;
               words≡ =
                   e .3
                   ∙ ap (λ (n : ℕ). set (set (d .words) n b1) (wordsBase (d .state .joints) + 1) b2) p0
-                  ∙ ap (λ (n : ℕ). set (set (d .words) (0 + (j * 11 + 0)) b1) n b2) p1
-                  ∙ ap (λ (n : ℕ). set (set (d .words) (0 + (j * 11 + 0)) n) (0 + (j * 11 + 0 + 1)) b2) v0
-                  ∙ ap (λ (n : ℕ). set (set (d .words) (0 + (j * 11 + 0)) (jointWordAt m (j * 11 + 0))) (0 + (j * 11 + 0 + 1)) n) v1;
-              names≡ = e .4 ∙ ap (λ (n : ℕ). nameWith 258 n (g .0) (d .names)) i;
+                  ∙ ap (λ (n : ℕ). set (set (d .words) (0 + (j * wordsWidth + 0)) b1) n b2) p1
+                  ∙ ap (λ (n : ℕ). set (set (d .words) (0 + (j * wordsWidth + 0)) n) (0 + (j * wordsWidth + 0 + 1)) b2) v0
+                  ∙ ap (λ (n : ℕ). set (set (d .words) (0 + (j * wordsWidth + 0)) (jointWordAt m (j * wordsWidth + 0))) (0 + (j * wordsWidth + 0 + 1)) n) v1;
+              names≡ = e .4 ∙ ap (λ (n : ℕ). nameWith jointNames n (g .0) (d .names)) i;
             })) refl refl (omega arith);
       }

@@ -9,10 +9,11 @@ use lib.Dec.{eqb}
 use lib.Ieee.{Float, nan}
 use lib.ListN.{length, set, length-set}
 use lib.Seq.{getD-set-same, getD-set-other}
+use Rattle.model.specs.Layout.{bodyWidth, numbersWidth}
 use Rattle.multibody.specs.Model.{Model}
 use Rattle.study_reader.specs.Words.{bytesOf}
 use Rattle.study_reader.specs.Names.{nameAt}
-use Rattle.study_reader.specs.Storage.{kept}
+use Rattle.study_reader.specs.Storage.{mostItems, settingsWidth, jointsPlace, jointNames, namesSize, kept}
 use Rattle.study_reader.specs.Draft.{Draft, Default, draft, puts}
 use Rattle.study_reader.specs.Study.{nameWith}
 use Rattle.study_reader.specs.declared.words.Word.{Word}
@@ -59,7 +60,7 @@ module _ (text names : List ℕ) (small : length text < 4294967295) (w : Word) w
       let b = kept-same (w .end) (omega (arith, h .ends)) in
       rw (a, b) (h .bytes)
 
-  pub body-named : (n : ℕ) → n < 129 → 516 ≤ length names → BodyNames text names n → Name text w (bodyWord n) → BodyNames text (nameWith 0 n w names) (n + 1)
+  pub body-named : (n : ℕ) → n < mostItems → namesSize ≤ length names → BodyNames text names n → Name text w (bodyWord n) → BodyNames text (nameWith 0 n w names) (n + 1)
   unfolding nameWith
   body-named n l r h e k q = go (eqb k n) refl
     where
@@ -78,27 +79,27 @@ module _ (text names : List ℕ) (small : length text < 4294967295) (w : Word) w
           let z = below k n (omega arith) (eqb-false k n t) in
           ap (bytesOf text) (name-old names (0 + 2 * n) (kept (w .start)) (kept (w .end)) (2 * k) (omega arith)) ∙ h k z
 
-  pub joint-named : (n : ℕ) → n < 129 → 516 ≤ length names → JointNames text names n → Name text w (jointWord n) → JointNames text (nameWith 258 n w names) (n + 1)
+  pub joint-named : (n : ℕ) → n < mostItems → namesSize ≤ length names → JointNames text names n → Name text w (jointWord n) → JointNames text (nameWith jointNames n w names) (n + 1)
   unfolding nameWith
   joint-named n l r h e k q = go (eqb k n) refl
     where
-      go : (t : Bool) → eqb k n ≡ t → bytesOf text (nameAt (set (set names (258 + 2 * n) (kept (w .start))) (258 + 2 * n + 1) (kept (w .end))) (258 + 2 * k)) ≡ jointWord k
+      go : (t : Bool) → eqb k n ≡ t → bytesOf text (nameAt (set (set names (jointNames + 2 * n) (kept (w .start))) (jointNames + 2 * n + 1) (kept (w .end))) (jointNames + 2 * k)) ≡ jointWord k
       go true t =
           let z = eqb-true k n t in
-          let y : 258 + 2 * k ≡ 258 + 2 * n = omega arith in
-          ap (λ (i : ℕ). bytesOf text (nameAt (set (set names (258 + 2 * n) (kept (w .start))) (258 + 2 * n + 1) (kept (w .end))) i)) y
-          ∙ ap (bytesOf text) (name-new names (258 + 2 * n) (kept (w .start)) (kept (w .end)) (omega arith))
+          let y : jointNames + 2 * k ≡ jointNames + 2 * n = omega arith in
+          ap (λ (i : ℕ). bytesOf text (nameAt (set (set names (jointNames + 2 * n) (kept (w .start))) (jointNames + 2 * n + 1) (kept (w .end))) i)) y
+          ∙ ap (bytesOf text) (name-new names (jointNames + 2 * n) (kept (w .start)) (kept (w .end)) (omega arith))
           ∙ kept-bytes (jointWord n) e
           ∙ ap jointWord (sym z)
       go false t =
           let z = below k n (omega arith) (eqb-false k n t) in
-          ap (bytesOf text) (name-old names (258 + 2 * n) (kept (w .start)) (kept (w .end)) (258 + 2 * k) (omega arith)) ∙ h k z
+          ap (bytesOf text) (name-old names (jointNames + 2 * n) (kept (w .start)) (kept (w .end)) (jointNames + 2 * k) (omega arith)) ∙ h k z
 
   -- the bodies' names stand before the joints'
-  pub bodies-named : (n j : ℕ) → n ≤ 128 → BodyNames text names n → BodyNames text (nameWith 258 j w names) n
+  pub bodies-named : (n j : ℕ) → n ≤ 128 → BodyNames text names n → BodyNames text (nameWith jointNames j w names) n
   unfolding nameWith
   bodies-named n j l h k q =
-      ap (bytesOf text) (name-old names (258 + 2 * j) (kept (w .start)) (kept (w .end)) (2 * k) (omega arith)) ∙ h k q
+      ap (bytesOf text) (name-old names (jointNames + 2 * j) (kept (w .start)) (kept (w .end)) (2 * k) (omega arith)) ∙ h k q
 
 pub named-length : (from i : ℕ) (w : Word) (names : List ℕ) → length (nameWith from i w names) ≡ length names
 unfolding nameWith
@@ -107,7 +108,7 @@ named-length from i w names = simp length-set
 -- ---- what is held
 
 module _ (text : List ℕ) (small : length text < 4294967295) (m : Model) (s low high done nb nj cs : ℕ) (d : Draft) (k : Kept text m s low high done nb nj cs d) where
-  pub body-opened : (base : ℕ) (ds : List Default) (w : Word) → nb < 128 → Name text w (bodyWord nb) → s ≡ 3 → 3 + low ≤ base → high ≡ 0 → nj ≡ 0
+  pub body-opened : (base : ℕ) (ds : List Default) (w : Word) → nb < 128 → Name text w (bodyWord nb) → s ≡ settingsWidth → settingsWidth + low ≤ base → high ≡ 0 → nj ≡ 0
       → Kept text m s low high done (nb + 1) nj cs (draft (d .state) (puts base ds (d .numbers)) (d .origins) (d .words) (nameWith 0 nb w (d .names)))
   body-opened base ds w l n e r z z′ =
       record {
@@ -116,7 +117,7 @@ module _ (text : List ℕ) (small : length text < 4294967295) (m : Model) (s low
         wordsRoom = k .wordsRoom;
         namesRoom = rw (named-length 0 nb w (d .names)) (k .namesRoom);
         settings = puts-held base ds (d .numbers) 0 s Every (setting m) (k .settings) (omega arith);
-        bodies = puts-held base ds (d .numbers) 3 low Every (bodyNumber m) (k .bodies) r;
+        bodies = puts-held base ds (d .numbers) settingsWidth low Every (bodyNumber m) (k .bodies) r;
         joints = λ c q u. absurd (let y : ⊥ = omega arith in y);
         words = k .words;
         bodyNames = body-named text (d .names) small w nb (omega arith) (k .namesRoom) (k .bodyNames) n;
@@ -124,17 +125,17 @@ module _ (text : List ℕ) (small : length text < 4294967295) (m : Model) (s low
         centers = k .centers;
       }
 
-  pub joint-opened : (base : ℕ) (ds : List Default) (w : Word) → nj < 128 → nb ≤ 128 → Name text w (jointWord nj) → s ≡ 3 → low ≤ 1290 → 1293 + high ≤ base
-      → Kept text m s low high done nb (nj + 1) cs (draft (d .state) (puts base ds (d .numbers)) (d .origins) (d .words) (nameWith 258 nj w (d .names)))
+  pub joint-opened : (base : ℕ) (ds : List Default) (w : Word) → nj < 128 → nb ≤ 128 → Name text w (jointWord nj) → s ≡ settingsWidth → low ≤ mostItems * bodyWidth → jointsPlace + high ≤ base
+      → Kept text m s low high done nb (nj + 1) cs (draft (d .state) (puts base ds (d .numbers)) (d .origins) (d .words) (nameWith jointNames nj w (d .names)))
   joint-opened base ds w l l′ n e r r′ =
       record {
         numbersRoom = rw (puts-length base ds (d .numbers)) (k .numbersRoom);
         originsRoom = k .originsRoom;
         wordsRoom = k .wordsRoom;
-        namesRoom = rw (named-length 258 nj w (d .names)) (k .namesRoom);
+        namesRoom = rw (named-length jointNames nj w (d .names)) (k .namesRoom);
         settings = puts-held base ds (d .numbers) 0 s Every (setting m) (k .settings) (omega arith);
-        bodies = puts-held base ds (d .numbers) 3 low Every (bodyNumber m) (k .bodies) (omega arith);
-        joints = puts-held base ds (d .numbers) 1293 high (Matters m) (jointNumber m) (k .joints) r′;
+        bodies = puts-held base ds (d .numbers) settingsWidth low Every (bodyNumber m) (k .bodies) (omega arith);
+        joints = puts-held base ds (d .numbers) jointsPlace high (Matters m) (jointNumber m) (k .joints) r′;
         words = k .words;
         bodyNames = bodies-named text (d .names) small w nb nj l′ (k .bodyNames);
         jointNames = joint-named text (d .names) small w nj (omega arith) (k .namesRoom) (k .jointNames) n;

@@ -10,7 +10,7 @@ use lib.Ieee.{Float, nan}
 use lib.ListN.{length, getD, drop, length-drop, replicate, length-replicate}
 use Rattle.floats.specs.Operators.{bits}
 use lib.Seq.{getD-drop}
-use Rattle.model.specs.Layout.{bodyWidth, wordsWidth, numbersWidth}
+use Rattle.model.specs.Layout.{bodyWidth, wordsWidth, body1Place, body2Place, masksPlace, modelsPlace, enabledPlace, centerChoicePlace, numbersWidth, centerPlace}
 use Rattle.model.specs.Records.{num, word}
 use Rattle.model.specs.Store.{world, jointAt, centerAt, body1At, body2At}
 use Rattle.multibody.specs.Model.{Model}
@@ -19,7 +19,7 @@ use Rattle.multibody.specs.Rules.{all}
 use Rattle.multibody.specs.Refusals.{presentOrWorld, bodiesPresent}
 use Rattle.model.specs.Planar.{planar}
 use Rattle.model.specs.Refusals.{masksFit}
-use Rattle.study_reader.specs.Storage.{jointBase}
+use Rattle.study_reader.specs.Storage.{mostItems, settingsWidth, jointsPlace, numbersSize, wordsSize, namesSize, jointBase}
 use Rattle.study_reader.specs.Draft.{Draft, draft, withState, start, puts, settingsDefaults}
 use Rattle.study_reader.specs.Study.{lineRead, linesRead, ended, isLeftOut, centerJoint, centerJoints, readStudy, studyOf}
 use Rattle.study_reader.specs.declared.draft.State.{State}
@@ -27,7 +27,7 @@ use Rattle.study_writer.specs.Text.{Line, linesText, settingsLines, body
 use Rattle.study_writer.specs.ReadBack.{AllF32, Printable, Room, settingsRead, bodiesRead, jointsRead, IsRead, ReadsBack, StudyBack}
 use Rattle.study_writer.proofs.Lexical.{both}
 use Rattle.study_writer.proofs.Steps.{on}
-use Rattle.study_writer.proofs.Kept.{canonical, Kept, kept-cast}
+use Rattle.study_writer.proofs.Kept.{canonical, centersPlace, Kept, kept-cast}
 use Rattle.study_writer.proofs.Opened.{puts-length}
 use Rattle.study_writer.proofs.Ons.{On, canonical-at}
 use Rattle.study_writer.proofs.ItemLaws.{readAll, settings-read, body-read, joint-read}
@@ -70,7 +70,7 @@ record Between (text : List ℕ) (m : Model) (nb nj low high done : ℕ) (ls : L
   kind : ℕ
   item : ℕ
   no-call : eqb kind 4 ≡ false
-  on′ : On text m kind item nb nj 3 low high done nj ls d
+  on′ : On text m kind item nb nj settingsWidth low high done nj ls d
 
 module _ (text : List ℕ) (small : length text < 4294967295) (m : Model) (f32 : AllF32 m) where
   abbrev body : ℕ → List Line
@@ -80,37 +80,37 @@ module _ (text : List ℕ) (small : length text < 4294967295) (m : Model) (f32 :
   joint j = jointLines j (word wordsWidth (m .words) j) (num numbersWidth (m .numbers) j)
 
   -- one body, and the others
-  next-body : (i : ℕ) (ls : List Line) (d : Draft) → i < 128 → Between text m i 0 (i * 10) 0 0 (body i ++ ls) d
-      → Between text m (i + 1) 0 ((i + 1) * 10) 0 0 ls (readAll text (body i) d)
+  next-body : (i : ℕ) (ls : List Line) (d : Draft) → i < 128 → Between text m i 0 (i * bodyWidth) 0 0 (body i ++ ls) d
+      → Between text m (i + 1) 0 ((i + 1) * bodyWidth) 0 0 ls (readAll text (body i) d)
   next-body i ls d h b =
       let r = body-read text small m f32 i h {ls = ls} {d = d} (b .no-call) (b .on′) in
       record {
         kind = 2;
         item = i;
         no-call = refl;
-        on′ = record { here = r .here; kept = kept-cast text m 3 (i * 10 + 10) 0 0 (i + 1) 0 0 ((i + 1) * 10) 0 0 (readAll text (body i) d) (r .kept) (omega arith) refl refl };
+        on′ = record { here = r .here; kept = kept-cast text m settingsWidth (i * bodyWidth + bodyWidth) 0 0 (i + 1) 0 0 ((i + 1) * bodyWidth) 0 0 (readAll text (body i) d) (r .kept) (omega arith) refl refl };
       }
 
-  first-body : (n i : ℕ) (ls : List Line) (d : Draft) → Between text m i 0 (i * 10) 0 0 (bodiesFrom (m .bodies) i (suc n) ++ ls) d
-      → Between text m i 0 (i * 10) 0 0 (body i ++ (bodiesFrom (m .bodies) (i + 1) n ++ ls)) d
+  first-body : (n i : ℕ) (ls : List Line) (d : Draft) → Between text m i 0 (i * bodyWidth) 0 0 (bodiesFrom (m .bodies) i (suc n) ++ ls) d
+      → Between text m i 0 (i * bodyWidth) 0 0 (body i ++ (bodiesFrom (m .bodies) (i + 1) n ++ ls)) d
   unfolding bodiesFrom
   first-body n i ls d b = rw append-assoc at b
 
   more-bodies : (n i : ℕ) (ls : List Line) (d : Draft)
-      → Between text m (i + 1 + n) 0 ((i + 1 + n) * 10) 0 0 ls (readAll text (bodiesFrom (m .bodies) (i + 1) n) (readAll text (body i) d))
-      → Between text m (i + suc n) 0 ((i + suc n) * 10) 0 0 ls (readAll text (bodiesFrom (m .bodies) i (suc n)) d)
+      → Between text m (i + 1 + n) 0 ((i + 1 + n) * bodyWidth) 0 0 ls (readAll text (bodiesFrom (m .bodies) (i + 1) n) (readAll text (body i) d))
+      → Between text m (i + suc n) 0 ((i + suc n) * bodyWidth) 0 0 ls (readAll text (bodiesFrom (m .bodies) i (suc n)) d)
   unfolding bodiesFrom
   more-bodies n i ls d b =
       let e : i + suc n ≡ i + 1 + n = omega arith in
       rw (all-append text (body i) (bodiesFrom (m .bodies) (i + 1) n) d, e) b
 
-  no-bodies : (i : ℕ) (ls : List Line) (d : Draft) → Between text m i 0 (i * 10) 0 0 (bodiesFrom (m .bodies) i 0 ++ ls) d
-      → Between text m (i + 0) 0 ((i + 0) * 10) 0 0 ls (readAll text (bodiesFrom (m .bodies) i 0) d)
+  no-bodies : (i : ℕ) (ls : List Line) (d : Draft) → Between text m i 0 (i * bodyWidth) 0 0 (bodiesFrom (m .bodies) i 0 ++ ls) d
+      → Between text m (i + 0) 0 ((i + 0) * bodyWidth) 0 0 ls (readAll text (bodiesFrom (m .bodies) i 0) d)
   unfolding bodiesFrom readAll
   no-bodies i ls d b = let e : i + 0 ≡ i = omega arith in rw e b
 
-  bodies-read : (n i : ℕ) (ls : List Line) (d : Draft) → i + n ≤ 128 → Between text m i 0 (i * 10) 0 0 (bodiesFrom (m .bodies) i n ++ ls) d
-      → Between text m (i + n) 0 ((i + n) * 10) 0 0 ls (readAll text (bodiesFrom (m .bodies) i n) d)
+  bodies-read : (n i : ℕ) (ls : List Line) (d : Draft) → i + n ≤ 128 → Between text m i 0 (i * bodyWidth) 0 0 (bodiesFrom (m .bodies) i n ++ ls) d
+      → Between text m (i + n) 0 ((i + n) * bodyWidth) 0 0 ls (readAll text (bodiesFrom (m .bodies) i n) d)
   bodies-read zero i ls d h b = no-bodies i ls d b
   bodies-read (suc n) i ls d h b =
       more-bodies n i ls d
@@ -120,7 +120,7 @@ module _ (text : List ℕ) (small : length text < 4294967295) (m : Model) (f32 :
   -- one joint, and the others
   module _ (nb : ℕ) (fb : nb ≤ 128) where
     abbrev Joints : ℕ → List Line → Draft → Type 0
-    Joints j ls d = Between text m nb j (nb * 10) (j * 42) (j * 11) ls d
+    Joints j ls d = Between text m nb j (nb * bodyWidth) (j * numbersWidth) (j * wordsWidth) ls d
 
     next-joint : (j : ℕ) (ls : List Line) (d : Draft) → j < 128 → Fine m nb j → Joints j (joint j ++ ls) d → Joints (j + 1) ls (readAll text (joint j) d)
     next-joint j ls d h w b =
@@ -133,7 +133,7 @@ module _ (text : List ℕ) (small : length text < 4294967295) (m : Model) (f32 :
               record {
                 here = r .here;
                 kept =
-                    kept-cast text m 3 (nb * 10) (j * 42 + 42) (j * 11 + 11) nb (j + 1) (j + 1) (nb * 10) ((j + 1) * 42) ((j + 1) * 11) (readAll text (joint j) d) (r .kept) refl
+                    kept-cast text m settingsWidth (nb * bodyWidth) (j * numbersWidth + numbersWidth) (j * wordsWidth + wordsWidth) nb (j + 1) (j + 1) (nb * bodyWidth) ((j + 1) * numbersWidth) ((j + 1) * wordsWidth) (readAll text (joint j) d) (r .kept) refl
                     (omega arith) (omega arith);
               };
         }
@@ -170,10 +170,10 @@ module _ (text : List ℕ) (m : Model) (s low high done nb nj cs : ℕ) (d : Dra
   no-center : (j : ℕ) → j < cs → centerJoint j d ≡ d
   unfolding centerJoint isLeftOut jointBase
   no-center j l =
-      let b : jointBase j + 40 ≡ 1333 + 42 * j = ap (λ (t : Bool). cond t (1293 + 42 * j) 6711 + 40) (lt-ltb j 129 (omega arith)) ∙ omega arith in
+      let b : jointBase j + centerPlace ≡ centersPlace + numbersWidth * j = ap (λ (t : Bool). cond t (jointsPlace + numbersWidth * j) numbersSize + centerPlace) (lt-ltb j mostItems (omega arith)) ∙ omega arith in
       let g = k .centers j l in
-      let e : eqb (getD (d .origins) (jointBase j + 40) 0) 0 ≡ false =
-      ap (λ (n : ℕ). eqb (getD (d .origins) n 0) 0) b ∙ ne-eqb (getD (d .origins) (1333 + 42 * j) 0) 0 (λ q. omega arith) in
+      let e : eqb (getD (d .origins) (jointBase j + centerPlace) 0) 0 ≡ false =
+      ap (λ (n : ℕ). eqb (getD (d .origins) n 0) 0) b ∙ ne-eqb (getD (d .origins) (centersPlace + numbersWidth * j) 0) 0 (λ q. omega arith) in
       simp e
 
   no-centers : (n j : ℕ) → j + n ≤ cs → centerJoints j n d ≡ d
@@ -187,65 +187,65 @@ fine : (m : Model) (j : ℕ) → masksFit (m .words) j ≡ true → bodiesPresen
 unfolding masksFit all bodiesPresent presentOrWorld body1At body2At
 fine m j h p =
     let w : ℕ → ℕ = word wordsWidth (m .words) j in
-    let a = both (not (ltb 7 (w 2))) (not (ltb 7 (w 3)) && (not (ltb 7 (w 4)) && (not (ltb 7 (w 5)) && true))) h in
-    let b = both (not (ltb 7 (w 3))) (not (ltb 7 (w 4)) && (not (ltb 7 (w 5)) && true)) (a .1) in
-    let c = both (not (ltb 7 (w 4))) (not (ltb 7 (w 5)) && true) (b .1) in
-    let d = both (not (ltb 7 (w 5))) true (c .1) in
-    let e = both (eqb (w 0) world || ltb (w 0) (bodyCount planar (m .bodies))) (eqb (w 1) world || ltb (w 1) (bodyCount planar (m .bodies))) p in
+    let a = both (not (ltb 7 (w masksPlace))) (not (ltb 7 (w (masksPlace + 1))) && (not (ltb 7 (w (masksPlace + 2))) && (not (ltb 7 (w (masksPlace + 3))) && true))) h in
+    let b = both (not (ltb 7 (w (masksPlace + 1)))) (not (ltb 7 (w (masksPlace + 2))) && (not (ltb 7 (w (masksPlace + 3))) && true)) (a .1) in
+    let c = both (not (ltb 7 (w (masksPlace + 2)))) (not (ltb 7 (w (masksPlace + 3))) && true) (b .1) in
+    let d = both (not (ltb 7 (w (masksPlace + 3)))) true (c .1) in
+    let e = both (eqb (w body1Place) world || ltb (w body1Place) (bodyCount planar (m .bodies))) (eqb (w body2Place) world || ltb (w body2Place) (bodyCount planar (m .bodies))) p in
     record {
       first = e .0;
       second = e .1;
-      mask2 = ltb-false 7 (w 2) (not-true (ltb 7 (w 2)) (a .0));
-      mask3 = ltb-false 7 (w 3) (not-true (ltb 7 (w 3)) (b .0));
-      mask4 = ltb-false 7 (w 4) (not-true (ltb 7 (w 4)) (c .0));
-      mask5 = ltb-false 7 (w 5) (not-true (ltb 7 (w 5)) (d .0));
+      mask2 = ltb-false 7 (w masksPlace) (not-true (ltb 7 (w masksPlace)) (a .0));
+      mask3 = ltb-false 7 (w (masksPlace + 1)) (not-true (ltb 7 (w (masksPlace + 1))) (b .0));
+      mask4 = ltb-false 7 (w (masksPlace + 2)) (not-true (ltb 7 (w (masksPlace + 2))) (c .0));
+      mask5 = ltb-false 7 (w (masksPlace + 3)) (not-true (ltb 7 (w (masksPlace + 3))) (d .0));
     }
 
 -- ---- the storage holds the model
 
-module _ (text : List ℕ) (m : Model) (nb nj : ℕ) (d : Draft) (k : Kept text m 3 (nb * 10) (nj * 42) (nj * 11) nb nj nj d) where
+module _ (text : List ℕ) (m : Model) (nb nj : ℕ) (d : Draft) (k : Kept text m settingsWidth (nb * bodyWidth) (nj * numbersWidth) (nj * wordsWidth) nb nj nj d) where
   settings-held : settingsRead d ≡ m .params
   settings-held = simp (k .settings 0 (omega arith) tt, k .settings 1 (omega arith) tt, k .settings 2 (omega arith) tt)
 
-  body-held : (i c : ℕ) → i < nb → c < 10 → num bodyWidth (bodiesRead d) i c ≡ num bodyWidth (m .bodies) i c
-  body-held i c l r = getD-drop 3 (d .numbers) (i * 10 + c) nan ∙ k .bodies (i * 10 + c) (omega arith) tt
+  body-held : (i c : ℕ) → i < nb → c < bodyWidth → num bodyWidth (bodiesRead d) i c ≡ num bodyWidth (m .bodies) i c
+  body-held i c l r = getD-drop settingsWidth (d .numbers) (i * bodyWidth + c) nan ∙ k .bodies (i * bodyWidth + c) (omega arith) tt
 
   module _ (j : ℕ) (l : j < nj) where
-    number-held : (c : ℕ) → c < 41 → num numbersWidth (jointsRead d) j c ≡ num numbersWidth (m .numbers) j c
-    number-held c r = getD-drop 1293 (d .numbers) (j * 42 + c) nan ∙ k .joints (j * 42 + c) (omega arith) (λ q. absurd (let z : ⊥ = omega arith in z))
+    number-held : (c : ℕ) → c < centerPlace + 1 → num numbersWidth (jointsRead d) j c ≡ num numbersWidth (m .numbers) j c
+    number-held c r = getD-drop jointsPlace (d .numbers) (j * numbersWidth + c) nan ∙ k .joints (j * numbersWidth + c) (omega arith) (λ q. absurd (let z : ⊥ = omega arith in z))
 
-    last-held : eqb (word wordsWidth (m .words) j 10) 0 ≡ true → num numbersWidth (jointsRead d) j 41 ≡ num numbersWidth (m .numbers) j 41
+    last-held : eqb (word wordsWidth (m .words) j centerChoicePlace) 0 ≡ true → num numbersWidth (jointsRead d) j (centerPlace + 1) ≡ num numbersWidth (m .numbers) j (centerPlace + 1)
     last-held e =
-        let s : (j * 42 + 41) / 42 ≡ j = omega arith in
-        getD-drop 1293 (d .numbers) (j * 42 + 41) nan
-        ∙ k .joints (j * 42 + 41) (omega arith) (λ q. ap (λ (n : ℕ). eqb (getD (m .words) (n * 11 + 10) 0) 0) s ∙ e)
+        let s : (j * numbersWidth + (centerPlace + 1)) / numbersWidth ≡ j = omega arith in
+        getD-drop jointsPlace (d .numbers) (j * numbersWidth + (centerPlace + 1)) nan
+        ∙ k .joints (j * numbersWidth + (centerPlace + 1)) (omega arith) (λ q. ap (λ (n : ℕ). eqb (getD (m .words) (n * wordsWidth + centerChoicePlace) 0) 0) s ∙ e)
 
-    word-held : (c : ℕ) → c < 11 → word wordsWidth (d .words) j c ≡ canonical c (word wordsWidth (m .words) j c)
+    word-held : (c : ℕ) → c < wordsWidth → word wordsWidth (d .words) j c ≡ canonical c (word wordsWidth (m .words) j c)
     word-held c r =
-        let s : j * 11 + c ≡ 0 + (j * 11 + c) = omega arith in
-        ap (λ (n : ℕ). getD (d .words) n 0) s ∙ k .words (j * 11 + c) (omega arith) tt ∙ canonical-at m j c r
+        let s : j * wordsWidth + c ≡ 0 + (j * wordsWidth + c) = omega arith in
+        ap (λ (n : ℕ). getD (d .words) n 0) s ∙ k .words (j * wordsWidth + c) (omega arith) tt ∙ canonical-at m j c r
 
     joint-held : jointAt (d .words) (jointsRead d) j ≡ jointAt (m .words) (m .numbers) j
     unfolding jointAt canonical
     joint-held =
         joint-same (num numbersWidth (jointsRead d) j) (num numbersWidth (m .numbers) j) (word wordsWidth (d .words) j) (word wordsWidth (m .words) j) number-held last-held
-        (word-held 2 (omega arith)) (word-held 3 (omega arith)) (word-held 4 (omega arith)) (word-held 5 (omega arith)) (word-held 6 (omega arith)) (word-held 7 (omega arith))
-        (word-held 8 (omega arith)) (word-held 9 (omega arith)) (word-held 10 (omega arith))
+        (word-held masksPlace (omega arith)) (word-held (masksPlace + 1) (omega arith)) (word-held (masksPlace + 2) (omega arith)) (word-held (masksPlace + 3) (omega arith)) (word-held modelsPlace (omega arith)) (word-held (modelsPlace + 1) (omega arith))
+        (word-held (modelsPlace + 2) (omega arith)) (word-held enabledPlace (omega arith)) (word-held centerChoicePlace (omega arith))
 
     center-held : centerAt (d .words) (jointsRead d) j ≡ centerAt (m .words) (m .numbers) j
     unfolding centerAt canonical
     center-held =
         center-same (num numbersWidth (jointsRead d) j) (num numbersWidth (m .numbers) j) (word wordsWidth (d .words) j) (word wordsWidth (m .words) j) number-held last-held
-        (word-held 2 (omega arith)) (word-held 3 (omega arith)) (word-held 4 (omega arith)) (word-held 5 (omega arith)) (word-held 6 (omega arith)) (word-held 7 (omega arith))
-        (word-held 8 (omega arith)) (word-held 9 (omega arith)) (word-held 10 (omega arith))
+        (word-held masksPlace (omega arith)) (word-held (masksPlace + 1) (omega arith)) (word-held (masksPlace + 2) (omega arith)) (word-held (masksPlace + 3) (omega arith)) (word-held modelsPlace (omega arith)) (word-held (modelsPlace + 1) (omega arith))
+        (word-held (modelsPlace + 2) (omega arith)) (word-held enabledPlace (omega arith)) (word-held centerChoicePlace (omega arith))
 
     body1-held : body1At (d .words) j ≡ body1At (m .words) j
     unfolding body1At canonical
-    body1-held = word-held 0 (omega arith)
+    body1-held = word-held body1Place (omega arith)
 
     body2-held : body2At (d .words) j ≡ body2At (m .words) j
     unfolding body2At canonical
-    body2-held = word-held 1 (omega arith)
+    body2-held = word-held body2Place (omega arith)
 
 -- ---- from the first line to the last
 
@@ -313,24 +313,24 @@ module _ (m : Model) (p : Printable m) (numbers : List Float) (origins words nam
             (start-on (settingsLines (m .params) ++ (bodyPart ++ (jointPart ++ []))) (ap (λ (l : List Line). linesText (settingsLines (m .params) ++ (bodyPart ++ l))) (sym (append-nil jointPart))));
       }
 
-  after-bodies : Between text m nb 0 (nb * 10) 0 0 (jointPart ++ []) (readAll text bodyPart d1)
+  after-bodies : Between text m nb 0 (nb * bodyWidth) 0 0 (jointPart ++ []) (readAll text bodyPart d1)
   after-bodies =
       let e : 0 + nb ≡ nb = omega arith in
       let b = bodies-read text (sizes .0) m (p .f32) nb 0 (jointPart ++ []) d1 (omega (arith, p .few-bodies)) after-settings in
-      subst (λ (n : ℕ). Between text m n 0 (n * 10) 0 0 (jointPart ++ []) (readAll text bodyPart d1)) e b
+      subst (λ (n : ℕ). Between text m n 0 (n * bodyWidth) 0 0 (jointPart ++ []) (readAll text bodyPart d1)) e b
 
-  after-joints : Between text m nb nj (nb * 10) (nj * 42) (nj * 11) [] (readAll text jointPart (readAll text bodyPart d1))
+  after-joints : Between text m nb nj (nb * bodyWidth) (nj * numbersWidth) (nj * wordsWidth) [] (readAll text jointPart (readAll text bodyPart d1))
   after-joints =
       let e : 0 + nj ≡ nj = omega arith in
       let b = joints-read text (sizes .0) m (p .f32) nb (p .few-bodies) nj 0 [] (readAll text bodyPart d1) (omega (arith, p .few-joints)) (λ k l. joint-fine k (omega arith)) after-bodies in
-      subst (λ (n : ℕ). Between text m nb n (nb * 10) (n * 42) (n * 11) [] (readAll text jointPart (readAll text bodyPart d1))) e b
+      subst (λ (n : ℕ). Between text m nb n (nb * bodyWidth) (n * numbersWidth) (n * wordsWidth) [] (readAll text jointPart (readAll text bodyPart d1))) e b
 
   last-parts : last ≡ readAll text jointPart (readAll text bodyPart d1)
   unfolding studyLines
   last-parts = all-append text (settingsLines (m .params)) (bodyPart ++ jointPart) first ∙ all-append text bodyPart jointPart d1
 
-  after-all : Between text m nb nj (nb * 10) (nj * 42) (nj * 11) [] last
-  after-all = subst (λ (d : Draft). Between text m nb nj (nb * 10) (nj * 42) (nj * 11) [] d) (sym last-parts) after-joints
+  after-all : Between text m nb nj (nb * bodyWidth) (nj * numbersWidth) (nj * wordsWidth) [] last
+  after-all = subst (λ (d : Draft). Between text m nb nj (nb * bodyWidth) (nj * numbersWidth) (nj * wordsWidth) [] d) (sym last-parts) after-joints
 
   abbrev state′ : State
   state′ = last .state
@@ -358,7 +358,7 @@ module _ (m : Model) (p : Printable m) (numbers : List Float) (origins words nam
       let j : state′ .joints ≡ nj = ap (λ (s : State). s .joints) at-state in
       ap (λ (d : Draft). centerJoints 0 (ended (d .state) .joints) (withState d (ended (d .state)))) all-read
       ∙ ap (λ (s : State). centerJoints 0 (s .joints) (withState last s)) no-repeat
-      ∙ no-centers text m 3 (nb * 10) (nj * 42) (nj * 11) nb nj nj last (after-all .on′ .kept) (p .few-joints) (state′ .joints) 0 (omega arith)
+      ∙ no-centers text m settingsWidth (nb * bodyWidth) (nj * numbersWidth) (nj * wordsWidth) nb nj nj last (after-all .on′ .kept) (p .few-joints) (state′ .joints) 0 (omega arith)
 
   last-read : IsRead m last
   last-read =
@@ -382,7 +382,7 @@ read-back m p numbers origins words names r = subst (IsRead m) (sym (read-is m p
 pub study-back : StudyBack
 unfolding studyOf
 study-back m p =
-    read-back m p (replicate 6711 (bits 0)) (replicate 8130 0) (replicate 1419 0) (replicate 516 0)
+    read-back m p (replicate numbersSize (bits 0)) (replicate (numbersSize + wordsSize) 0) (replicate wordsSize 0) (replicate namesSize 0)
     (record {
       numbers-room = rw length-replicate (omega arith);
       origins-room = rw length-replicate (omega arith);

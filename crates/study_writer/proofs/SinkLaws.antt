@@ -12,7 +12,7 @@ use lib.ListN.{length, take, drop, set, getD, length-set, take-append-drop}
 use lib.Seq.{take-suc, take-all, take-suc-set, drop-set-lt}
 use Rattle.texts.specs.Digits.{digit, decimalOnto, decimal}
 use Rattle.texts.specs.Ascii.{ascii, LF, SPACE}
-use Rattle.model.specs.Layout.{bodyWidth, wordsWidth, numbersWidth}
+use Rattle.model.specs.Layout.{bodyWidth, wordsWidth, body1Place, body2Place, numbersWidth}
 use Rattle.model.specs.Records.{num, word}
 use Rattle.study_writer.specs.Text.{Line, lineOnto, wordsOnto, linesText, one, two, bodyWord, jointWord, endWord, modelWord, enabledWord, centerLine, bodyLines, bodiesFrom, jointLines, jointsFrom}
 use Rattle.study_writer.specs.Sink.{largestPlace, placeAfter, putFrom, endFrom, Sunk}
@@ -163,11 +163,11 @@ unfolding centerLine
 center-angle v x y e = sym (ap (λ (t : Bool). linesText (cond t (two "center" x y) (one "center_angle" x) ∷ [])) (ne-eqb v 0 e))
 
 -- a joint's first body stands at the start of its words
-pub first-end : (words : List ℕ) (j : ℕ) → linesText ((ascii "joint" ∷ jointWord j ∷ endWord (getD words (j * 11) 0) ∷ endWord (getD words (j * 11 + 1) 0) ∷ []) ∷ [])
-    ≡ linesText ((ascii "joint" ∷ jointWord j ∷ endWord (getD words (j * 11 + 0) 0) ∷ endWord (getD words (j * 11 + 1) 0) ∷ []) ∷ [])
+pub first-end : (words : List ℕ) (j : ℕ) → linesText ((ascii "joint" ∷ jointWord j ∷ endWord (getD words (j * wordsWidth) 0) ∷ endWord (getD words (j * wordsWidth + body2Place) 0) ∷ []) ∷ [])
+    ≡ linesText ((ascii "joint" ∷ jointWord j ∷ endWord (getD words (j * wordsWidth + body1Place) 0) ∷ endWord (getD words (j * wordsWidth + body2Place) 0) ∷ []) ∷ [])
 first-end words j =
-    let e : j * 11 ≡ j * 11 + 0 = omega arith in
-    ap (λ (n : ℕ). linesText ((ascii "joint" ∷ jointWord j ∷ endWord (getD words n 0) ∷ endWord (getD words (j * 11 + 1) 0) ∷ []) ∷ [])) e
+    let e : j * wordsWidth ≡ j * wordsWidth + body1Place = omega arith in
+    ap (λ (n : ℕ). linesText ((ascii "joint" ∷ jointWord j ∷ endWord (getD words n 0) ∷ endWord (getD words (j * wordsWidth + body2Place) 0) ∷ []) ∷ [])) e
 
 pub settings-first : ascii "settings\n" ≡ linesText ((ascii "settings" ∷ []) ∷ [])
 unfolding linesText lineOnto wordsOnto

@@ -11,7 +11,7 @@ use lib.ListN.{length, getD, length-append}
 use Rattle.decimals.specs.Text.{bitsText}
 use Rattle.texts.specs.Hex.{hexWord}
 use Rattle.texts.specs.Digits.{digit, decimalOnto, decimal}
-use Rattle.model.specs.Layout.{bodyWidth, wordsWidth, numbersWidth}
+use Rattle.model.specs.Layout.{bodyWidth, wordsWidth, body1Place, body2Place, masksPlace, centerChoicePlace, numbersWidth, centerPlace}
 use Rattle.model.specs.Records.{num, word}
 use Rattle.model.specs.Store.{world}
 use Rattle.multibody.specs.Model.{Model}
@@ -159,27 +159,27 @@ body-many i f = refl
 
 -- what is asked of a joint's words
 pub record Fine (m : Model) (nb j : ℕ) : Type 0 where
-  pub first : (eqb (getD (m .words) (j * 11 + 0) 0) world || ltb (getD (m .words) (j * 11 + 0) 0) nb) ≡ true
-  pub second : (eqb (getD (m .words) (j * 11 + 1) 0) world || ltb (getD (m .words) (j * 11 + 1) 0) nb) ≡ true
-  pub mask2 : getD (m .words) (j * 11 + 2) 0 ≤ 7
-  pub mask3 : getD (m .words) (j * 11 + 3) 0 ≤ 7
-  pub mask4 : getD (m .words) (j * 11 + 4) 0 ≤ 7
-  pub mask5 : getD (m .words) (j * 11 + 5) 0 ≤ 7
+  pub first : (eqb (getD (m .words) (j * wordsWidth + body1Place) 0) world || ltb (getD (m .words) (j * wordsWidth + body1Place) 0) nb) ≡ true
+  pub second : (eqb (getD (m .words) (j * wordsWidth + body2Place) 0) world || ltb (getD (m .words) (j * wordsWidth + body2Place) 0) nb) ≡ true
+  pub mask2 : getD (m .words) (j * wordsWidth + masksPlace) 0 ≤ 7
+  pub mask3 : getD (m .words) (j * wordsWidth + (masksPlace + 1)) 0 ≤ 7
+  pub mask4 : getD (m .words) (j * wordsWidth + (masksPlace + 2)) 0 ≤ 7
+  pub mask5 : getD (m .words) (j * wordsWidth + (masksPlace + 3)) 0 ≤ 7
 
 -- so its bodies and masks are short words
 pub record Small (m : Model) (j : ℕ) : Type 0 where
-  pub small0 : getD (m .words) (j * 11 + 0) 0 < 10000000000
-  pub small1 : getD (m .words) (j * 11 + 1) 0 < 10000000000
-  pub small2 : getD (m .words) (j * 11 + 2) 0 < 10000000000
-  pub small3 : getD (m .words) (j * 11 + 3) 0 < 10000000000
-  pub small4 : getD (m .words) (j * 11 + 4) 0 < 10000000000
-  pub small5 : getD (m .words) (j * 11 + 5) 0 < 10000000000
+  pub small0 : getD (m .words) (j * wordsWidth + body1Place) 0 < 10000000000
+  pub small1 : getD (m .words) (j * wordsWidth + body2Place) 0 < 10000000000
+  pub small2 : getD (m .words) (j * wordsWidth + masksPlace) 0 < 10000000000
+  pub small3 : getD (m .words) (j * wordsWidth + (masksPlace + 1)) 0 < 10000000000
+  pub small4 : getD (m .words) (j * wordsWidth + (masksPlace + 2)) 0 < 10000000000
+  pub small5 : getD (m .words) (j * wordsWidth + (masksPlace + 3)) 0 < 10000000000
 
 pub fine-small : (m : Model) (nb j : ℕ) → nb ≤ 128 → Fine m nb j → Small m j
 fine-small m nb j l h =
     record {
-      small0 = end-small (getD (m .words) (j * 11 + 0) 0) (h .first);
-      small1 = end-small (getD (m .words) (j * 11 + 1) 0) (h .second);
+      small0 = end-small (getD (m .words) (j * wordsWidth + body1Place) 0) (h .first);
+      small1 = end-small (getD (m .words) (j * wordsWidth + body2Place) 0) (h .second);
       small2 = omega (arith, h .mask2);
       small3 = omega (arith, h .mask3);
       small4 = omega (arith, h .mask4);
@@ -210,8 +210,8 @@ module _ (m : Model) where
   joint-short-lines : (j : ℕ) (f : ℕ → Float) → j < 10000000000 → Small m j → shortLines (jointLines j (word wordsWidth (m .words) j) f) ≡ true
   unfolding jointLines
   joint-short-lines j f l h =
-      let c = center-short (getD (m .words) (j * 11 + 10) 0) (f 40) (f 41) in
-      simp (joint-word j l, end-word (getD (m .words) (j * 11 + 0) 0) (h .small0), end-word (getD (m .words) (j * 11 + 1) 0) (h .small1), decimal-word (getD (m .words) (j * 11 + 2) 0) (h .small2), decimal-word (getD (m .words) (j * 11 + 3) 0) (h .small3), decimal-word (getD (m .words) (j * 11 + 4) 0) (h .small4), decimal-word (getD (m .words) (j * 11 + 5) 0) (h .small5), model-word, enabled-word, number-short, c .0, c .1)
+      let c = center-short (getD (m .words) (j * wordsWidth + centerChoicePlace) 0) (f centerPlace) (f (centerPlace + 1)) in
+      simp (joint-word j l, end-word (getD (m .words) (j * wordsWidth + body1Place) 0) (h .small0), end-word (getD (m .words) (j * wordsWidth + body2Place) 0) (h .small1), decimal-word (getD (m .words) (j * wordsWidth + masksPlace) 0) (h .small2), decimal-word (getD (m .words) (j * wordsWidth + (masksPlace + 1)) 0) (h .small3), decimal-word (getD (m .words) (j * wordsWidth + (masksPlace + 2)) 0) (h .small4), decimal-word (getD (m .words) (j * wordsWidth + (masksPlace + 3)) 0) (h .small5), model-word, enabled-word, number-short, c .0, c .1)
 
   joint-many : (j : ℕ) (g : ℕ → ℕ) (f : ℕ → Float) → length (jointLines j g f) ≡ 43
   unfolding jointLines

@@ -7,8 +7,9 @@ use native.Mathlib.Omega.{arith}
 use borrow.Author.Tests.{lt-leb}
 use lib.Dec.{leb}
 use lib.ListN.{length, drop, length-drop}
+use Rattle.model.specs.Layout.{body1Place, body2Place}
 use Rattle.study_reader.specs.Words.{nextLine}
-use Rattle.study_reader.specs.Storage.{bodyBase, jointBase}
+use Rattle.study_reader.specs.Storage.{jointNames, bodyBase, jointBase}
 use Rattle.study_reader.specs.Draft.{Draft, withState, stateOf, reached, opened, puts, bodyDefaults, jointDefaults}
 use Rattle.study_reader.specs.Items.{ends, lineOf}
 use Rattle.study_reader.specs.Study.{numbersWith, originsWith, centerWith, wordWith, originWith, nameWith, openBody, openJoint, applied, lineRead}
@@ -135,9 +136,9 @@ module _ (text : List ℕ) (d : Draft) (kind item nb nj : ℕ) (l : Line) (ls : 
   pub joint-moves : (w : Word) (b1 b2 a1 a2 : ℕ) → lineOf text (d .names) (d .state) ≡ OpenJoint w (nj + 1) (ends b1 b2 a1 a2)
       → Here text 3 nj nb (nj + 1) ls (lineRead text d)
       × (lineRead text d .numbers ≡ puts (jointBase (d .state .joints)) jointDefaults (d .numbers))
-      × (lineRead text d .origins ≡ originWith (d .state .joints) 1 a2 (originWith (d .state .joints) 0 a1 (d .origins)))
-      × (lineRead text d .words ≡ wordWith (d .state .joints) 1 b2 (wordWith (d .state .joints) 0 b1 (d .words)))
-      × (lineRead text d .names ≡ nameWith 258 (d .state .joints) w (d .names))
+      × (lineRead text d .origins ≡ originWith (d .state .joints) body2Place a2 (originWith (d .state .joints) body1Place a1 (d .origins)))
+      × (lineRead text d .words ≡ wordWith (d .state .joints) body2Place b2 (wordWith (d .state .joints) body1Place b1 (d .words)))
+      × (lineRead text d .names ≡ nameWith jointNames (d .state .joints) w (d .names))
   unfolding applied openJoint
   joint-moves w b1 b2 a1 a2 e =
       let r = read-line (OpenJoint w (nj + 1) (ends b1 b2 a1 a2)) e in (

@@ -9,6 +9,7 @@ use lib.Dec.{eqb}
 use lib.ListN.{drop}
 use Rattle.texts.specs.Digits.{decimal}
 use Rattle.texts.specs.Ascii.{ascii}
+use Rattle.model.specs.Layout.{masksPlace, modelsPlace, enabledPlace}
 use Rattle.study_reader.specs.Words.{nextWord, sameBytes, isWord}
 use Rattle.study_reader.specs.Keywords.{meaning, axisWords}
 use Rattle.study_reader.specs.Items.{whole, maskLine, modelLine, wordLine, openLine, itemLine, lineOf}
@@ -27,7 +28,7 @@ module _ (text names : List ℕ) (st : State) (kw rest : List ℕ) where
   w₁ = nextWord text (st .at) .end
 
   pub mask-line : (k m : ℕ) → drop (st .at) text ≡ lineOnto (kw ∷ decimal m ∷ []) rest → JointKeyword kw k → 8 ≤ k → k < 12 → st .kind ≡ 3
-      → m ≤ 4294967289 → Worded text names st (2 + (k - 8)) m
+      → m ≤ 4294967289 → Worded text names st (masksPlace + (k - 8)) m
   unfolding wordLine maskLine whole
   mask-line k m h f l u e small =
       let s = first-word text (st .at) kw (decimal m ∷ []) rest h (f .is-proper) in
@@ -39,7 +40,7 @@ module _ (text names : List ℕ) (st : State) (kw rest : List ℕ) where
 
   module _ (axis : ℕ) (aw : List ℕ) (pa : proper aw ≡ true) (am : meaning axisWords 3 aw ≡ axis) (small : axis < 3) where
     model-cases : (t : Bool) → drop (st .at) text ≡ lineOnto (kw ∷ aw ∷ cond t (ascii "acceleration") (ascii "force") ∷ []) rest → JointKeyword kw 12
-        → st .kind ≡ 3 → Worded text names st (6 + axis) (cond t 0 1)
+        → st .kind ≡ 3 → Worded text names st (modelsPlace + axis) (cond t 0 1)
     unfolding wordLine modelLine whole isWord sameBytes
     model-cases true h f e =
         let s = first-word text (st .at) kw (aw ∷ ascii "acceleration" ∷ []) rest h (f .is-proper) in
@@ -61,12 +62,12 @@ module _ (text names : List ℕ) (st : State) (kw rest : List ℕ) where
         )
 
     pub model-line : (m : ℕ) → drop (st .at) text ≡ lineOnto (kw ∷ aw ∷ modelWord m ∷ []) rest → JointKeyword kw 12 → st .kind ≡ 3
-        → Worded text names st (6 + axis) (cond (eqb m 0) 0 1)
+        → Worded text names st (modelsPlace + axis) (cond (eqb m 0) 0 1)
     unfolding modelWord
     model-line m h f e = model-cases (eqb m 0) h f e
 
   pub enabled-line : (k : ℕ) → drop (st .at) text ≡ lineOnto (kw ∷ []) rest → JointKeyword kw k → 13 ≤ k → k < 16 → st .kind ≡ 3
-      → Worded text names st 9 (k - 13)
+      → Worded text names st enabledPlace (k - 13)
   unfolding wordLine whole
   enabled-line k h f l u e =
       let s = first-word text (st .at) kw [] rest h (f .is-proper) in (

@@ -10,6 +10,7 @@ use lib.Ieee.{Float}
 use lib.ListN.{length, getD, drop}
 use Rattle.texts.specs.Written.{written}
 use Rattle.texts.proofs.PutLaws.{empty-written}
+use Rattle.model.specs.Layout.{bodyWidth, wordsWidth, body1Place, body2Place, masksPlace, numbersWidth}
 use Rattle.model.specs.Model.{modelOf}
 use Rattle.multibody.specs.Model.{Model}
 use Rattle.multibody.specs.Counts.{bodyCount, jointCount}
@@ -21,7 +22,7 @@ use Rattle.study_writer.proofs.Sizes.{Small, study-size}
 use Rattle.study_writer.proofs.SinkLaws.{put-there, end-there}
 
 -- whole records are there
-pub bodies-room : (bodies : List Float) (nb : ℕ) → nb ≡ bodyCount planar bodies → nb * 10 ≤ length bodies
+pub bodies-room : (bodies : List Float) (nb : ℕ) → nb ≡ bodyCount planar bodies → nb * bodyWidth ≤ length bodies
 unfolding bodyCount
 bodies-room bodies nb e = omega arith
 
@@ -29,13 +30,13 @@ joint-cases : (t : Bool) (a b : ℕ) → ltb a b ≡ t → (cond t a b ≤ a) ×
 joint-cases true a b e = (omega arith, omega (arith, ltb-true a b e))
 joint-cases false a b e = (omega (arith, ltb-false a b e), omega arith)
 
-pub words-room : (words : List ℕ) (numbers : List Float) (nj : ℕ) → nj ≡ jointCount planar words numbers → nj * 11 ≤ length words
+pub words-room : (words : List ℕ) (numbers : List Float) (nj : ℕ) → nj ≡ jointCount planar words numbers → nj * wordsWidth ≤ length words
 unfolding jointCount
-words-room words numbers nj e = let h = joint-cases (ltb (length words / 11) (length numbers / 42)) (length words / 11) (length numbers / 42) refl in omega (arith, h .0)
+words-room words numbers nj e = let h = joint-cases (ltb (length words / wordsWidth) (length numbers / numbersWidth)) (length words / wordsWidth) (length numbers / numbersWidth) refl in omega (arith, h .0)
 
-pub numbers-room : (words : List ℕ) (numbers : List Float) (nj : ℕ) → nj ≡ jointCount planar words numbers → nj * 42 ≤ length numbers
+pub numbers-room : (words : List ℕ) (numbers : List Float) (nj : ℕ) → nj ≡ jointCount planar words numbers → nj * numbersWidth ≤ length numbers
 unfolding jointCount
-numbers-room words numbers nj e = let h = joint-cases (ltb (length words / 11) (length numbers / 42)) (length words / 11) (length numbers / 42) refl in omega (arith, h .1)
+numbers-room words numbers nj e = let h = joint-cases (ltb (length words / wordsWidth) (length numbers / numbersWidth)) (length words / wordsWidth) (length numbers / numbersWidth) refl in omega (arith, h .1)
 
 module _ (h : Header) (bodies : List Float) (words : List ℕ) (numbers : List Float) where
   abbrev m : Model
@@ -77,12 +78,12 @@ module _ (h : Header) (bodies : List Float) (words : List ℕ) (numbers : List F
     joint-small : (j : ℕ) → Small m j
     joint-small j =
         record {
-          small0 = omega (arith, small (j * 11 + 0));
-          small1 = omega (arith, small (j * 11 + 1));
-          small2 = omega (arith, small (j * 11 + 2));
-          small3 = omega (arith, small (j * 11 + 3));
-          small4 = omega (arith, small (j * 11 + 4));
-          small5 = omega (arith, small (j * 11 + 5));
+          small0 = omega (arith, small (j * wordsWidth + body1Place));
+          small1 = omega (arith, small (j * wordsWidth + body2Place));
+          small2 = omega (arith, small (j * wordsWidth + masksPlace));
+          small3 = omega (arith, small (j * wordsWidth + (masksPlace + 1)));
+          small4 = omega (arith, small (j * wordsWidth + (masksPlace + 2)));
+          small5 = omega (arith, small (j * wordsWidth + (masksPlace + 3)));
         }
 
     short : length whole < 4294967295

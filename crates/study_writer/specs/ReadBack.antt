@@ -17,7 +17,7 @@ use Rattle.multibody.specs.Counts.{bodyCount, jointCount}
 use Rattle.multibody.specs.Refusals.{bodiesPresent}
 use Rattle.model.specs.Planar.{planar}
 use Rattle.model.specs.Refusals.{masksFit}
-use Rattle.study_reader.specs.Storage.{numbersSize, wordsSize}
+use Rattle.study_reader.specs.Storage.{settingsWidth, jointsPlace, numbersSize, wordsSize, namesSize}
 use Rattle.study_reader.specs.Draft.{Draft}
 use Rattle.study_reader.specs.Study.{readStudy, studyOf}
 use Rattle.study_writer.specs.Text.{studyText}
@@ -46,14 +46,14 @@ pub record Room (numbers : List Float) (origins words names : List ℕ) : Type 0
   pub numbers-room : numbersSize ≤ length numbers
   pub origins-room : numbersSize ≤ length origins
   pub words-room : wordsSize ≤ length words
-  pub names-room : 516 ≤ length names
+  pub names-room : namesSize ≤ length names
 
 -- where the bodies and the joints start in what is read (Storage.antt of study_reader)
 abbrev pub bodiesRead : Draft → List Float
-bodiesRead d = drop 3 (d .numbers)
+bodiesRead d = drop settingsWidth (d .numbers)
 
 abbrev pub jointsRead : Draft → List Float
-jointsRead d = drop 1293 (d .numbers)
+jointsRead d = drop jointsPlace (d .numbers)
 
 abbrev pub settingsRead : Draft → IntegrationParameters
 settingsRead d = record {

@@ -3,6 +3,7 @@ ghost use mathlib.Core.List.{[], _∷_};
 ghost use Prim.Native.Nat.{_+_, _≤_};
 ghost use lib.ListN.{length, getD};
 ghost use lib.Ieee.{nan};
+ghost use Rattle.model.specs.Layout.{numbersWidth, centerPlace};
 ghost use Rattle.texts.specs.Digits.{decimal};
 ghost use Rattle.texts.specs.Ascii.{ascii, SPACE};
 ghost use Rattle.study_writer.specs.Text.{linesText, numberWord, bodyWord, jointWord, endWord, modelWord, enabledWord, centerLine};
@@ -12,6 +13,8 @@ use crate::sink::put_decimal;
 use crate::sink::put_number;
 use crate::sink::put_text;
 use crate::sink::put_word;
+use model::layout::CENTER_RE;
+use model::layout::WORLD;
 
 // ---- numbers
 
@@ -91,7 +94,7 @@ fn put_joint_word(out: &mut [u8], at: usize, j: u32) -> usize
 fn put_end(out: &mut [u8], at: usize, i: u32) -> usize
     ensures { λ r. ⌜ Sunk (now (out .entry)) at (SPACE ∷ endWord i) (now (out .exit)) r ⌝ }
 {
-    if i == 4294967295 {
+    if i == WORLD {
         return put_text(&mut *out, at, b" world");
     }
     put_body_word(&mut *out, at, i)
@@ -157,11 +160,11 @@ pub fn put_enabled(out: &mut [u8], at: usize, e: u32) -> usize
 }
 
 pub fn put_center(out: &mut [u8], at: usize, choice: u32, s: &[f32], o: usize) -> usize
-    requires { ⌜ o + 42 ≤ length (now s) ⌝ }
-    ensures { λ r. ⌜ Sunk (now (out .entry)) at (linesText (centerLine choice (getD (now (s .entry)) (o + 40) nan) (getD (now (s .entry)) (o + 41) nan) ∷ [])) (now (out .exit)) r ⌝ }
+    requires { ⌜ o + numbersWidth ≤ length (now s) ⌝ }
+    ensures { λ r. ⌜ Sunk (now (out .entry)) at (linesText (centerLine choice (getD (now (s .entry)) (o + centerPlace) nan) (getD (now (s .entry)) (o + (centerPlace + 1)) nan) ∷ [])) (now (out .exit)) r ⌝ }
 {
     if choice == 0 {
-        return put_two(&mut *out, at, b"center", s, o, 40);
+        return put_two(&mut *out, at, b"center", s, o, CENTER_RE);
     }
-    put_one(&mut *out, at, b"center_angle", s, o, 40)
+    put_one(&mut *out, at, b"center_angle", s, o, CENTER_RE)
 }

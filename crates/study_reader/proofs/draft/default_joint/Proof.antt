@@ -1,6 +1,7 @@
 use native.Mathlib.Nat.{add-zero}
 use native.Mathlib.Omega.{arith}
 use borrow.Author.Needs.{needs}
+use Rattle.study_reader.specs.Storage.{jointBase}
 use Rattle.study_reader.specs.Draft.{puts}
 use Rattle.study_reader.proofs.ReadLaws.{joint-base-small}
 use Rattle.study_reader.proofs.draft.default_joint.Statement.{statement}
@@ -71,7 +72,8 @@ returns c =
     let df = at-set .before .before .before .before in
     let dl = df .before .before .before .before in
     let jb = dl .before .before in
-    rw (set5 .set5 .ensures, set4 .set4 .ensures, set3 .set3 .ensures, set2 .set2 .ensures, at-set .set .ensures, df .default-forces .ensures, dl .default-limits .ensures, jb .joint-base .ensures, add-zero)
+    let entry = jb .before .before in
+    rw (set5 .set5 .ensures, set4 .set4 .ensures, set3 .set3 .ensures, set2 .set2 .ensures, at-set .set .ensures, df .default-forces .ensures, dl .default-limits .ensures, jb .joint-base .ensures, add-zero (jointBase (entry .args .j)))
 
 pub default-joint-spec : {M : Type 1} → statement M
 default-joint-spec = tie.close (tie.spec joint-base-requires default-limits-requires default-forces-requires set-requires add-set set-requires-2 add-set-2 set-requires-3 add-set-3 set-requires-4 add-set-4 set-requires-5 same-length returns)
