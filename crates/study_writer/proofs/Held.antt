@@ -31,6 +31,14 @@ module _ {A : Type 0} (l : List A) (z : A) (o n : ℕ) (M : ℕ → Type 0) (F :
   pub held-past : (p : ℕ) (x : A) → o + n ≤ p → Held (set l p x) z o n M F
   held-past p x k c q m = getD-set-other l p (o + c) x z (λ y. omega arith) ∙ h c q m
 
+  -- the next does not matter
+  pub held-skip : (M n → ⊥) → Held l z o (n + 1) M F
+  held-skip f c k m = go (eqb c n) refl
+    where
+      go : (t : Bool) → eqb c n ≡ t → getD l (o + c) z ≡ F c
+      go true e = let q = eqb-true c n e in absurd (f (rw q at m))
+      go false e = let q = eqb-false c n e in h c (omega arith) m
+
   pub held-cast : (n′ : ℕ) → n ≡ n′ → Held l z o n′ M F
   held-cast n′ e c q m = h c (omega arith) m
 

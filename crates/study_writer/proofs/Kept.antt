@@ -9,12 +9,12 @@ use lib.Dec.{eqb, ltb}
 use lib.Ieee.{Float, nan}
 use lib.ListN.{length, getD, set, length-set}
 use lib.Seq.{getD-set-other}
-use Rattle.model.specs.Layout.{bodyWidth, wordsWidth, modelsPlace, enabledPlace, centerChoicePlace, numbersWidth, centerPlace}
+use Rattle.model.specs.Layout.{bodyWidth, wordsWidth, modelsPlace, enabledPlace, centerChoicePlace, firstRowPlace, numbersWidth, centerPlace}
 use Rattle.multibody.specs.Model.{Model}
 use Rattle.study_reader.specs.Storage.{mostItems, settingsWidth, jointsPlace, numbersSize, wordsSize, namesSize, kept}
 use Rattle.study_reader.specs.Draft.{Draft, draft}
 use Rattle.study_writer.proofs.NameLines.{BodyNames, JointNames, below}
-use Rattle.study_writer.proofs.Held.{Held, Every, held-next, held-past, held-cast, kept-some, given-set}
+use Rattle.study_writer.proofs.Held.{Held, Every, held-next, held-past, held-skip, held-cast, kept-some, given-set}
 
 -- ---- the model's numbers and words by their places in the storage
 
@@ -31,6 +31,10 @@ jointNumber m c = getD (m .numbers) c nan
 -- the number beside an angle is nobody's
 abbrev pub Matters : Model → ℕ → Type 0
 Matters m c = c % numbersWidth ≡ centerPlace + 1 → eqb (getD (m .words) (c / numbersWidth * wordsWidth + centerChoicePlace) 0) 0 ≡ true
+
+-- a joint's first row is none of its contents
+abbrev pub IsContents : ℕ → Type 0
+IsContents c = c % wordsWidth ≡ firstRowPlace → ⊥
 
 -- a motor's model and a kind of centre are 0 or 1, `JointEnabled` is 0, 1 or 2
 abbrev pub binary : ℕ → ℕ
@@ -61,7 +65,7 @@ pub record Kept (text : List ℕ) (m : Model) (s low high done nb nj cs : ℕ) (
   pub settings : Held (d .numbers) nan 0 s Every (setting m)
   pub bodies : Held (d .numbers) nan settingsWidth low Every (bodyNumber m)
   pub joints : Held (d .numbers) nan jointsPlace high (Matters m) (jointNumber m)
-  pub words : Held (d .words) 0 0 done Every (jointWordAt m)
+  pub words : Held (d .words) 0 0 done IsContents (jointWordAt m)
   pub bodyNames : BodyNames text (d .names) nb
   pub jointNames : JointNames text (d .names) nj
   pub centers : (k : ℕ) → k < cs → 0 < getD (d .origins) (centersPlace + numbersWidth * k) 0
@@ -156,7 +160,7 @@ module _ (text : List ℕ) (m : Model) (s low high done nb nj cs : ℕ) where
           settings = k .settings;
           bodies = k .bodies;
           joints = k .joints;
-          words = held-next (d .words) 0 0 done Every (jointWordAt m) (k .words) (omega (arith, k .wordsRoom));
+          words = held-next (d .words) 0 0 done IsContents (jointWordAt m) (k .words) (omega (arith, k .wordsRoom));
           bodyNames = k .bodyNames;
           jointNames = k .jointNames;
           centers = λ c u. let e = getD-set-other (d .origins) p (centersPlace + numbersWidth * c) (kept a) 0 (λ y. omega arith) in omega (arith, k .centers c u);
@@ -174,7 +178,7 @@ module _ (text : List ℕ) (m : Model) (s low high done nb nj cs : ℕ) where
           settings = k .settings;
           bodies = k .bodies;
           joints = k .joints;
-          words = held-next (d .words) 0 0 done Every (jointWordAt m) (k .words) (omega (arith, k .wordsRoom));
+          words = held-next (d .words) 0 0 done IsContents (jointWordAt m) (k .words) (omega (arith, k .wordsRoom));
           bodyNames = k .bodyNames;
           jointNames = k .jointNames;
           centers = λ c u. go c u (eqb c cs) refl;
@@ -194,16 +198,29 @@ module _ (text : List ℕ) (m : Model) (s low high done nb nj cs : ℕ) where
           namesRoom = k .namesRoom;
           settings = k .settings;
           bodies = k .bodies;
-          joints = λ c q u. go c q u (eqb c high) refl;
+          joints = held-skip (d .numbers) nan jointsPlace high (Matters m) (jointNumber m) (k .joints) f;
           words = k .words;
           bodyNames = k .bodyNames;
           jointNames = k .jointNames;
           centers = k .centers;
         }
-      where
-        go : (c : ℕ) → c < high + 1 → Matters m c → (t : Bool) → eqb c high ≡ t → getD (d .numbers) (jointsPlace + c) nan ≡ jointNumber m c
-        go c q u true t = let e = eqb-true c high t in absurd (f (rw e at u))
-        go c q u false t = k .joints c (below c high (omega arith) (eqb-false c high t)) u
+
+    -- a joint's first row, of which the text says nothing
+    pub first-row-kept : done % wordsWidth ≡ firstRowPlace → Kept text m s low high (done + 1) nb nj cs d
+    first-row-kept e =
+        record {
+          numbersRoom = k .numbersRoom;
+          originsRoom = k .originsRoom;
+          wordsRoom = k .wordsRoom;
+          namesRoom = k .namesRoom;
+          settings = k .settings;
+          bodies = k .bodies;
+          joints = k .joints;
+          words = held-skip (d .words) 0 0 done IsContents (jointWordAt m) (k .words) (λ u. u e);
+          bodyNames = k .bodyNames;
+          jointNames = k .jointNames;
+          centers = k .centers;
+        }
 
 pub kept-cast : (text : List ℕ) (m : Model) (s low high done nb nj cs low′ high′ done′ : ℕ) (d : Draft) → Kept text m s low high done nb nj cs d
     → low ≡ low′ → high ≡ high′ → done ≡ done′ → Kept text m s low′ high′ done′ nb nj cs d
@@ -216,7 +233,7 @@ kept-cast text m s low high done nb nj cs low′ high′ done′ d k a b c =
       settings = k .settings;
       bodies = held-cast (d .numbers) nan settingsWidth low Every (bodyNumber m) (k .bodies) low′ a;
       joints = held-cast (d .numbers) nan jointsPlace high (Matters m) (jointNumber m) (k .joints) high′ b;
-      words = held-cast (d .words) 0 0 done Every (jointWordAt m) (k .words) done′ c;
+      words = held-cast (d .words) 0 0 done IsContents (jointWordAt m) (k .words) done′ c;
       bodyNames = k .bodyNames;
       jointNames = k .jointNames;
       centers = k .centers;

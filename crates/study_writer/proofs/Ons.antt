@@ -24,7 +24,7 @@ use Rattle.study_writer.proofs.WordLines.{Worded}
 use Rattle.study_writer.proofs.NameLines.{Name}
 use Rattle.study_writer.proofs.Steps.{on, Here, given-moves, word-moves, body-moves, joint-moves}
 use Rattle.study_writer.proofs.Held.{kept-some, set-given, given-set}
-use Rattle.study_writer.proofs.Kept.{setting, bodyNumber, jointNumber, Matters, canonical, jointWordAt, centersPlace, Kept, kept-same-as, setting-kept, body-kept, joint-kept, word-kept, center-kept, skip-kept, kept-cast}
+use Rattle.study_writer.proofs.Kept.{setting, bodyNumber, jointNumber, Matters, canonical, jointWordAt, centersPlace, Kept, kept-same-as, setting-kept, body-kept, joint-kept, word-kept, center-kept, skip-kept, first-row-kept, kept-cast}
 use Rattle.study_writer.proofs.Opened.{body-opened, joint-opened}
 
 pub record On (text : List ℕ) (m : Model) (kind item nb nj s low high done cs : ℕ) (ls : List Line) (d : Draft) : Type 0 where
@@ -238,12 +238,13 @@ module _ (text : List ℕ) (m : Model) (j nb : ℕ) (l : Line) (ls : List Line) 
       let q′ = given-set (set (d .origins) (jointsPlace + high) (kept (g .0))) (jointsPlace + (high + 1)) (kept (g .1)) (jointsPlace + high) (kept-some (g .1) (g .3)) q in
       let f″ = center-kept text m settingsWidth (nb * bodyWidth) (high + 1 + 1) done nb (j + 1) j _ f′ (omega arith)
       (subst (λ (n : ℕ). 0 < getD (set (set (d .origins) (jointsPlace + high) (kept (g .0))) (jointsPlace + (high + 1)) (kept (g .1))) n 0) here q′) in
+      let f‴ = first-row-kept text m settingsWidth (nb * bodyWidth) (high + 1 + 1) (done + 1) nb (j + 1) (j + 1) _ f″ (omega arith) in
       let v : 0 ≡ jointWordAt m done = sym (canonical-at m j centerChoicePlace (omega arith) ∙ ap (λ (t : Bool). cond t 0 1) z) in
       record {
         here = e .0;
         kept =
-            kept-cast text m settingsWidth (nb * bodyWidth) (high + 1 + 1) (done + 1) nb (j + 1) (j + 1) (nb * bodyWidth) (j * numbersWidth + numbersWidth) (j * wordsWidth + wordsWidth) (lineRead text d)
-            (kept-same-as text m settingsWidth (nb * bodyWidth) (high + 1 + 1) (done + 1) nb (j + 1) (j + 1) _ (lineRead text d) f″
+            kept-cast text m settingsWidth (nb * bodyWidth) (high + 1 + 1) (done + 1 + 1) nb (j + 1) (j + 1) (nb * bodyWidth) (j * numbersWidth + numbersWidth) (j * wordsWidth + wordsWidth) (lineRead text d)
+            (kept-same-as text m settingsWidth (nb * bodyWidth) (high + 1 + 1) (done + 1 + 1) nb (j + 1) (j + 1) _ (lineRead text d) f‴
             (record {
               numbers≡ = e .1 ∙ ap (λ (n : ℕ). set (set (d .numbers) n x) (itemBase (d .state) + centerPlace + 1) y) b ∙ ap (λ (n : ℕ). set (set (d .numbers) (jointsPlace + high) x) n y) c ∙ ap (λ (v : Float). set (set (d .numbers) (jointsPlace + high) x) (jointsPlace + (high + 1)) v) y≡;
               origins≡ =
@@ -279,12 +280,13 @@ module _ (text : List ℕ) (m : Model) (j nb : ℕ) (l : Line) (ls : List Line) 
       let q = set-given (d .origins) (jointsPlace + high) (kept (g .0)) (omega (arith, o .kept .originsRoom)) (kept-some (g .0) (g .1)) in
       let f″ = center-kept text m settingsWidth (nb * bodyWidth) (high + 1 + 1) done nb (j + 1) j _ f′ (omega arith)
       (subst (λ (n : ℕ). 0 < getD (set (d .origins) (jointsPlace + high) (kept (g .0))) n 0) here q) in
+      let f‴ = first-row-kept text m settingsWidth (nb * bodyWidth) (high + 1 + 1) (done + 1) nb (j + 1) (j + 1) _ f″ (omega arith) in
       let v : 1 ≡ jointWordAt m done = sym (canonical-at m j centerChoicePlace (omega arith) ∙ ap (λ (t : Bool). cond t 0 1) z) in
       record {
         here = e .0;
         kept =
-            kept-cast text m settingsWidth (nb * bodyWidth) (high + 1 + 1) (done + 1) nb (j + 1) (j + 1) (nb * bodyWidth) (j * numbersWidth + numbersWidth) (j * wordsWidth + wordsWidth) (lineRead text d)
-            (kept-same-as text m settingsWidth (nb * bodyWidth) (high + 1 + 1) (done + 1) nb (j + 1) (j + 1) _ (lineRead text d) f″
+            kept-cast text m settingsWidth (nb * bodyWidth) (high + 1 + 1) (done + 1 + 1) nb (j + 1) (j + 1) (nb * bodyWidth) (j * numbersWidth + numbersWidth) (j * wordsWidth + wordsWidth) (lineRead text d)
+            (kept-same-as text m settingsWidth (nb * bodyWidth) (high + 1 + 1) (done + 1 + 1) nb (j + 1) (j + 1) _ (lineRead text d) f‴
             (record {
               numbers≡ = e .1 ∙ ap (λ (n : ℕ). set (d .numbers) n x) b;
               origins≡ = e .2 ∙ ap (λ (n : ℕ). set (d .origins) n (kept (g .0))) b;

@@ -10,7 +10,7 @@ use lib.Ieee.{Float, nan}
 use lib.ListN.{length, getD, drop, length-drop, replicate, length-replicate}
 use Rattle.floats.specs.Operators.{bits}
 use lib.Seq.{getD-drop}
-use Rattle.model.specs.Layout.{bodyWidth, wordsWidth, body1Place, body2Place, masksPlace, modelsPlace, enabledPlace, centerChoicePlace, numbersWidth, centerPlace}
+use Rattle.model.specs.Layout.{bodyWidth, wordsWidth, body1Place, body2Place, masksPlace, modelsPlace, enabledPlace, centerChoicePlace, firstRowPlace, numbersWidth, centerPlace}
 use Rattle.model.specs.Records.{num, word}
 use Rattle.model.specs.Store.{world, jointAt, centerAt, body1At, body2At}
 use Rattle.multibody.specs.Model.{Model}
@@ -220,10 +220,10 @@ module _ (text : List ℕ) (m : Model) (nb nj : ℕ) (d : Draft) (k : Kept text 
         getD-drop jointsPlace (d .numbers) (j * numbersWidth + (centerPlace + 1)) nan
         ∙ k .joints (j * numbersWidth + (centerPlace + 1)) (omega arith) (λ q. ap (λ (n : ℕ). eqb (getD (m .words) (n * wordsWidth + centerChoicePlace) 0) 0) s ∙ e)
 
-    word-held : (c : ℕ) → c < wordsWidth → word wordsWidth (d .words) j c ≡ canonical c (word wordsWidth (m .words) j c)
+    word-held : (c : ℕ) → c < firstRowPlace → word wordsWidth (d .words) j c ≡ canonical c (word wordsWidth (m .words) j c)
     word-held c r =
         let s : j * wordsWidth + c ≡ 0 + (j * wordsWidth + c) = omega arith in
-        ap (λ (n : ℕ). getD (d .words) n 0) s ∙ k .words (j * wordsWidth + c) (omega arith) tt ∙ canonical-at m j c r
+        ap (λ (n : ℕ). getD (d .words) n 0) s ∙ k .words (j * wordsWidth + c) (omega arith) (λ q. omega arith) ∙ canonical-at m j c (omega arith)
 
     joint-held : jointAt (d .words) (jointsRead d) j ≡ jointAt (m .words) (m .numbers) j
     unfolding jointAt canonical

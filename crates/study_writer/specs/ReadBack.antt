@@ -1,6 +1,7 @@
 -- Print, then read: the text of a model that rules 1 to 4 let through is read with no fault, and what is read is the model. It is stated over the model as the
 -- rows decode it (jointAt of crates/model/specs/Store.antt): of words that mean the same, such as a motor model of 7 for 1, one spelling is printed, and the
--- number beside a typed angle, which is nobody's, is not printed.
+-- number beside a typed angle, which is nobody's, is not printed. Nor is a joint's first row, which is none of its contents: a text has no word for it, the
+-- storage that is read into keeps what it has there, and a load writes it.
 use Prim.Native.Nat.{ℕ, _≤_, _<_}
 use mathlib.Core.Path.{_≡_}
 use mathlib.Core.Bool.{true}
