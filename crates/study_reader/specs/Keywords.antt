@@ -1,9 +1,10 @@
 -- The words that start lines, by tables: the first line of a table with the word decides.
 use mathlib.Core.Bool.{cond}
 use mathlib.Core.List.{List, [], _∷_, _++_}
-use Prim.Native.Nat.{ℕ}
+use Prim.Native.Nat.{ℕ, _+_}
 use Prim.Native.String.{String}
 use Rattle.texts.specs.Ascii.{ascii}
+use Rattle.model.specs.Layout.{posePlace, inertiaPlace, massPlace, velocityPlace, frame1Place, frame2Place, limitsPlace, limitsWidth, limitSeed, motorsPlace, motorWidth, motorSeed, softnessPlace, dofsPlace}
 use Rattle.study_reader.specs.Words.{sameBytes, bytesOf}
 use Rattle.study_reader.specs.declared.words.Word.{Word}
 use Rattle.study_reader.specs.declared.fields.Field.{Field}
@@ -65,39 +66,39 @@ settingsFields =
 
 abbrev pub bodyFields : List (Named Field)
 bodyFields =
-    named "rotation" (field bodyItem 0 2 0) ∷
-    named "position" (field bodyItem 2 2 0) ∷
-    named "inverse_inertia" (field bodyItem 4 1 0) ∷
-    named "inverse_masses" (field bodyItem 5 2 0) ∷
-    named "velocity" (field bodyItem 7 2 0) ∷
-    named "angular_velocity" (field bodyItem 9 1 0) ∷
+    named "rotation" (field bodyItem posePlace 2 0) ∷
+    named "position" (field bodyItem (posePlace + 2) 2 0) ∷
+    named "inverse_inertia" (field bodyItem inertiaPlace 1 0) ∷
+    named "inverse_masses" (field bodyItem massPlace 2 0) ∷
+    named "velocity" (field bodyItem velocityPlace 2 0) ∷
+    named "angular_velocity" (field bodyItem (velocityPlace + 2) 1 0) ∷
     []
 
 abbrev pub frameFields : List (Named Field)
 frameFields =
-    named "frame1_rotation" (field jointItem 0 2 0) ∷
-    named "frame1" (field jointItem 2 2 0) ∷
-    named "frame2_rotation" (field jointItem 4 2 0) ∷
-    named "frame2" (field jointItem 6 2 0) ∷
-    named "limits" (field jointItem 8 2 3) ∷
-    named "limit_impulse" (field jointItem 10 1 3) ∷
+    named "frame1_rotation" (field jointItem frame1Place 2 0) ∷
+    named "frame1" (field jointItem (frame1Place + 2) 2 0) ∷
+    named "frame2_rotation" (field jointItem frame2Place 2 0) ∷
+    named "frame2" (field jointItem (frame2Place + 2) 2 0) ∷
+    named "limits" (field jointItem limitsPlace 2 limitsWidth) ∷
+    named "limit_impulse" (field jointItem (limitsPlace + limitSeed) 1 limitsWidth) ∷
     []
 
 abbrev pub motorFields : List (Named Field)
 motorFields =
-    named "target_velocity" (field jointItem 17 1 6) ∷
-    named "target_position" (field jointItem 18 1 6) ∷
-    named "stiffness" (field jointItem 19 1 6) ∷
-    named "damping" (field jointItem 20 1 6) ∷
-    named "max_force" (field jointItem 21 1 6) ∷
-    named "motor_impulse" (field jointItem 22 1 6) ∷
+    named "target_velocity" (field jointItem motorsPlace 1 motorWidth) ∷
+    named "target_position" (field jointItem (motorsPlace + 1) 1 motorWidth) ∷
+    named "stiffness" (field jointItem (motorsPlace + 2) 1 motorWidth) ∷
+    named "damping" (field jointItem (motorsPlace + 3) 1 motorWidth) ∷
+    named "max_force" (field jointItem (motorsPlace + 4) 1 motorWidth) ∷
+    named "motor_impulse" (field jointItem (motorsPlace + motorSeed) 1 motorWidth) ∷
     []
 
 abbrev pub softnessFields : List (Named Field)
 softnessFields =
-    named "natural_frequency" (field jointItem 35 1 0) ∷
-    named "damping_ratio" (field jointItem 36 1 0) ∷
-    named "impulse" (field jointItem 37 1 1) ∷
+    named "natural_frequency" (field jointItem softnessPlace 1 0) ∷
+    named "damping_ratio" (field jointItem (softnessPlace + 1) 1 0) ∷
+    named "impulse" (field jointItem dofsPlace 1 1) ∷
     []
 
 abbrev pub fieldOf : List ℕ → Word → Field
