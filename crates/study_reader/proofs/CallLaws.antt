@@ -2,7 +2,7 @@
 use mathlib.Core.Path.{_≡_, refl, sym, ap, _∙_}
 use mathlib.Core.Bool.{Bool, true, false, cond}
 use mathlib.Core.List.{List}
-use Prim.Native.Nat.{ℕ}
+use Prim.Native.Nat.{ℕ, zero, suc, _-_, _≤_, _<_}
 use native.Mathlib.Omega.{arith}
 use borrow.Author.Tests.{eq-eqb, ne-eqb}
 use lib.Dec.{eqb}
@@ -16,7 +16,7 @@ use Rattle.study_reader.specs.Words.{nextWord, isEmpty, isWord, wholeOf}
 use Rattle.study_reader.specs.Numbers.{numberIn, numberFault, valueOf}
 use Rattle.study_reader.specs.Names.{ABSENT}
 use Rattle.study_reader.specs.Keywords.{callKeyword}
-use Rattle.study_reader.specs.Calls.{bareCall, wrong, withWord, withNumber, withPose, withRotation, withWarm, first, second, ofNumber, ofWhole, ofNamed, readWhole, rotationOf, readRotation, poseOf, readPose, readSubstep, buildOf, readMost, settleOf, arguments, readCall}
+use Rattle.study_reader.specs.Calls.{bareCall, wrong, withWord, withNumber, withPose, withRotation, withWarm, first, second, ofNumber, ofWhole, ofNamed, readWhole, rotationOf, readRotation, poseOf, readPose, readSubstep, buildOf, maskStep, maskSteps, readMost, settleOf, arguments, readCall}
 use Rattle.study_reader.specs.declared.words.Word.{Word}
 use Rattle.study_reader.specs.declared.words.Whole.{Whole}
 use Rattle.study_reader.specs.declared.calls.Line.{Line}
@@ -134,6 +134,18 @@ module _ (text : List ℕ) (l : Line) (v : Word) (a : Reading) (fault : ℕ) (p 
   pub tolerance-is : fault ≡ 0 → (x : Float) → x ≡ valueOf a → readMost text (withPose l x (l .y) (v .end)) ≡ settleOf text l v
   unfolding settleOf
   tolerance-is z x d = number-is l v _ text a fault p q z x d
+
+-- ---- masks: one turn
+
+pub masks-step : (text : List ℕ) (n : ℕ) (l : Line) → 0 < n → maskSteps text n l ≡ maskSteps text (n - 1) (maskStep text l)
+unfolding maskSteps
+masks-step text zero l h = absurd (omega arith)
+masks-step text (suc n) l h = let e : suc n - 1 ≡ n = omega arith in rw e
+
+pub masks-done : (text : List ℕ) (n : ℕ) (l : Line) → n ≤ 0 → maskSteps text n l ≡ l
+unfolding maskSteps
+masks-done text zero l h = refl
+masks-done text (suc n) l h = absurd (omega arith)
 
 -- ---- a call
 

@@ -1,10 +1,10 @@
 -- Places in the text: where a word starts and ends, and what the line of a call names, is in the text or at its end.
-use Prim.Native.Nat.{ℕ, _+_, _-_, _≤_, _<_}
+use Prim.Native.Nat.{ℕ, zero, suc, _+_, _-_, _≤_, _<_}
 use mathlib.Core.Path.{_≡_, refl}
 use mathlib.Core.Bool.{Bool, true, false, cond, not}
 use mathlib.Core.List.{List, [], _∷_}
 use native.Mathlib.Omega.{arith}
-use lib.Dec.{eqb}
+use lib.Dec.{eqb, ltb}
 use lib.Ieee.{Float}
 use lib.ListN.{length, drop, length-drop}
 use Rattle.decimals.specs.declared.number.Reading.{Reading}
@@ -14,8 +14,8 @@ use Rattle.study_reader.specs.Words.{isBlank, endsWord, runOf, lineCount
 use Rattle.study_reader.specs.Numbers.{numberIn}
 use Rattle.study_reader.specs.Names.{ABSENT, findBody, findJoint}
 use Rattle.study_reader.specs.Faults.{faultNested, faultNoRepeat}
-use Rattle.study_reader.specs.Keywords.{readRowsKeyword, readVelocityKeyword, setTargetsKeyword, repeatKeyword, endKeyword, tableKeyword, settleKeyword, placeKeyword, buildKeyword, sweepKeyword}
-use Rattle.study_reader.specs.Calls.{bareCall, wrong, withWord, withNumber, withPlace, withPose, withRotation, withWarm, first, second, ofNumber, ofWhole, ofNamed, readBody, readSubstep, rotationOf, poseOf, placeOf, substepOf, buildOf, csvOf, readMost, mostOf, settleOf, fileOf, readRepeat, readEnd, otherArguments, arguments, readCall}
+use Rattle.study_reader.specs.Keywords.{readRowsKeyword, readVelocityKeyword, setTargetsKeyword, repeatKeyword, endKeyword, tableKeyword, masksKeyword, settleKeyword, placeKeyword, buildKeyword, sweepKeyword}
+use Rattle.study_reader.specs.Calls.{noMask, bareCall, wrong, withWord, withNumber, withPlace, withPose, withRotation, withWarm, first, second, ofNumber, ofWhole, ofNamed, readBody, readSubstep, rotationOf, poseOf, placeOf, substepOf, buildOf, csvOf, readMost, mostOf, settleOf, fileOf, readRepeat, readEnd, withMask, withAxes, maskNamed, bitsOf, ofBits, maskWord, maskStep, maskSteps, otherArguments, arguments, readCall}
 use Rattle.study_reader.specs.declared.words.Word.{Word}
 use Rattle.study_reader.specs.declared.words.Whole.{Whole}
 use Rattle.study_reader.specs.declared.calls.Line.{Line}
@@ -146,6 +146,28 @@ module _ (text : List ℕ) where
   unfolding fileOf
   within-file l w s e h = within-cond (isEmpty w) _ _ (record { at = h .at; fault = s }) (record { at = e; fault = h .fault })
 
+  within-bits : (l : Line) (w : Word) (b : Whole) → w .start ≤ length text → w .end ≤ length text → Within text l → Within text (ofBits l w b)
+  unfolding ofBits
+  within-bits l w (Whole.Number b) s e h = record { at = e; fault = h .fault }
+  within-bits l w Whole.No s e h = record { at = h .at; fault = s }
+
+  within-mask-word : (l : Line) (w : Word) → w .start ≤ length text → w .end ≤ length text → Within text l → Within text (maskWord text l w)
+  unfolding maskWord
+  within-mask-word l w s e h =
+      within-cond (ltb (maskNamed text w) noMask) _ _ (record { at = e; fault = h .fault })
+      (within-cond (ltb (l .mask) noMask) _ _ (within-bits l w (bitsOf text w) s e h) (record { at = h .at; fault = s }))
+
+  within-mask-step : (l : Line) → Within text l → Within text (maskStep text l)
+  unfolding maskStep
+  within-mask-step l h =
+      within-cond (eqb (l .fault) 0) _ _
+      (within-cond (isEmpty (first text l)) _ _ h (within-mask-word l _ (start-inside text (l .at) (h .at)) (end-inside text (l .at) (h .at)) h)) h
+
+  within-mask-steps : (n : ℕ) (l : Line) → Within text l → Within text (maskSteps text n l)
+  unfolding maskSteps
+  within-mask-steps zero l h = h
+  within-mask-steps (suc n) l h = within-mask-steps n (maskStep text l) (within-mask-step l h)
+
   module _ (l : Line) (h : Within text l) where
     s1 : first text l .start ≤ length text
     s1 = start-inside text (l .at) (h .at)
@@ -165,7 +187,8 @@ module _ (text : List ℕ) where
         (within-cond (eqb (l .keyword) repeatKeyword) _ _ (within-cond repeats _ _ (wrong-within faultNested place p) (within-whole l _ _ s1 e1 h))
         (within-cond (eqb (l .keyword) endKeyword) _ _ (within-cond repeats _ _ h (wrong-within faultNoRepeat place p))
         (within-cond (eqb (l .keyword) tableKeyword) _ _ (within-csv l _ s1 e1 h)
-        (within-cond (eqb (l .keyword) settleKeyword) _ _ (within-settle l _ s1 e1 h) h))))))
+        (within-cond (eqb (l .keyword) settleKeyword) _ _ (within-settle l _ s1 e1 h)
+        (within-cond (eqb (l .keyword) masksKeyword) _ _ (within-mask-steps 16 _ (within-named l _ _ _ s1 e1 h)) h)))))))
 
     within-arguments : (names : List ℕ) (bodies joints : ℕ) (repeats : Bool) (place : ℕ) → place ≤ length text → Within text (arguments text names bodies joints repeats l place)
     unfolding arguments

@@ -14,7 +14,8 @@ use Rattle.study_reader.specs.Faults.{faultAxis}
 use Rattle.study_reader.specs.Storage.{mostItems, settingsWidth, jointsPlace, numbersSize, wordsSize, bodyBase, jointBase, wordsBase}
 use Rattle.study_reader.specs.Keywords.{Named, meaning, axisOf, fieldOf}
 use Rattle.study_reader.specs.Draft.{Draft}
-use Rattle.study_reader.specs.Items.{whole, bitOf, axesFrom}
+use Rattle.study_reader.specs.Calls.{bitOf}
+use Rattle.study_reader.specs.Items.{whole, axesFrom}
 use Rattle.study_reader.specs.Study.{lineRead, linesRead, centerJoint, centerJoints}
 use Rattle.study_reader.specs.declared.words.Word.{Word}
 use Rattle.study_reader.specs.declared.fields.Field.{Field}

@@ -18,9 +18,9 @@ use Rattle.model.specs.Layout.{centerPlace}
 use Rattle.study_reader.specs.Storage.{mostItems, jointBase}
 use Rattle.study_reader.specs.Names.{ABSENT, findEnd}
 use Rattle.study_reader.specs.Keywords.{axisOf, fieldOf, noItem, callsItem, itemKeyword, callKeyword, lockKeyword, motorModelKeyword, enabledKeyword, centerKeyword, settingsKeyword, bodyKeyword, repeatKeyword}
-use Rattle.study_reader.specs.Calls.{readCall}
+use Rattle.study_reader.specs.Calls.{bitOf, readCall}
 use Rattle.study_reader.specs.Draft.{Draft, draft, start, faulty, itemBase, Default, puts, settingsDefaults}
-use Rattle.study_reader.specs.Items.{byPair, noCenter, bitOf, nameFault, kindFault, kindOf, orFault, whole, secondNumber, numbersFrom, givenLine, fieldNumbers, axesFrom, namedMask, maskOf, maskLine, modelLine, wordLine, bodyLine, endsLine, jointLine, fieldLine, openLine, itemLine, callLine, lineOf}
+use Rattle.study_reader.specs.Items.{byPair, noCenter, nameFault, kindFault, kindOf, orFault, whole, secondNumber, numbersFrom, givenLine, fieldNumbers, axesFrom, namedMask, maskOf, maskLine, modelLine, wordLine, bodyLine, endsLine, jointLine, fieldLine, openLine, itemLine, callLine, lineOf}
 use Rattle.study_reader.specs.Study.{second, numbersWith, openBody, openJoint, applied, lineRead, linesRead, ended, isLeftOut, centerJoint, centerJoints, readStudy}
 use Rattle.study_reader.specs.Laws.{BlankLine, FirstFault, WholeText, Inside, AllInside, Defaults, defaultAt, Replaced}
 use Rattle.study_reader.specs.declared.words.Word.{Word}

@@ -1,8 +1,9 @@
 -- The line of a call: its keyword, and the arguments that stand after it.
 use mathlib.Core.Bool.{Bool, true, false, cond}
 use mathlib.Core.List.{List}
-use Prim.Native.Nat.{ℕ}
-use lib.Dec.{eqb}
+use Prim.Native.Nat.{ℕ, zero, suc, _-_}
+use lib.Bits.{bitOr}
+use lib.Dec.{eqb, ltb}
 use lib.Ieee.{Float}
 use Rattle.floats.specs.Operators.{bits}
 use Rattle.floats.specs.SinCos.{rotationFromAngleOf}
@@ -10,56 +11,86 @@ use Rattle.floats.specs.declared.rotation_ops.Rotation.{Rotation}
 use Rattle.decimals.specs.declared.number.Reading.{Reading}
 use Rattle.decimals.specs.declared.number.Reading.the-variants.{Number, TooManyDigits, NotANumber}
 use Rattle.texts.specs.Ascii.{ascii}
-use Rattle.study_reader.specs.Faults.{faultNumber, faultDigits, faultNoBody, faultNoJoint, faultWholeNumber, faultNoRepeat, faultNested, faultWarm, faultCsv, faultFileName}
+use Rattle.rows.specs.declared.generic_joint.Masks.{Masks}
+use Rattle.study_reader.specs.Faults.{faultNumber, faultDigits, faultNoBody, faultNoJoint, faultWholeNumber, faultNoRepeat, faultNested, faultWarm, faultCsv, faultFileName, faultMask}
 use Rattle.study_reader.specs.Words.{nextWord, isEmpty, isWord, wholeOf}
 use Rattle.study_reader.specs.Numbers.{numberIn}
 use Rattle.study_reader.specs.Names.{ABSENT, findBody, findJoint}
-use Rattle.study_reader.specs.Keywords.{placeKeyword, buildKeyword, sweepKeyword, readRowsKeyword, readVelocityKeyword, setTargetsKeyword, repeatKeyword, endKeyword, tableKeyword, settleKeyword, callKeyword}
+use Rattle.study_reader.specs.Keywords.{placeKeyword, buildKeyword, sweepKeyword, readRowsKeyword, readVelocityKeyword, setTargetsKeyword, repeatKeyword, endKeyword, tableKeyword, masksKeyword, settleKeyword, callKeyword, axisOf, itemKeyword, lockKeyword, motorModelKeyword}
 use Rattle.study_reader.specs.declared.words.Word.{Word}
 use Rattle.study_reader.specs.declared.words.Whole.{Whole}
 use Rattle.study_reader.specs.declared.calls.Line.{Line}
 
 -- ---- a line, and the line with more of it read
 
+abbrev pub noMasks : Masks
+noMasks = record { «locked_axes» = 0; «limit_axes» = 0; «motor_axes» = 0; «coupled_axes» = 0 }
+
+-- the locked, limited, driven and coupled axes are masks 0 to 3; none of them is 4
+abbrev pub noMask : ℕ
+noMask = 4
+
 -- no argument: the line is read up to the end of its keyword
 abbrev pub bareCall : ℕ → ℕ → Line
 bareCall keyword at =
-    record { keyword = keyword; number = 0; warm = false; csv = false; x = bits 0; y = bits 0; re = bits 0x3f800000; im = bits 0; start = at; end = at; at = at; fault = 0; «fault_at» = 0 }
+    record { keyword = keyword; number = 0; masks = noMasks; mask = noMask; warm = false; csv = false; x = bits 0; y = bits 0; re = bits 0x3f800000; im = bits 0; start = at; end = at; at = at; fault = 0; «fault_at» = 0 }
 
 -- a fault and its place
 abbrev pub wrong : Line → ℕ → ℕ → Line
 wrong l fault place =
-    record { keyword = l .keyword; number = l .number; warm = l .warm; csv = l .csv; x = l .x; y = l .y; re = l .re; im = l .im; start = l .start; end = l .end; at = l .at; fault = fault; «fault_at» = place }
+    record { keyword = l .keyword; number = l .number; masks = l .masks; mask = l .mask; warm = l .warm; csv = l .csv; x = l .x; y = l .y; re = l .re; im = l .im; start = l .start; end = l .end; at = l .at; fault = fault; «fault_at» = place }
 
 -- the first argument
 abbrev pub withWord : Line → Word → Line
 withWord l w =
-    record { keyword = l .keyword; number = l .number; warm = l .warm; csv = l .csv; x = l .x; y = l .y; re = l .re; im = l .im; start = w .start; end = w .end; at = w .end; fault = l .fault; «fault_at» = l .«fault_at» }
+    record { keyword = l .keyword; number = l .number; masks = l .masks; mask = l .mask; warm = l .warm; csv = l .csv; x = l .x; y = l .y; re = l .re; im = l .im; start = w .start; end = w .end; at = w .end; fault = l .fault; «fault_at» = l .«fault_at» }
 
 -- a body, a joint, a count or a substep
 abbrev pub withNumber : Line → ℕ → Line
 withNumber l n =
-    record { keyword = l .keyword; number = n; warm = l .warm; csv = l .csv; x = l .x; y = l .y; re = l .re; im = l .im; start = l .start; end = l .end; at = l .at; fault = l .fault; «fault_at» = l .«fault_at» }
+    record { keyword = l .keyword; number = n; masks = l .masks; mask = l .mask; warm = l .warm; csv = l .csv; x = l .x; y = l .y; re = l .re; im = l .im; start = l .start; end = l .end; at = l .at; fault = l .fault; «fault_at» = l .«fault_at» }
 
 abbrev pub withPlace : Line → ℕ → Line
 withPlace l place =
-    record { keyword = l .keyword; number = l .number; warm = l .warm; csv = l .csv; x = l .x; y = l .y; re = l .re; im = l .im; start = l .start; end = l .end; at = place; fault = l .fault; «fault_at» = l .«fault_at» }
+    record { keyword = l .keyword; number = l .number; masks = l .masks; mask = l .mask; warm = l .warm; csv = l .csv; x = l .x; y = l .y; re = l .re; im = l .im; start = l .start; end = l .end; at = place; fault = l .fault; «fault_at» = l .«fault_at» }
 
 abbrev pub withPose : Line → Float → Float → ℕ → Line
 withPose l x y place =
-    record { keyword = l .keyword; number = l .number; warm = l .warm; csv = l .csv; x = x; y = y; re = l .re; im = l .im; start = l .start; end = l .end; at = place; fault = l .fault; «fault_at» = l .«fault_at» }
+    record { keyword = l .keyword; number = l .number; masks = l .masks; mask = l .mask; warm = l .warm; csv = l .csv; x = x; y = y; re = l .re; im = l .im; start = l .start; end = l .end; at = place; fault = l .fault; «fault_at» = l .«fault_at» }
 
 abbrev pub withRotation : Line → Float → Float → ℕ → Line
 withRotation l re im place =
-    record { keyword = l .keyword; number = l .number; warm = l .warm; csv = l .csv; x = l .x; y = l .y; re = re; im = im; start = l .start; end = l .end; at = place; fault = l .fault; «fault_at» = l .«fault_at» }
+    record { keyword = l .keyword; number = l .number; masks = l .masks; mask = l .mask; warm = l .warm; csv = l .csv; x = l .x; y = l .y; re = re; im = im; start = l .start; end = l .end; at = place; fault = l .fault; «fault_at» = l .«fault_at» }
 
 abbrev pub withWarm : Line → Float → ℕ → Line
 withWarm l x place =
-    record { keyword = l .keyword; number = l .number; warm = true; csv = l .csv; x = x; y = l .y; re = l .re; im = l .im; start = l .start; end = l .end; at = place; fault = l .fault; «fault_at» = l .«fault_at» }
+    record { keyword = l .keyword; number = l .number; masks = l .masks; mask = l .mask; warm = true; csv = l .csv; x = x; y = l .y; re = l .re; im = l .im; start = l .start; end = l .end; at = place; fault = l .fault; «fault_at» = l .«fault_at» }
 
 abbrev pub withCsv : Line → Line
 withCsv l =
-    record { keyword = l .keyword; number = l .number; warm = l .warm; csv = true; x = l .x; y = l .y; re = l .re; im = l .im; start = l .start; end = l .end; at = l .at; fault = l .fault; «fault_at» = l .«fault_at» }
+    record { keyword = l .keyword; number = l .number; masks = l .masks; mask = l .mask; warm = l .warm; csv = true; x = l .x; y = l .y; re = l .re; im = l .im; start = l .start; end = l .end; at = l .at; fault = l .fault; «fault_at» = l .«fault_at» }
+
+-- the axes that follow are of mask i
+abbrev pub withMask : Line → ℕ → ℕ → Line
+withMask l i place =
+    record { keyword = l .keyword; number = l .number; masks = l .masks; mask = i; warm = l .warm; csv = l .csv; x = l .x; y = l .y; re = l .re; im = l .im; start = l .start; end = l .end; at = place; fault = l .fault; «fault_at» = l .«fault_at» }
+
+-- mask k with the bits b where mask i gets them
+abbrev pub withBits : ℕ → ℕ → ℕ → ℕ → ℕ
+withBits mask i k b = cond (eqb i k) (bitOr mask b) mask
+
+abbrev pub masksWith : Masks → ℕ → ℕ → Masks
+masksWith m i b = record {
+  «locked_axes» = withBits (m .«locked_axes») i 0 b;
+  «limit_axes» = withBits (m .«limit_axes») i 1 b;
+  «motor_axes» = withBits (m .«motor_axes») i 2 b;
+  «coupled_axes» = withBits (m .«coupled_axes») i 3 b;
+}
+
+-- the mask that was named last, with bits
+abbrev pub withAxes : Line → ℕ → ℕ → Line
+withAxes l b place =
+    record { keyword = l .keyword; number = l .number; masks = masksWith (l .masks) (l .mask) b; mask = l .mask; warm = l .warm; csv = l .csv; x = l .x; y = l .y; re = l .re; im = l .im; start = l .start; end = l .end; at = place; fault = l .fault; «fault_at» = l .«fault_at» }
 
 -- ---- one argument
 
@@ -166,6 +197,43 @@ fileOf l w = cond (isEmpty w) (wrong l faultFileName (w .start)) (withWord l w)
 abbrev pub readFile : List ℕ → Line → Line
 readFile text l = fileOf l (first text l)
 
+-- the mask that a word names, in the order of document 01: `lock`, `limit`, `motor`, `couple`
+unfoldable pub maskNamed : List ℕ → Word → ℕ
+maskNamed text w =
+    let keyword = itemKeyword text w in
+    cond (ltb keyword lockKeyword) noMask (cond (ltb keyword motorModelKeyword) (keyword - lockKeyword) noMask)
+
+-- an axis's bit in a mask
+abbrev pub bitOf : ℕ → ℕ
+bitOf axis = cond (eqb axis 0) 1 (cond (eqb axis 1) 2 4)
+
+-- the bits that a word gives: an axis's, or those of a whole number
+unfoldable pub bitsOf : List ℕ → Word → Whole
+bitsOf text w = cond (ltb 2 (axisOf text w)) (wholeOf text w) (Whole.Number (bitOf (axisOf text w)))
+
+unfoldable pub ofBits : Line → Word → Whole → Line
+ofBits l w (Whole.Number b) = withAxes l b (w .end)
+ofBits l w Whole.No = wrong l faultMask (w .start)
+
+-- a word that names a mask, or one that gives bits of the mask named last
+unfoldable pub maskWord : List ℕ → Line → Word → Line
+maskWord text l w =
+    cond (ltb (maskNamed text w) noMask) (withMask l (maskNamed text w) (w .end))
+    (cond (ltb (l .mask) noMask) (ofBits l w (bitsOf text w)) (wrong l faultMask (w .start)))
+
+-- one word more, unless there is a fault or no word
+unfoldable pub maskStep : List ℕ → Line → Line
+maskStep text l = cond (eqb (l .fault) 0) (cond (isEmpty (first text l)) l (maskWord text l (first text l))) l
+
+-- at most so many words
+unfoldable pub maskSteps : List ℕ → ℕ → Line → Line
+maskSteps text zero l = l
+maskSteps text (suc n) l = maskSteps text n (maskStep text l)
+
+-- `masks JOINT`, then four words that name a mask, each with three axes, or fewer
+abbrev pub readMasks : List ℕ → List ℕ → ℕ → Line → Line
+readMasks text names joints l = maskSteps text 16 (readJoint text names joints l)
+
 -- `repeat N` where none is open, and `end` where one is; a fault stands at the keyword
 unfoldable pub readRepeat : List ℕ → Bool → Line → ℕ → Line
 readRepeat text repeats l place = cond repeats (wrong l faultNested place) (readWhole text l)
@@ -183,7 +251,8 @@ otherArguments text names bodies joints repeats l place =
     (cond (eqb (l .keyword) repeatKeyword) (readRepeat text repeats l place)
     (cond (eqb (l .keyword) endKeyword) (readEnd repeats l place)
     (cond (eqb (l .keyword) tableKeyword) (readCsv text l)
-    (cond (eqb (l .keyword) settleKeyword) (readSettle text l) l))))))
+    (cond (eqb (l .keyword) settleKeyword) (readSettle text l)
+    (cond (eqb (l .keyword) masksKeyword) (readMasks text names joints l) l)))))))
 
 unfoldable pub arguments : List ℕ → List ℕ → ℕ → ℕ → Bool → Line → ℕ → Line
 arguments text names bodies joints repeats l place =

@@ -72,3 +72,6 @@ faultLongName = 23
 
 abbrev pub faultPlainName : ℕ
 faultPlainName = 24
+
+abbrev pub faultMask : ℕ
+faultMask = 25

@@ -17,7 +17,7 @@ use Rattle.study_reader.specs.Storage.{mostItems}
 use Rattle.study_reader.specs.Names.{ABSENT, findBody, findJoint, findEnd}
 use Rattle.study_reader.specs.Faults.{faultUnknown, faultName, faultTaken, faultNoBody, faultLineEnd, faultAxis, faultBodiesFull, faultJointsFull, faultAfterCalls, faultElsewhere, faultModel, faultWorldName, faultLongName, faultPlainName}
 use Rattle.study_reader.specs.Keywords.{axisOf, fieldOf, noItem, bodyItem, jointItem, callsItem, itemKeyword, callKeyword, massKeyword, inverseMassKeyword, inertiaKeyword, angleKeyword, frame1AngleKeyword, frame2AngleKeyword, lockKeyword, motorModelKeyword, enabledKeyword, centerKeyword, settingsKeyword, bodyKeyword}
-use Rattle.study_reader.specs.Calls.{readCall}
+use Rattle.study_reader.specs.Calls.{bitOf, readCall}
 use Rattle.study_reader.specs.declared.words.Word.{Word}
 use Rattle.study_reader.specs.declared.words.Whole.{Whole}
 use Rattle.study_reader.specs.declared.words.Whole.the-variants.{Number, No}
@@ -101,10 +101,6 @@ fieldNumbers text w =
     (cond (ltb 2 axis) (Wrong faultAxis (v .start)) (numbersFrom text (v .end) (f .place + axis * f .stride) (f .many) noCenter))
 
 -- ---- words of the joint that is open
-
--- an axis's bit in a mask
-abbrev pub bitOf : ℕ → ℕ
-bitOf axis = cond (eqb axis 0) 1 (cond (eqb axis 1) 2 4)
 
 -- a mask with at most so many further axes, by name
 unfoldable pub axesFrom : List ℕ → ℕ → ℕ → ℕ → ℕ → ℕ → Change

@@ -245,6 +245,9 @@ tableKeyword = 43
 abbrev pub settleKeyword : ℕ
 settleKeyword = 44
 
+abbrev pub masksKeyword : ℕ
+masksKeyword = 45
+
 abbrev pub callWords : List (Named ℕ)
 callWords =
     named "load" loadKeyword ∷
@@ -265,6 +268,7 @@ readWords =
     named "end" endKeyword ∷
     named "table" tableKeyword ∷
     named "settle" settleKeyword ∷
+    named "masks" masksKeyword ∷
     []
 
 abbrev pub callKeyword : List ℕ → Word → ℕ

@@ -1,8 +1,9 @@
 // The line of a call: what it asks for.
 ghost use mathlib.Core.Path.{_≡_};
-ghost use Rattle.study_reader.specs.Calls.{bareCall, wrong, withWord, withNumber, withPlace, withPose, withRotation, withWarm, withCsv, readWhole, readBody, readJoint, readPose, readRotation, readBuild, readSubstep, readCsv, readMost, readSettle, readFile, readRepeat, readEnd, readPlace, otherArguments, readCall};
+ghost use Rattle.study_reader.specs.Calls.{bareCall, wrong, withWord, withNumber, withPlace, withPose, withRotation, withWarm, withCsv, readWhole, readBody, readJoint, readPose, readRotation, readBuild, readSubstep, readCsv, readMost, readSettle, readFile, readRepeat, readEnd, readPlace, withBits, masksWith, withMask, withAxes, maskNamed, bitOf, bitsOf, maskWord, maskStep, readMasks, otherArguments, readCall};
 use crate::faults::CSV;
 use crate::faults::FILE_NAME;
+use crate::faults::MASK;
 use crate::faults::NESTED;
 use crate::faults::NO_BODY;
 use crate::faults::NO_JOINT;
@@ -11,6 +12,9 @@ use crate::faults::WARM;
 use crate::faults::WHOLE_NUMBER;
 use crate::keywords::BUILD;
 use crate::keywords::END;
+use crate::keywords::LOCK;
+use crate::keywords::MASKS;
+use crate::keywords::MOTOR_MODEL;
 use crate::keywords::PLACE;
 use crate::keywords::READ_ROWS;
 use crate::keywords::READ_VELOCITY;
@@ -19,7 +23,9 @@ use crate::keywords::SET_TARGETS;
 use crate::keywords::SETTLE;
 use crate::keywords::SWEEP;
 use crate::keywords::TABLE;
+use crate::keywords::axis_of;
 use crate::keywords::call_keyword;
+use crate::keywords::item_keyword;
 use crate::names::ABSENT;
 use crate::names::find_body;
 use crate::names::find_joint;
@@ -33,12 +39,18 @@ use crate::words::is_empty;
 use crate::words::next_word;
 use crate::words::whole_number;
 use floats::sin_cos::rotation_from_angle;
+use rows::generic_joint::Masks;
+
+// The locked, limited, driven and coupled axes are masks 0 to 3; none of them is 4.
+const NO_MASK: u32 = 4;
 
 // A call, with its numbers: a body, a joint, a count or a substep; a pose; a warm coefficient, where there is one; a tolerance, as x. `start` and `end` are those of its
-// first argument, `at` is where what was read of it ends.
+// first argument, `at` is where what was read of it ends. Of new masks, `mask` is the one that the axes that follow belong to.
 pub struct Line {
     pub keyword: u32,
     pub number: u32,
+    pub masks: Masks,
+    pub mask: u32,
     pub warm: bool,
     pub csv: bool,
     pub x: f32,
@@ -60,6 +72,13 @@ fn bare_call(keyword: u32, at: usize) -> Line
     Line {
         keyword,
         number: 0,
+        masks: Masks {
+            locked_axes: 0,
+            limit_axes: 0,
+            motor_axes: 0,
+            coupled_axes: 0,
+        },
+        mask: NO_MASK,
         warm: false,
         csv: false,
         x: 0.0,
@@ -145,6 +164,46 @@ fn with_csv(l: Line) -> Line
 {
     let mut r = l;
     r.csv = true;
+    r
+}
+
+// The axes that follow are of mask i.
+fn with_mask(l: Line, i: u32, at: usize) -> Line
+    ensures { λ r. ⌜ r ≡ withMask l i at ⌝ }
+{
+    let mut r = l;
+    r.mask = i;
+    r.at = at;
+    r
+}
+
+fn with_bits(mask: u32, i: u32, k: u32, bits: u32) -> u32
+    ensures { λ r. ⌜ r ≡ withBits mask i k bits ⌝ }
+{
+    if i == k {
+        return mask | bits;
+    }
+    mask
+}
+
+fn masks_with(m: Masks, i: u32, bits: u32) -> Masks
+    ensures { λ r. ⌜ r ≡ masksWith m i bits ⌝ }
+{
+    Masks {
+        locked_axes: with_bits(m.locked_axes, i, 0, bits),
+        limit_axes: with_bits(m.limit_axes, i, 1, bits),
+        motor_axes: with_bits(m.motor_axes, i, 2, bits),
+        coupled_axes: with_bits(m.coupled_axes, i, 3, bits),
+    }
+}
+
+// The mask that was named last, with bits.
+fn with_axes(l: Line, bits: u32, at: usize) -> Line
+    ensures { λ r. ⌜ r ≡ withAxes l bits at ⌝ }
+{
+    let mut r = l;
+    r.masks = masks_with(l.masks, l.mask, bits);
+    r.at = at;
     r
 }
 
@@ -329,6 +388,87 @@ fn read_place(text: &[u8], names: &[u32], bodies: u32, l: Line) -> Line
     r
 }
 
+// The mask that a word names.
+fn mask_named(text: &[u8], w: Word) -> u32
+    ensures { λ r. ⌜ r ≡ maskNamed (now (text .entry)) w ⌝ }
+{
+    let keyword = item_keyword(text, w);
+    if keyword < LOCK {
+        return NO_MASK;
+    }
+    if keyword < MOTOR_MODEL {
+        return keyword - LOCK;
+    }
+    NO_MASK
+}
+
+pub fn bit_of(axis: u32) -> u32
+    ensures { λ r. ⌜ r ≡ bitOf axis ⌝ }
+{
+    if axis == 0 {
+        return 1;
+    }
+    if axis == 1 {
+        return 2;
+    }
+    4
+}
+
+// The bits that a word gives: an axis's, or those of a whole number.
+fn bits_of(text: &[u8], w: Word) -> Whole
+    ensures { λ r. ⌜ r ≡ bitsOf (now (text .entry)) w ⌝ }
+{
+    let axis = axis_of(text, w);
+    if 2 < axis {
+        return whole_number(text, w);
+    }
+    Whole::Number(bit_of(axis))
+}
+
+// A word that names a mask, or one that gives bits of the mask named last.
+fn mask_word(text: &[u8], l: Line, w: Word) -> Line
+    ensures { λ r. ⌜ r ≡ maskWord (now (text .entry)) l w ⌝ }
+{
+    let i = mask_named(text, w);
+    if i < NO_MASK {
+        return with_mask(l, i, w.end);
+    }
+    if NO_MASK <= l.mask {
+        return wrong(l, MASK, w.start);
+    }
+    match bits_of(text, w) {
+        Whole::Number(bits) => with_axes(l, bits, w.end),
+        Whole::No => wrong(l, MASK, w.start),
+    }
+}
+
+// One word more, unless there is a fault or no word.
+fn mask_step(text: &[u8], l: Line) -> Line
+    ensures { λ r. ⌜ r ≡ maskStep (now (text .entry)) l ⌝ }
+{
+    if l.fault != 0 {
+        return l;
+    }
+    let w = next_word(text, l.at);
+    if is_empty(w) {
+        return l;
+    }
+    mask_word(text, l, w)
+}
+
+// A joint, and its new masks.
+fn read_masks(text: &[u8], names: &[u32], joints: u32, l: Line) -> Line
+    ensures { λ r. ⌜ r ≡ readMasks (now (text .entry)) (now (names .entry)) joints l ⌝ }
+{
+    let mut r = read_joint(text, names, joints, l);
+    let mut left: u32 = 16;
+    while 0 < left {
+        r = mask_step(text, r);
+        left -= 1;
+    }
+    r
+}
+
 fn read_other_call(
     text: &[u8],
     names: &[u32],
@@ -361,6 +501,9 @@ fn read_other_call(
     }
     if keyword == SETTLE {
         return read_settle(text, l);
+    }
+    if keyword == MASKS {
+        return read_masks(text, names, joints, l);
     }
     l
 }

@@ -46,3 +46,5 @@ pub const FILE_NAME: u32 = 22;
 pub const LONG_NAME: u32 = 23;
 
 pub const PLAIN_NAME: u32 = 24;
+
+pub const MASK: u32 = 25;

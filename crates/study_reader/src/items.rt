@@ -1,6 +1,7 @@
 // What one line of a study says, before anything of it is written: a number or a word of the item that is open, an item, a call; or its first fault.
 ghost use mathlib.Core.Path.{_≡_};
-ghost use Rattle.study_reader.specs.Items.{whole, given1, given2, secondNumber, numbersFrom, rotated, givenBy, givenLine, fieldNumbers, bitOf, axesFrom, namedMask, maskLine, modelLine, wordLine, nameFault, bodyLine, endsLine, jointLine, kindFault, kindOf, fieldLine, openLine, itemLine, callLine, lineOf};
+ghost use Rattle.study_reader.specs.Items.{whole, given1, given2, secondNumber, numbersFrom, rotated, givenBy, givenLine, fieldNumbers, axesFrom, namedMask, maskLine, modelLine, wordLine, nameFault, bodyLine, endsLine, jointLine, kindFault, kindOf, fieldLine, openLine, itemLine, callLine, lineOf};
+use crate::calls::bit_of;
 use crate::calls::read_call;
 use crate::draft::State;
 use crate::faults::AFTER_CALLS;
@@ -238,18 +239,6 @@ fn read_field(text: &[u8], w: Word) -> Change
 }
 
 // ---- words of a joint
-
-fn bit_of(axis: u32) -> u32
-    ensures { λ r. ⌜ r ≡ bitOf axis ⌝ }
-{
-    if axis == 0 {
-        return 1;
-    }
-    if axis == 1 {
-        return 2;
-    }
-    4
-}
 
 // At most three axes by name.
 fn read_axes(text: &[u8], from: usize, place: u32, origin: usize) -> Change

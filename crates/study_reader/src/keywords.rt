@@ -72,6 +72,8 @@ pub const TABLE: u32 = 43;
 
 pub const SETTLE: u32 = 44;
 
+pub const MASKS: u32 = 45;
+
 // The word that starts an item or gives what is no plain number.
 pub fn item_keyword(text: &[u8], w: Word) -> u32
     ensures { λ r. ⌜ r ≡ itemKeyword (now (text .entry)) w ⌝ }
@@ -124,6 +126,7 @@ pub fn call_keyword(text: &[u8], w: Word) -> u32
         end 42\n\
         table 43\n\
         settle 44\n\
+        masks 45\n\
         ",
         NO_KEYWORD,
         text,

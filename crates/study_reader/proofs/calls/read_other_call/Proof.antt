@@ -56,9 +56,16 @@ returns-7 : tie.Need-returns-7
 unfolding otherArguments
 returns-7 c = c .read-settle .ensures ∙ true-is _ _ _ (eq-eqb _ _ (c .before .if7 .taken)) ∙ false-is _ _ _ (ne-eqb _ _ (c .before .before .if6 .left)) ∙ false-is _ _ _ (ne-eqb _ _ (c .before .before .before .if5 .left)) ∙ false-is _ _ _ (ne-eqb _ _ (c .before .before .before .before .if4 .left)) ∙ false-is _ _ _ (ne-eqb _ _ (c .before .before .before .before .before .if3 .left)) ∙ false-is _ _ _ (ne-eqb _ _ (c .before .before .before .before .before .before .if2 .left)) ∙ false-is _ _ _ (ne-eqb _ _ (c .before .before .before .before .before .before .before .if1 .left))
 
+read-masks-requires : tie.Need-read-masks-requires
+read-masks-requires c κs = search needs
+
 returns-8 : tie.Need-returns-8
 unfolding otherArguments
-returns-8 c = false-is _ _ _ (ne-eqb _ _ (c .if7 .left)) ∙ false-is _ _ _ (ne-eqb _ _ (c .before .if6 .left)) ∙ false-is _ _ _ (ne-eqb _ _ (c .before .before .if5 .left)) ∙ false-is _ _ _ (ne-eqb _ _ (c .before .before .before .if4 .left)) ∙ false-is _ _ _ (ne-eqb _ _ (c .before .before .before .before .if3 .left)) ∙ false-is _ _ _ (ne-eqb _ _ (c .before .before .before .before .before .if2 .left)) ∙ false-is _ _ _ (ne-eqb _ _ (c .before .before .before .before .before .before .if1 .left))
+returns-8 c = c .read-masks .ensures ∙ true-is _ _ _ (eq-eqb _ _ (c .before .if8 .taken)) ∙ false-is _ _ _ (ne-eqb _ _ (c .before .before .if7 .left)) ∙ false-is _ _ _ (ne-eqb _ _ (c .before .before .before .if6 .left)) ∙ false-is _ _ _ (ne-eqb _ _ (c .before .before .before .before .if5 .left)) ∙ false-is _ _ _ (ne-eqb _ _ (c .before .before .before .before .before .if4 .left)) ∙ false-is _ _ _ (ne-eqb _ _ (c .before .before .before .before .before .before .if3 .left)) ∙ false-is _ _ _ (ne-eqb _ _ (c .before .before .before .before .before .before .before .if2 .left)) ∙ false-is _ _ _ (ne-eqb _ _ (c .before .before .before .before .before .before .before .before .if1 .left))
+
+returns-9 : tie.Need-returns-9
+unfolding otherArguments
+returns-9 c = false-is _ _ _ (ne-eqb _ _ (c .if8 .left)) ∙ false-is _ _ _ (ne-eqb _ _ (c .before .if7 .left)) ∙ false-is _ _ _ (ne-eqb _ _ (c .before .before .if6 .left)) ∙ false-is _ _ _ (ne-eqb _ _ (c .before .before .before .if5 .left)) ∙ false-is _ _ _ (ne-eqb _ _ (c .before .before .before .before .if4 .left)) ∙ false-is _ _ _ (ne-eqb _ _ (c .before .before .before .before .before .if3 .left)) ∙ false-is _ _ _ (ne-eqb _ _ (c .before .before .before .before .before .before .if2 .left)) ∙ false-is _ _ _ (ne-eqb _ _ (c .before .before .before .before .before .before .before .if1 .left))
 
 pub read-other-call-spec : {M : Type 1} → statement M
 read-other-call-spec =
@@ -78,4 +85,6 @@ read-other-call-spec =
     returns-6
     read-settle-requires
     returns-7
-    returns-8)
+    read-masks-requires
+    returns-8
+    returns-9)

@@ -1,6 +1,6 @@
 use borrow.Author.Tests.{eq-eqb, ne-eqb}
-use Rattle.study_reader.proofs.items.bit_of.Statement.{statement}
-use Rattle.study_reader.proofs.items.bit_of.Tie as tie
+use Rattle.study_reader.proofs.calls.bit_of.Statement.{statement}
+use Rattle.study_reader.proofs.calls.bit_of.Tie as tie
 
 returns : tie.Need-returns
 returns c = rw (eq-eqb _ _ (c .if1 .taken))
