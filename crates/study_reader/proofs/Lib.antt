@@ -6,3 +6,4 @@ pub mod Cases
 pub mod ReadLaws
 pub mod Places
 pub mod StudyLaws
+pub mod FirstRows

@@ -5,7 +5,7 @@ use mathlib.Core.Bool.{Bool, true, false, cond}
 use mathlib.Core.List.{List, [], _∷_}
 use native.Mathlib.Numerals.{add-one}
 use native.Mathlib.Omega.{arith}
-use borrow.Author.Tests.{eq-eqb, ne-eqb, lt-leb, eqb-true, eqb-false, ltb-true, leb-true, leb-false}
+use borrow.Author.Tests.{eq-eqb, ne-eqb, lt-leb, eqb-true, eqb-false, ltb-true, ltb-false, leb-true, leb-false}
 use lib.Bits.{bitOr}
 use lib.Dec.{eqb, ltb, leb}
 use lib.Ieee.{Float}
@@ -14,7 +14,7 @@ use lib.Seq.{getD-set-same, getD-set-other}
 use Rattle.texts.specs.Ascii.{ascii}
 use Rattle.study_reader.specs.Words.{nextWord, isEmpty, isWord, wholeOf}
 use Rattle.study_reader.specs.Faults.{faultUnknown, faultNoBody, faultAxis, faultBodiesFull, faultJointsFull, faultAfterCalls, faultModel, faultOpenRepeat}
-use Rattle.model.specs.Layout.{centerPlace}
+use Rattle.model.specs.Layout.{masksPlace, modelsPlace, enabledPlace, firstRowPlace, centerPlace}
 use Rattle.study_reader.specs.Storage.{mostItems, jointBase}
 use Rattle.study_reader.specs.Names.{ABSENT, findEnd}
 use Rattle.study_reader.specs.Keywords.{axisOf, fieldOf, noItem, callsItem, itemKeyword, callKeyword, lockKeyword, motorModelKeyword, enabledKeyword, centerKeyword, settingsKeyword, bodyKeyword, repeatKeyword}
@@ -66,7 +66,7 @@ whole-text text d f = all-read text (length text) d (omega arith) f
 
 -- ---- places in the text, and how many items: first of what one line says
 
-placeIn : Change → ℕ
+pub placeIn : Change → ℕ
 placeIn Nothing = 0
 placeIn (Wrong fault at) = at
 placeIn (Given n) = 0
@@ -76,7 +76,7 @@ placeIn (OpenBody w n) = 0
 placeIn (OpenJoint w n e) = 0
 placeIn (Call keyword at) = at
 
-manyIn : Change → ℕ
+pub manyIn : Change → ℕ
 manyIn Nothing = 0
 manyIn (Wrong fault at) = 0
 manyIn (Given n) = 0
@@ -86,18 +86,34 @@ manyIn (OpenBody w n) = n
 manyIn (OpenJoint w n e) = n
 manyIn (Call keyword at) = 0
 
-record Sound (text : List ℕ) (change : Change) : Type 0 where
+-- the place of a joint's word
+unfoldable pub wordIn : Change → ℕ
+wordIn Nothing = 0
+wordIn (Wrong fault at) = 0
+wordIn (Given n) = 0
+wordIn (JointWord place value at) = place
+wordIn OpenSettings = 0
+wordIn (OpenBody w n) = 0
+wordIn (OpenJoint w n e) = 0
+wordIn (Call keyword at) = 0
+
+pub record Sound (text : List ℕ) (change : Change) : Type 0 where
   pub place : placeIn change ≤ length text
   pub many : manyIn change ≤ mostItems
+  pub word : wordIn change < firstRowPlace
 
 module _ (text : List ℕ) where
   wrong-sound : (fault at : ℕ) → at ≤ length text → Sound text (Wrong fault at)
-  unfolding placeIn manyIn
-  wrong-sound fault at h = record { place = h; many = omega arith }
+  unfolding placeIn manyIn wordIn
+  wrong-sound fault at h = record { place = h; many = omega arith; word = omega arith }
 
   cond-sound : (t : Bool) (a b : Change) → Sound text a → Sound text b → Sound text (cond t a b)
   cond-sound true a b p q = p
   cond-sound false a b p q = q
+
+  guarded-sound : (t : Bool) (a b : Change) → (t ≡ true → Sound text a) → (t ≡ false → Sound text b) → Sound text (cond t a b)
+  guarded-sound true a b p q = p refl
+  guarded-sound false a b p q = q refl
 
   fault-sound : (fault at : ℕ) (change : Change) → at ≤ length text → Sound text change → Sound text (orFault fault at change)
   unfolding orFault
@@ -108,12 +124,12 @@ module _ (text : List ℕ) where
   whole-sound at change h s = cond-sound (isEmpty (nextWord text at)) _ _ s (wrong-sound _ _ (start-inside text at h))
 
   given-sound : (n : _) → Sound text (Given n)
-  unfolding placeIn manyIn
-  given-sound n = record { place = omega arith; many = omega arith }
+  unfolding placeIn manyIn wordIn
+  given-sound n = record { place = omega arith; many = omega arith; word = omega arith }
 
-  word-sound : (place value at : ℕ) → Sound text (JointWord place value at)
-  unfolding placeIn manyIn
-  word-sound place value at = record { place = omega arith; many = omega arith }
+  word-sound : (place value at : ℕ) → place < firstRowPlace → Sound text (JointWord place value at)
+  unfolding placeIn manyIn wordIn
+  word-sound place value at h = record { place = omega arith; many = omega arith; word = h }
 
   second-sound : (v : Word) (place : ℕ) (x : Float) (center : ℕ) → v .end ≤ length text → Sound text (secondNumber text v place x center)
   unfolding secondNumber
@@ -138,26 +154,26 @@ module _ (text : List ℕ) where
       (cond-sound (ltb 2 (axisOf text v)) _ _ (wrong-sound faultAxis (v .start) (start-inside text (w .end) h))
       (numbers-sound (v .end) (f .place + axisOf text v * f .stride) (f .many) noCenter (end-inside text (w .end) h)))
 
-  axes-sound : (place origin n mask at : ℕ) → at ≤ length text → Sound text (axesFrom text place origin n mask at)
+  axes-sound : (place origin n mask at : ℕ) → place < firstRowPlace → at ≤ length text → Sound text (axesFrom text place origin n mask at)
   unfolding axesFrom
-  axes-sound place origin zero mask at h = whole-sound _ _ h (word-sound _ _ _)
-  axes-sound place origin (suc n) mask at h =
+  axes-sound place origin zero mask at p h = whole-sound _ _ h (word-sound _ _ _ p)
+  axes-sound place origin (suc n) mask at p h =
       let w = nextWord text at in
-      cond-sound (isEmpty w) _ _ (word-sound place mask origin)
+      cond-sound (isEmpty w) _ _ (word-sound place mask origin p)
       (cond-sound (ltb 2 (axisOf text w)) _ _ (wrong-sound faultAxis (w .start) (start-inside text at h))
-      (axes-sound place origin n (bitOr mask (bitOf (axisOf text w))) (w .end) (end-inside text at h)))
+      (axes-sound place origin n (bitOr mask (bitOf (axisOf text w))) (w .end) p (end-inside text at h)))
 
-  named-sound : (at place : ℕ) (w : Word) → at ≤ length text → w .start ≤ length text → Sound text (namedMask text at place w)
+  named-sound : (at place : ℕ) (w : Word) → place < firstRowPlace → at ≤ length text → w .start ≤ length text → Sound text (namedMask text at place w)
   unfolding namedMask
-  named-sound at place w h s = cond-sound (isEmpty w) _ _ (wrong-sound _ _ s) (axes-sound place (w .start) 3 0 at h)
+  named-sound at place w p h s = cond-sound (isEmpty w) _ _ (wrong-sound _ _ s) (axes-sound place (w .start) 3 0 at p h)
 
-  mask-sound : (at place : ℕ) (w : Word) (v : Whole) → at ≤ length text → w .start ≤ length text → w .end ≤ length text → Sound text (maskOf text at place w v)
-  mask-sound at place w (Number mask) h s e = whole-sound _ _ e (word-sound _ _ _)
-  mask-sound at place w No h s e = named-sound at place w h s
+  mask-sound : (at place : ℕ) (w : Word) (v : Whole) → place < firstRowPlace → at ≤ length text → w .start ≤ length text → w .end ≤ length text → Sound text (maskOf text at place w v)
+  mask-sound at place w (Number mask) p h s e = whole-sound _ _ e (word-sound _ _ _ p)
+  mask-sound at place w No p h s e = named-sound at place w p h s
 
-  mask-line-sound : (at place : ℕ) → at ≤ length text → Sound text (maskLine text at place)
+  mask-line-sound : (at place : ℕ) → place < firstRowPlace → at ≤ length text → Sound text (maskLine text at place)
   unfolding maskLine
-  mask-line-sound at place h = mask-sound at place (nextWord text at) (wholeOf text (nextWord text at)) h (start-inside text at h) (end-inside text at h)
+  mask-line-sound at place p h = mask-sound at place (nextWord text at) (wholeOf text (nextWord text at)) p h (start-inside text at h) (end-inside text at h)
 
   model-sound : (at : ℕ) → at ≤ length text → Sound text (modelLine text at)
   unfolding modelLine
@@ -166,31 +182,34 @@ module _ (text : List ℕ) where
       let w = nextWord text (v .end) in
       let e = end-inside text at h in
       let e2 = end-inside text (v .end) e in
-      cond-sound (ltb 2 (axisOf text v)) _ _ (wrong-sound faultAxis (v .start) (start-inside text at h))
-      (cond-sound (isWord text w (ascii "acceleration")) _ _ (whole-sound (w .end) _ e2 (word-sound (6 + axisOf text v) 0 (w .start)))
-      (cond-sound (isWord text w (ascii "force")) _ _ (whole-sound (w .end) _ e2 (word-sound (6 + axisOf text v) 1 (w .start)))
+      guarded-sound (ltb 2 (axisOf text v)) _ _ (λ t. wrong-sound faultAxis (v .start) (start-inside text at h)) (λ t.
+      let p : modelsPlace + axisOf text v < firstRowPlace = omega (arith, ltb-false 2 (axisOf text v) t) in
+      cond-sound (isWord text w (ascii "acceleration")) _ _ (whole-sound (w .end) _ e2 (word-sound (modelsPlace + axisOf text v) 0 (w .start) p))
+      (cond-sound (isWord text w (ascii "force")) _ _ (whole-sound (w .end) _ e2 (word-sound (modelsPlace + axisOf text v) 1 (w .start) p))
       (wrong-sound faultModel (w .start) (start-inside text (v .end) e))))
 
   word-line-sound : (keyword : ℕ) (w : Word) → w .end ≤ length text → Sound text (wordLine text keyword w)
   unfolding wordLine
   word-line-sound keyword w h =
       cond-sound (ltb keyword lockKeyword) _ _ (given-line-sound (w .end) keyword h)
-      (cond-sound (ltb keyword motorModelKeyword) _ _ (mask-line-sound (w .end) (2 + (keyword - lockKeyword)) h)
-      (cond-sound (eqb keyword motorModelKeyword) _ _ (model-sound (w .end) h)
+      (guarded-sound (ltb keyword motorModelKeyword) _ _
+      (λ t. mask-line-sound (w .end) (masksPlace + (keyword - lockKeyword)) (omega (arith, ltb-true keyword motorModelKeyword t)) h)
+      (λ t.
+      cond-sound (eqb keyword motorModelKeyword) _ _ (model-sound (w .end) h)
       (cond-sound (eqb keyword centerKeyword) _ _ (numbers-sound (w .end) centerPlace 2 byPair h)
-      (whole-sound (w .end) _ h (word-sound 9 (keyword - enabledKeyword) (w .start))))))
+      (whole-sound (w .end) _ h (word-sound enabledPlace (keyword - enabledKeyword) (w .start) (omega arith))))))
 
   -- one more than a number below the most is at most the most
   counted-sound : (n : ℕ) (some : Change) (at fault : ℕ) → at ≤ length text → (n < mostItems → Sound text some) → Sound text (cond (ltb n mostItems) some (Wrong fault at))
   counted-sound n some at fault h s = by-cases (ltb n mostItems) (λ e. rw e (s (ltb-true n mostItems e))) (λ e. rw e (wrong-sound _ _ h))
 
   body-sound : (w : Word) (n : ℕ) → n ≤ mostItems → Sound text (OpenBody w n)
-  unfolding placeIn manyIn
-  body-sound w n h = record { place = omega arith; many = h }
+  unfolding placeIn manyIn wordIn
+  body-sound w n h = record { place = omega arith; many = h; word = omega arith }
 
   joint-sound : (w : Word) (n : ℕ) (e : _) → n ≤ mostItems → Sound text (OpenJoint w n e)
-  unfolding placeIn manyIn
-  joint-sound w n e h = record { place = omega arith; many = h }
+  unfolding placeIn manyIn wordIn
+  joint-sound w n e h = record { place = omega arith; many = h; word = omega arith }
 
   body-line-sound : (names : List ℕ) (st : State) (at : ℕ) → at ≤ length text → Sound text (bodyLine text names st at)
   unfolding bodyLine
@@ -228,10 +247,10 @@ module _ (text : List ℕ) where
         cond-sound (eqb kind noItem) _ _ (wrong-sound faultUnknown (w .start) s) (fault-sound (kindFault st kind) (w .start) _ s (field-sound w e))
 
     open-sound : (keyword : ℕ) → Sound text (openLine text names st keyword w)
-    unfolding openLine placeIn manyIn
+    unfolding openLine placeIn manyIn wordIn
     open-sound keyword =
         cond-sound (eqb (st .kind) callsItem) _ _ (wrong-sound faultAfterCalls (w .start) s)
-        (cond-sound (eqb keyword settingsKeyword) _ _ (whole-sound (w .end) OpenSettings e (record { place = omega arith; many = omega arith }))
+        (cond-sound (eqb keyword settingsKeyword) _ _ (whole-sound (w .end) OpenSettings e (record { place = omega arith; many = omega arith; word = omega arith }))
         (cond-sound (eqb keyword bodyKeyword) _ _ (body-line-sound names st (w .end) e) (joint-line-sound names st (w .end) e)))
 
     item-sound : Sound text (itemLine text names st w)
@@ -243,24 +262,24 @@ module _ (text : List ℕ) where
         (fault-sound (kindFault st (kindOf keyword)) (w .start) _ s (word-line-sound keyword w e)))
 
     call-sound : Sound text (callLine text names st w)
-    unfolding callLine placeIn manyIn
+    unfolding callLine placeIn manyIn wordIn
     call-sound =
         let c = call-within text names (st .bodies) (st .joints) (st .repeats) w s e in
         let l = readCall text names (st .bodies) (st .joints) (st .repeats) w in
-        fault-sound (l .fault) (l .«fault_at») _ (c .fault) (whole-sound (l .at) (Call (l .keyword) (w .start)) (c .at) (record { place = s; many = omega arith }))
+        fault-sound (l .fault) (l .«fault_at») _ (c .fault) (whole-sound (l .at) (Call (l .keyword) (w .start)) (c .at) (record { place = s; many = omega arith; word = omega arith }))
 
-  line-sound : (names : List ℕ) (st : State) → st .at ≤ length text → Sound text (lineOf text names st)
-  unfolding lineOf placeIn manyIn
+  pub line-sound : (names : List ℕ) (st : State) → st .at ≤ length text → Sound text (lineOf text names st)
+  unfolding lineOf placeIn manyIn wordIn
   line-sound names st h =
       let s = start-inside text (st .at) h in
       let e = end-inside text (st .at) h in
       let w = nextWord text (st .at) in
-      cond-sound (isEmpty w) Nothing _ (record { place = omega arith; many = omega arith })
+      cond-sound (isEmpty w) Nothing _ (record { place = omega arith; many = omega arith; word = omega arith })
       (cond-sound (eqb (callKeyword text w) 0) _ _ (item-sound names st w s e) (call-sound names st w s e))
 
 -- ---- and then of what has been read
 
-record Kept (text : List ℕ) (st : State) : Type 0 where
+pub record Kept (text : List ℕ) (st : State) : Type 0 where
   pub at : st .at ≤ length text
   pub fault : st .«fault_at» ≤ length text
   pub repeat : st .«repeat_at» ≤ length text
@@ -293,7 +312,7 @@ module _ (text : List ℕ) where
   state-kept true a b p q = p
   state-kept false a b p q = q
 
-  line-kept : (d : Draft) → Kept text (d .state) → Kept text (lineRead text d .state)
+  pub line-kept : (d : Draft) → Kept text (d .state) → Kept text (lineRead text d .state)
   unfolding lineRead
   line-kept d k =
       let a = applied-kept (lineOf text (d .names) (d .state)) d (line-sound text (d .names) (d .state) (k .at)) k in

@@ -6,6 +6,7 @@ use mathlib.Core.List.{List, [], _∷_}
 use lib.Dec.{eqb}
 use lib.Ieee.{Float}
 use lib.ListN.{length, getD}
+use Rattle.model.specs.Store.{firstAt}
 use Rattle.study_reader.specs.Words.{nextWord, isEmpty, nextLine}
 use Rattle.study_reader.specs.Storage.{mostItems}
 use Rattle.study_reader.specs.Draft.{Draft, withState, reached, Default, puts}
@@ -41,6 +42,13 @@ pub record Inside (text : List ℕ) (d : Draft) : Type 0 where
 
 abbrev pub AllInside : Type 0
 AllInside = (text : List ℕ) (numbers : List Float) (origins words names : List ℕ) → Inside text (readStudy text numbers origins words names)
+
+-- No line gives a joint's first row, which is none of its contents: each is left as the storage had it.
+abbrev pub FirstRows : Type 0
+FirstRows =
+    (text : List ℕ) (numbers : List Float) (origins words names : List ℕ) (j : ℕ)
+    → j < mostItems
+    → firstAt (readStudy text numbers origins words names .words) j ≡ firstAt words j
 
 -- Where an item is opened, each number that its defaults name has its default, and every other is as it was.
 unfoldable pub defaultAt : List Default → ℕ → Float → Float
