@@ -16,6 +16,7 @@ pub mod FirstRows
 pub mod NewMasks
 pub mod PlanarLaws
 pub mod StoredFirsts
+pub mod FirstRowsUnread
 pub mod MaskLaws
 pub mod PastTotal
 pub mod StudyPair

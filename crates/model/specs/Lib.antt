@@ -9,3 +9,4 @@ pub mod Refusals
 pub mod MotorTargets
 pub mod Answers
 pub mod Planar
+pub mod FirstRows

@@ -363,9 +363,10 @@ pub fn set_masks(
     put_masks(words, j, masks);
     store_firsts(words, joints);
     let params = header.params;
+    let built = false;
     LoadAnswer::Loaded(Header {
         params: params,
-        built: false,
+        built: built,
     })
 }
 

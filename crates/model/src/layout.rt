@@ -23,7 +23,7 @@ pub const VELOCITY_Y: usize = 8;
 
 pub const VELOCITY_ANGULAR: usize = 9;
 
-// A joint's words: two bodies, four masks, three motor models, `JointEnabled`, how its centre is typed.
+// A joint's words: two bodies, four masks, three motor models, `JointEnabled`, how its centre is typed, its first row.
 pub const WORDS_WIDTH: usize = 12;
 
 pub const BODY1: usize = 0;

@@ -1,17 +1,18 @@
--- What the table of calls says of each call: the numbers of the rules that it tries, in order (`checking-order`, `call-order`), the mark that it leaves (`granted-mark`), which call makes rows (`build-makes`,
+-- What the table of calls says of each call: the numbers of the rules that it tries, in order (`checking-order`, `call-order`, and of new masks `masks-rules`), the mark that it leaves (`granted-mark`), which call makes rows (`build-makes`,
 -- `refused-makes-none`), and what a row read answers (`read-own`). Assumes nothing.
 use Prim.Native.Nat.{ℕ}
 use mathlib.Core.Path.{_≡_, refl, ap, _∙_}
 use mathlib.Core.Logic.{_≢_}
 use mathlib.Core.Bool.{Bool, true, false}
 use mathlib.Core.List.{List, [], _∷_, _++_, map, append-assoc}
+use lib.Dec.{ltb}
 use lib.Ieee.{Float}
 use Rattle.rows.specs.declared.joint_constraint_builder.Warmstart.{Warmstart}
-use Rattle.multibody.specs.Rules.{Rule}
+use Rattle.multibody.specs.Rules.{Rule, rule, atMost}
 use Rattle.multibody.specs.Model.{Model}
 use Rattle.multibody.specs.System.{System}
 use Rattle.multibody.specs.JointRows.{jointIds}
-use Rattle.multibody.specs.Counts.{jointCount}
+use Rattle.multibody.specs.Counts.{jointCount, rowCapacity, totalRows}
 use Rattle.multibody.specs.Refusals.{finiteWarm, modelRules, modelRulesWith, storageRule, sweepRule, builtRule, seedsRule, bodyRule, jointRule}
 use Rattle.multibody.specs.Calls.{Call, Outcome, Change, fitChange, changed, callTable, addedRules, handedRules, rulesOf, grantedOf, run, refusalOf, rowsOf}
 use Rattle.multibody.specs.Calls.Call.{load, place, build, warmStart, sweep, removeBias, writeBack, readRows, readVelocity, setMasks, further}
@@ -91,6 +92,13 @@ module _ (sys : System) (m : Model) where
     call-order (readVelocity i) = numbers-append (modelRules sys m true) _
     call-order (setMasks j ms) = stored-order (given j ms) true _
     call-order (further f) = further-order f
+
+    -- new masks: 3 asks whether they fit too, and 8 for the total with them; 11 comes last
+    pub masks-rules : (j : ℕ) (ms : sys .NewMasks) → rulesOf sys (setMasks j ms) m rows
+        ≡ (modelRulesWith sys m (sys .fitMasks ms) true ++ (rule 8 (atMost (rowCapacity sys rows) (totalRows sys (sys .putMasks (m .words) j ms) (m .numbers))) ∷ []))
+        ++ (rule 11 (ltb j (jointCount sys (m .words) (m .numbers))) ∷ [])
+    unfolding rulesOf storageRule jointRule
+    masks-rules j ms = refl
 
 module _ (sys : System) where
   -- ---- the mark

@@ -20,5 +20,6 @@ pub mod Keeps
 pub mod Agrees
 pub mod WriteBackLocality
 pub mod SameRefusals
+pub mod FirstRowsUnread
 pub mod TwoStudies
 pub mod Premises
