@@ -25,18 +25,18 @@ use Rattle.multibody.specs.Traces.{AtEach, AtSome}
 use Rattle.multibody.specs.Studies.{Enough, Agree, GrantedAlike, Names, Compared, Noninterference}
 use Rattle.multibody.proofs.RefusedExactly.{told}
 use Rattle.multibody.proofs.Premises.{Turn, recorded, recorded-returns}
-use Rattle.multibody.proofs.TwoStudies.{two-studies}
 use Rattle.model.specs.Store.{putMasks, masksAt, body1At, body2At, enabledAt, centerAt}
 use Rattle.model.specs.Refusals.{masksFit, newMasksFit, finiteFrom, noNanFrom, finiteBody, finiteMotor, finiteCenter, finiteJoint, angleFits, centerFits}
 use Rattle.model.specs.Planar.{planar}
-use Rattle.model.proofs.PlanarLaws.{planar-laws}
+use Rattle.model.specs.Studies.{planarCalls}
+use Rattle.model.proofs.PlanarLaws.{planar-laws, planar-two-studies}
 use Rattle.model.proofs.StudyPair.{o, m, m′, s, s′, storage, set, ts, agree, loaded, loaded′, same-numbers}
 
 -- masks that lock some axes
 abbrev pub locks : ℕ → Masks
 locks axes = record { «locked_axes» = axes; «limit_axes» = 0; «motor_axes» = 0; «coupled_axes» = 0 }
 
-abbrev pub turns : List (Turn planar-laws)
+abbrev pub turns : List (Turn planarCalls)
 turns = record { call = setMasks 0 (locks 1); lent = storage; lent′ = storage } ∷ []
 
 -- storage of five rows
@@ -63,11 +63,11 @@ room = (lit≤ tt, lit≤ tt)
 
 -- ---- the premises
 
-enough : AtEach (Enough planar) (recorded planar-laws turns s s′) s s′
+enough : AtEach (Enough planarCalls) (recorded planarCalls turns s s′) s s′
 unfolding AtEach recorded jointCount rowCapacity rowsBefore rowCount jointIds rowMasksAt enabledAt masksAt hasAxis rowIds
 enough = (λ e. (lit≤ tt, lit≤ tt), tt)
 
-granted-alike : AtEach (GrantedAlike planar) (recorded planar-laws turns s s′) s s′
+granted-alike : AtEach (GrantedAlike planarCalls) (recorded planarCalls turns s s′) s s′
 unfolding AtEach recorded
 granted-alike =
     let t = told planar-laws (setMasks 0 (locks 1)) m storage in
@@ -75,11 +75,11 @@ granted-alike =
     ((λ e. t′ ∙ granted .1, λ e. t ∙ granted .0), tt)
 
 -- no rows are made, so that nothing is named
-unnamed : (j : ℕ) (id : WritebackId) → Names planar (recorded planar-laws turns s s′) s s′ j id → Names planar (recorded planar-laws ts s s′) s s′ j id
+unnamed : (j : ℕ) (id : WritebackId) → Names planarCalls (recorded planarCalls turns s s′) s s′ j id → Names planarCalls (recorded planarCalls ts s s′) s s′ j id
 unfolding AtSome recorded
 unnamed j id h = absurd (⊎-elim (λ n. ⊎-elim (λ k. false≢true (k .0 .0)) (λ k. false≢true (k .0 .0)) n) (λ e. e) h)
 
-agrees : Agree planar set (Names planar (recorded planar-laws turns s s′) s s′) m m′
+agrees : Agree planar set (Names planarCalls (recorded planarCalls turns s s′) s s′) m m′
 agrees = record {
   params = agree .params;
   closed = agree .closed;
@@ -94,8 +94,8 @@ agrees = record {
   contents = λ j t. planar-laws .fewer-named _ _ (unnamed j) (agree .contents j t);
 }
 
-pub compared : Compared planar set (recorded planar-laws turns s s′) s s′
-compared = record { loaded = loaded; loaded′ = loaded′; agree = agrees; storage = enough; alike = granted-alike; traces = recorded-returns planar-laws turns s s′ }
+pub compared : Compared planarCalls set (recorded planarCalls turns s s′) s s′
+compared = record { loaded = loaded; loaded′ = loaded′; agree = agrees; storage = enough; alike = granted-alike; traces = recorded-returns planarCalls turns s s′ }
 
-pub shared : Noninterference planar set (recorded planar-laws turns s s′) s s′
-shared = two-studies planar-laws set (recorded planar-laws turns s s′) s s′ same-numbers compared
+pub shared : Noninterference planarCalls set (recorded planarCalls turns s s′) s s′
+shared = planar-two-studies set (recorded planarCalls turns s s′) s s′ same-numbers compared

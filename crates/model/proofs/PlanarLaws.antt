@@ -39,6 +39,7 @@ use Rattle.model.specs.Store.{jointAt, masksAt, enabledAt, putSeed, solv
 use Rattle.model.specs.Refusals.{finiteJoint, centerFits}
 use Rattle.model.specs.MotorTargets.{setRecords, setTable}
 use Rattle.model.specs.Planar.{tableRules, planar}
+use Rattle.model.specs.Studies.{planarCalls}
 use Rattle.model.proofs.StoreLaws.{withPose, length-putRow, rowAt-putRow, rowAt-putRow-other, velAt-world, solverPoseAt-world, length-putVel, velAt-putVel, velAt-putVel-other, solverPoseAt-putVel, length-putPose, solverPoseAt-putPose, solverPoseAt-putPose-other, velAt-putPose, length-putSeed, jointAt-putSeed-other}
 use Rattle.model.proofs.CallLaws.{table-refusal}
 use Rattle.model.proofs.WritebackLaws.{jointAt-putSeed-writeback}
@@ -210,5 +211,5 @@ planar-laws = record {
   further-named = named-set;
 }
 
-pub planar-two-studies : TwoStudies planar
-planar-two-studies = AnyStudies.two-studies planar-laws
+pub planar-two-studies : TwoStudies planarCalls
+planar-two-studies = AnyStudies.two-studies planar-laws planarCalls (AnyStudies.model-comparable planar-laws)

@@ -38,10 +38,10 @@ use Rattle.multibody.specs.Studies.{machine, Loaded, Enough, Closed, OfSet, Agr
 use Rattle.multibody.proofs.CallLaws.{run-granted}
 use Rattle.multibody.proofs.RefusedExactly.{told}
 use Rattle.multibody.proofs.Premises.{Turn, recorded, recorded-returns}
-use Rattle.multibody.proofs.TwoStudies.{two-studies}
 use Rattle.model.specs.Refusals.{masksFit, finiteFrom, noNanFrom, finiteBody, finiteMotor, finiteCenter, finiteJoint, angleFits, centerFits}
 use Rattle.model.specs.Planar.{planar}
-use Rattle.model.proofs.PlanarLaws.{planar-laws}
+use Rattle.model.specs.Studies.{planarCalls}
+use Rattle.model.proofs.PlanarLaws.{planar-laws, planar-two-studies}
 
 -- ---- the two models
 
@@ -84,13 +84,13 @@ m′ = example o 3 two 1
 abbrev pub storage : List Float
 storage = replicate 108 o
 
-abbrev pub s : Study (machine planar)
+abbrev pub s : Study (machine planarCalls)
 s = record { model = m; rows = storage }
 
-abbrev pub s′ : Study (machine planar)
+abbrev pub s′ : Study (machine planarCalls)
 s′ = record { model = m′; rows = storage }
 
-abbrev pub ts : List (Turn planar-laws)
+abbrev pub ts : List (Turn planarCalls)
 ts = record { call = build Cold 0; lent = storage; lent′ = storage } ∷ []
 
 abbrev pub set : ℕ → Bool
@@ -112,15 +112,15 @@ granted = both-granted .0
 granted′ : Granted m′
 granted′ = both-granted .1
 
-pub loaded : Loaded planar s
+pub loaded : Loaded planarCalls s
 unfolding grantedOf storeFirsts putFirst jointCount rowsBefore rowCount jointIds rowMasksAt enabledAt masksAt hasAxis rowIds
 loaded = record { handedOver = m; byLoad = sym (run-granted load m storage (granted .0)) }
 
-pub loaded′ : Loaded planar s′
+pub loaded′ : Loaded planarCalls s′
 unfolding grantedOf storeFirsts putFirst jointCount rowsBefore rowCount jointIds rowMasksAt enabledAt masksAt hasAxis rowIds
 loaded′ = record { handedOver = m′; byLoad = sym (run-granted load m′ storage (granted′ .0)) }
 
-enough : AtEach (Enough planar) (recorded planar-laws ts s s′) s s′
+enough : AtEach (Enough planarCalls) (recorded planarCalls ts s s′) s s′
 unfolding AtEach recorded jointCount rowCapacity rowsBefore rowCount jointIds rowMasksAt enabledAt masksAt hasAxis rowIds
 enough = (λ e. (lit≤ tt, lit≤ tt), tt)
 
@@ -179,11 +179,11 @@ module _ (x v : Float) (axes choice : ℕ) where
       other : {k : ℕ} → id ≡ Dof k → ⊥
       other r = true≢false (sym (ap isDof r) ∙ e)
 
-unnamed : (id : WritebackId) → isDof id ≡ false → Names planar (recorded planar-laws ts s s′) s s′ 0 id → ⊥
+unnamed : (id : WritebackId) → isDof id ≡ false → Names planarCalls (recorded planarCalls ts s s′) s s′ 0 id → ⊥
 unfolding AtSome recorded
 unnamed id e h = ⊎-elim (λ n. ⊎-elim (λ k. locks-alone two one 7 0 id e (k .1)) (λ k. locks-alone o two 3 1 id e (k .1)) n) (λ e. e) h
 
-contents : SameNamed (Names planar (recorded planar-laws ts s s′) s s′ 0) (jointAt (m .words) (m .numbers) 0) (jointAt (m′ .words) (m′ .numbers) 0)
+contents : SameNamed (Names planarCalls (recorded planarCalls ts s s′) s s′ 0) (jointAt (m .words) (m .numbers) 0) (jointAt (m′ .words) (m′ .numbers) 0)
 unfolding jointAt
 contents = record {
   frame1 = refl;
@@ -197,7 +197,7 @@ contents = record {
   dof = λ i n. refl;
 }
 
-pub agree : Agree planar set (Names planar (recorded planar-laws ts s s′) s s′) m m′
+pub agree : Agree planar set (Names planarCalls (recorded planarCalls ts s s′) s s′) m m′
 unfolding solverPoseAt velAt body1At body2At
 agree = record {
   params = refl;
@@ -210,27 +210,27 @@ agree = record {
   joints′ = joint-cases o two 3 1 (OfSet planar set m) (joint-zero two one 7 0);
   bodies1 = joint-cases two one 7 0 (λ j. body1At (m .words) j ≡ body1At (m′ .words) j) refl;
   bodies2 = joint-cases two one 7 0 (λ j. body2At (m .words) j ≡ body2At (m′ .words) j) refl;
-  contents = joint-cases two one 7 0 (λ j. SameNamed (Names planar (recorded planar-laws ts s s′) s s′ j) (jointAt (m .words) (m .numbers) j) (jointAt (m′ .words) (m′ .numbers) j)) contents;
+  contents = joint-cases two one 7 0 (λ j. SameNamed (Names planarCalls (recorded planarCalls ts s s′) s s′ j) (jointAt (m .words) (m .numbers) j) (jointAt (m′ .words) (m′ .numbers) j)) contents;
 }
 
 -- ---- what is shown
 
 -- the list has no call that must be granted or refused alike
-no-alike : AtEach (GrantedAlike planar) (recorded planar-laws ts s s′) s s′
+no-alike : AtEach (GrantedAlike planarCalls) (recorded planarCalls ts s s′) s s′
 unfolding AtEach recorded
 no-alike = (tt, tt)
 
-pub compared : Compared planar set (recorded planar-laws ts s s′) s s′
-compared = record { loaded = loaded; loaded′ = loaded′; agree = agree; storage = enough; alike = no-alike; traces = recorded-returns planar-laws ts s s′ }
+pub compared : Compared planarCalls set (recorded planarCalls ts s s′) s s′
+compared = record { loaded = loaded; loaded′ = loaded′; agree = agree; storage = enough; alike = no-alike; traces = recorded-returns planarCalls ts s s′ }
 
 pub same-numbers : SameNumbers planar m m′
 same-numbers = record { bodies = three-bodies two one 7 0 ∙ sym (three-bodies o two 3 1); joints = two-joints two one 7 0 ∙ sym (two-joints o two 3 1) }
 
-pub shared : Noninterference planar set (recorded planar-laws ts s s′) s s′
-shared = two-studies planar-laws set (recorded planar-laws ts s s′) s s′ same-numbers compared
+pub shared : Noninterference planarCalls set (recorded planarCalls ts s s′) s s′
+shared = planar-two-studies set (recorded planarCalls ts s s′) s s′ same-numbers compared
 
 -- rows are made
-pub builds : AtEach (λ p s s′. MakesRows planar (p .call) (p .outcome) × MakesRows planar (p .call) (p .outcome′)) (recorded planar-laws ts s s′) s s′
+pub builds : AtEach (λ p s s′. MakesRows planarCalls (p .call) (p .outcome) × MakesRows planarCalls (p .call) (p .outcome′)) (recorded planarCalls ts s s′) s s′
 unfolding AtEach recorded
 builds = (((refl, told planar-laws (build Cold 0) m storage ∙ granted .1), (refl, told planar-laws (build Cold 0) m′ storage ∙ granted′ .1)), tt)
 

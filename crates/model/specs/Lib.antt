@@ -10,3 +10,4 @@ pub mod MotorTargets
 pub mod Answers
 pub mod Planar
 pub mod FirstRows
+pub mod Studies

@@ -18,7 +18,7 @@ use Rattle.multibody.specs.Calls.{Call, Outcome, Change, fitChange, chan
 use Rattle.multibody.specs.Calls.Call.{load, place, build, warmStart, sweep, removeBias, writeBack, readRows, readVelocity, setMasks, further}
 use Rattle.multibody.specs.Calls.Change.{none, given}
 use Rattle.multibody.specs.Calls.Answer.{rowsRead}
-use Rattle.multibody.specs.Studies.{MakesRows}
+use Rattle.multibody.specs.Studies.{modelCalls, MakesRows}
 
 -- ---- order
 
@@ -135,10 +135,10 @@ module _ (sys : System) where
 
   -- a granted build makes rows, and no refused call does
   pub build-makes : (warm : Warmstart) (substep : ℕ) (m : Model) (rows : List Float) → refusalOf (run sys (build warm substep) m rows .answer) ≡ 0
-      → MakesRows sys (build warm substep) (run sys (build warm substep) m rows)
+      → MakesRows (modelCalls sys) (build warm substep) (run sys (build warm substep) m rows)
   build-makes warm substep m rows e = (refl, e)
 
-  pub refused-makes-none : (c : Call sys) (o : Outcome sys) → refusalOf (o .answer) ≢ 0 → MakesRows sys c o → ⊥
+  pub refused-makes-none : (c : Call sys) (o : Outcome sys) → refusalOf (o .answer) ≢ 0 → MakesRows (modelCalls sys) c o → ⊥
   refused-makes-none c o n h = n (h .1)
 
   -- the joint's own ids and rows

@@ -21,5 +21,6 @@ pub mod Agrees
 pub mod WriteBackLocality
 pub mod SameRefusals
 pub mod FirstRowsUnread
+pub mod CallTurns
 pub mod TwoStudies
 pub mod Premises
