@@ -6,7 +6,7 @@ use lib.ListN.{drop}
 use lib.Ieee.{Float}
 use Rattle.multibody.specs.Model.{Model}
 use Rattle.multibody.specs.Calls.{Answer, Outcome, outcome}
-use Rattle.model.specs.Planar.{planar}
+use Rattle.model.specs.Planar.{plane}
 use Rattle.model.specs.Answers.{sweepAnswerOf}
 use Rattle.model.specs.declared.calls.Plain.{Plain}
 use Rattle.model.specs.declared.calls.SweepAnswer.{SweepAnswer}
@@ -17,39 +17,39 @@ pub settings-kept : (dt unit normalized : Float) (built : ℕ) → settingsOf (h
 settings-kept dt unit normalized built = refl
 
 -- a number that shows the answer shows that of the outcome
-pub number-told : {a : Answer planar} {m : Model} {rows : List Float} {o : Outcome planar} (r : ℕ) → r ≡ number a → outcome a m rows ≡ o → r ≡ number (o .answer)
-number-told r e told = e ∙ ap (λ (o : Outcome planar). number (o .answer)) told
+pub number-told : {a : Answer plane} {m : Model} {rows : List Float} {o : Outcome plane} (r : ℕ) → r ≡ number a → outcome a m rows ≡ o → r ≡ number (o .answer)
+number-told r e told = e ∙ ap (λ (o : Outcome plane). number (o .answer)) told
 
 -- what is left in the bodies, the joints' words and numbers and the row storage
-pub bodies-left : {a : Answer planar} {m : Model} {rows : List Float} {o : Outcome planar} → outcome a m rows ≡ o → m .bodies ≡ o .after .bodies
-bodies-left told = ap (λ (o : Outcome planar). o .after .bodies) told
+pub bodies-left : {a : Answer plane} {m : Model} {rows : List Float} {o : Outcome plane} → outcome a m rows ≡ o → m .bodies ≡ o .after .bodies
+bodies-left told = ap (λ (o : Outcome plane). o .after .bodies) told
 
-pub words-left : {a : Answer planar} {m : Model} {rows : List Float} {o : Outcome planar} → outcome a m rows ≡ o → m .words ≡ o .after .words
-words-left told = ap (λ (o : Outcome planar). o .after .words) told
+pub words-left : {a : Answer plane} {m : Model} {rows : List Float} {o : Outcome plane} → outcome a m rows ≡ o → m .words ≡ o .after .words
+words-left told = ap (λ (o : Outcome plane). o .after .words) told
 
-pub numbers-left : {a : Answer planar} {m : Model} {rows : List Float} {o : Outcome planar} → outcome a m rows ≡ o → m .numbers ≡ o .after .numbers
-numbers-left told = ap (λ (o : Outcome planar). o .after .numbers) told
+pub numbers-left : {a : Answer plane} {m : Model} {rows : List Float} {o : Outcome plane} → outcome a m rows ≡ o → m .numbers ≡ o .after .numbers
+numbers-left told = ap (λ (o : Outcome plane). o .after .numbers) told
 
-pub rows-left : {a : Answer planar} {m : Model} {rows : List Float} {o : Outcome planar} → outcome a m rows ≡ o → rows ≡ o .rows
-rows-left told = ap (λ (o : Outcome planar). o .rows) told
+pub rows-left : {a : Answer plane} {m : Model} {rows : List Float} {o : Outcome plane} → outcome a m rows ≡ o → rows ≡ o .rows
+rows-left told = ap (λ (o : Outcome plane). o .rows) told
 
 -- what a sweep stores of its counts where it is granted, and where it is refused
-pub counts-stored : {r : SweepAnswer} {out′ : List ℕ} (a : Answer planar) (out : List ℕ) → r ≡ sweepAnswerOf a → r .answer ≡ Plain.Granted → out′ ≡ r .counts ++ drop 128 out
+pub counts-stored : {r : SweepAnswer} {out′ : List ℕ} (a : Answer plane) (out : List ℕ) → r ≡ sweepAnswerOf a → r .answer ≡ Plain.Granted → out′ ≡ r .counts ++ drop 128 out
     → out′ ≡ countsOut (sweepAnswerOf a) out
 counts-stored {r} a out told g e = e ∙ ap (λ p. countsIf p (r .counts) out) (sym g) ∙ ap (λ (r : SweepAnswer). countsOut r out) told
 
 pub refused-counts : (r : SweepAnswer) (k : ℕ) (out : List ℕ) → r .answer ≡ Plain.Refused k → countsOut r out ≡ out
 refused-counts r k out g = simp g
 
-pub counts-kept : {r : SweepAnswer} {k : ℕ} (a : Answer planar) (out : List ℕ) → r ≡ sweepAnswerOf a → r .answer ≡ Plain.Refused k → out ≡ countsOut (sweepAnswerOf a) out
+pub counts-kept : {r : SweepAnswer} {k : ℕ} (a : Answer plane) (out : List ℕ) → r ≡ sweepAnswerOf a → r .answer ≡ Plain.Refused k → out ≡ countsOut (sweepAnswerOf a) out
 counts-kept {r} {k} a out told g = sym (refused-counts r k out g) ∙ ap (λ (r : SweepAnswer). countsOut r out) told
 
 -- the same of a number that shows the mark too, and of what a velocity read answers and stores
-pub marked-told : {a : Answer planar} {m : Model} {rows : List Float} {o : Outcome planar} (r : ℕ) → r ≡ marked a (m .built) → outcome a m rows ≡ o → r ≡ markedNumber o
-marked-told r e told = e ∙ ap (λ (o : Outcome planar). markedNumber o) told
+pub marked-told : {a : Answer plane} {m : Model} {rows : List Float} {o : Outcome plane} (r : ℕ) → r ≡ marked a (m .built) → outcome a m rows ≡ o → r ≡ markedNumber o
+marked-told r e told = e ∙ ap (λ (o : Outcome plane). markedNumber o) told
 
-pub velocity-told : {a : Answer planar} {m : Model} {rows : List Float} {o : Outcome planar} (out : List Float) (r : ℕ) → r ≡ velocityNumber a out → outcome a m rows ≡ o → r ≡ velocityNumber (o .answer) out
-velocity-told out r e told = e ∙ ap (λ (o : Outcome planar). velocityNumber (o .answer) out) told
+pub velocity-told : {a : Answer plane} {m : Model} {rows : List Float} {o : Outcome plane} (out : List Float) (r : ℕ) → r ≡ velocityNumber a out → outcome a m rows ≡ o → r ≡ velocityNumber (o .answer) out
+velocity-told out r e told = e ∙ ap (λ (o : Outcome plane). velocityNumber (o .answer) out) told
 
-pub velocity-left : {a : Answer planar} {m : Model} {rows : List Float} {o : Outcome planar} (out : List Float) → outcome a m rows ≡ o → velocityOut a out ≡ velocityOut (o .answer) out
-velocity-left out told = ap (λ (o : Outcome planar). velocityOut (o .answer) out) told
+pub velocity-left : {a : Answer plane} {m : Model} {rows : List Float} {o : Outcome plane} (out : List Float) → outcome a m rows ≡ o → velocityOut a out ≡ velocityOut (o .answer) out
+velocity-left out told = ap (λ (o : Outcome plane). velocityOut (o .answer) out) told

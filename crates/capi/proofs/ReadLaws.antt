@@ -15,7 +15,7 @@ use Rattle.rows.proofs.RowArrays.{rowsArray-len, rowIdsArray-len}
 use Rattle.rows.proofs.RowIdsLaws.{no-ids}
 use Rattle.multibody.specs.Calls.{Answer}
 use Rattle.multibody.specs.Calls.Answer.{granted, total, rowsRead, velocityRead, swept, refused}
-use Rattle.model.specs.Planar.{planar}
+use Rattle.model.specs.Planar.{plane}
 use Rattle.model.specs.Answers.{rowsAnswerOf}
 use Rattle.model.specs.declared.calls.Plain.{Plain}
 use Rattle.model.specs.declared.calls.RowsAnswer.{RowsAnswer}
@@ -65,7 +65,7 @@ module _ (out : List Float) (ids : List ℕ) where
 
 -- a velocity read with no room
 module _ (out : List Float) (e : leb 3 (length out) ≡ false) where
-  pub short-velocity : (a : Answer planar) → velocityOut a out ≡ out
+  pub short-velocity : (a : Answer plane) → velocityOut a out ≡ out
   unfolding putVelocity
   short-velocity (velocityRead v) = simp e
   short-velocity granted = refl

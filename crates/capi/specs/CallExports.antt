@@ -18,7 +18,7 @@ use Rattle.multibody.specs.Model.{Model}
 use Rattle.multibody.specs.Calls.{Answer, Outcome, run}
 use Rattle.multibody.specs.Calls.Answer.{granted, total, rowsRead, velocityRead, swept, refused}
 use Rattle.multibody.specs.Calls.Call.{sweep, readRows}
-use Rattle.model.specs.Planar.{planar}
+use Rattle.model.specs.Planar.{plane, planar}
 use Rattle.model.specs.Model.{modelOf}
 use Rattle.model.specs.Answers.{rowsAnswerOf, sweepAnswerOf}
 use Rattle.model.specs.declared.header.Header.{Header}
@@ -62,7 +62,7 @@ warmOf warm coefficient = cond (flag warm) (Warm coefficient) Cold
 abbrev pub rowsGranted : ℕ → ℕ
 rowsGranted n = 4294967296 + n % 4294967296
 
-abbrev pub number : Answer planar → ℕ
+abbrev pub number : Answer plane → ℕ
 number granted = 0
 number (total n) = rowsGranted n
 number (rowsRead ids rows) = rowsGranted (length rows)
@@ -71,7 +71,7 @@ number (swept counts) = 0
 number (refused k) = k
 
 -- the same, where a granted load that left the mark set, or a build that left it clear, would show
-abbrev pub marked : Answer planar → Bool → ℕ
+abbrev pub marked : Answer plane → Bool → ℕ
 marked granted true = 100
 marked granted false = 0
 marked (total n) true = rowsGranted n
@@ -81,7 +81,7 @@ marked (velocityRead v) built = 0
 marked (swept counts) built = 0
 marked (refused k) built = k
 
-abbrev pub markedNumber : Outcome planar → ℕ
+abbrev pub markedNumber : Outcome plane → ℕ
 markedNumber o = marked (o .answer) (o .after .built)
 
 -- the answer where the model grants a read for which a slice has no room: a number above all refusals
@@ -91,7 +91,7 @@ shortSlice = 1000
 -- ---- a joint's rows and ids, stored
 
 abbrev pub rowsReadAt : ℕ → Model → List Float → RowsAnswer
-rowsReadAt joint m rows = rowsAnswerOf (rowMasksAt planar (m .words) joint) (run planar (readRows joint) m rows .answer)
+rowsReadAt joint m rows = rowsAnswerOf (rowMasksAt plane (m .words) joint) (run planar (readRows joint) m rows .answer)
 
 abbrev pub rowsGrantedOr : Plain → ℕ → Bool → ℕ
 rowsGrantedOr Plain.Granted n stored = cond stored (rowsGranted n) shortSlice
@@ -138,7 +138,7 @@ roomForCounts counts = leb 128 (length counts)
 abbrev pub roomForVelocity : List Float → ℕ
 roomForVelocity out = cond (leb 3 (length out)) 0 shortSlice
 
-abbrev pub velocityNumber : Answer planar → List Float → ℕ
+abbrev pub velocityNumber : Answer plane → List Float → ℕ
 velocityNumber (velocityRead v) out = roomForVelocity out
 velocityNumber granted out = 0
 velocityNumber (total n) out = rowsGranted n
@@ -149,7 +149,7 @@ velocityNumber (refused k) out = k
 unfoldable pub putVelocity : SolverVel → List Float → List Float
 putVelocity v out = cond (leb 3 (length out)) (putThree out 0 (v .linear .x) (v .linear .y) (v .angular)) out
 
-abbrev pub velocityOut : Answer planar → List Float → List Float
+abbrev pub velocityOut : Answer plane → List Float → List Float
 velocityOut (velocityRead v) out = putVelocity v out
 velocityOut granted out = out
 velocityOut (total n) out = out

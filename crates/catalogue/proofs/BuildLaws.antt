@@ -18,7 +18,7 @@ use Rattle.multibody.specs.JointRows.{impulsesAt, rowCount, builtRows}
 use Rattle.multibody.specs.Model.{Model}
 use Rattle.multibody.specs.Counts.{jointCount, rowsBefore, Room}
 use Rattle.multibody.specs.Calls.{eachJoint, buildOne, rowsFrom, rowsOf}
-use Rattle.model.specs.Planar.{planar}
+use Rattle.model.specs.Planar.{plane}
 use Rattle.model.proofs.PlanarLaws.{planar-laws}
 use Rattle.model.proofs.StoredRows.{rowsFrom-at, rowsFrom-same, rowsFrom-length, impulses-of}
 use Rattle.multibody.proofs.JointLocality.{Layout, Side}
@@ -49,19 +49,19 @@ module _ {S Row Vel : Type 0} {l : Layout} (a : Side S Row Vel l) where
   others-keep j i c (suc d) q s h =
       others-keep j i c d (q + 1) (a .work q s) (λ p l u. h p (omega arith) (omega arith)) ∙ a .row-kept q j i s c (h q (omega arith) (omega arith))
 
-module _ (m : Model) (warm : Warmstart) (substep : ℕ) (rows : List Float) (room : Room planar m rows) (j : ℕ) (h : j < jointCount planar (m .words) (m .numbers)) where
+module _ (m : Model) (warm : Warmstart) (substep : ℕ) (rows : List Float) (room : Room plane m rows) (j : ℕ) (h : j < jointCount plane (m .words) (m .numbers)) where
   abbrev work : ℕ → List Float → List Float
-  work = buildOne planar m warm substep
+  work = buildOne plane m warm substep
 
   -- the storage at joint j's turn, and after the build
   abbrev turn : List Float
   turn = eachJoint work 0 j rows
 
   abbrev final : List Float
-  final = eachJoint work 0 (jointCount planar (m .words) (m .numbers)) rows
+  final = eachJoint work 0 (jointCount plane (m .words) (m .numbers)) rows
 
   abbrev row-of : List Float → ℕ → JointConstraint
-  row-of s i = rowAt s (rowsBefore planar (m .words) j + i)
+  row-of s i = rowAt s (rowsBefore plane (m .words) j + i)
 
   turn-ok : length turn ≡ length rows
   unfolding buildSide
@@ -69,40 +69,40 @@ module _ (m : Model) (warm : Warmstart) (substep : ℕ) (rows : List Float) (roo
 
   pub final-length : length final ≡ length rows
   unfolding buildSide
-  final-length = others-ok (buildSide planar-laws m warm substep rows room) (jointCount planar (m .words) (m .numbers)) 0 rows (omega arith) refl
+  final-length = others-ok (buildSide planar-laws m warm substep rows room) (jointCount plane (m .words) (m .numbers)) 0 rows (omega arith) refl
 
-  turn-keeps : (i : ℕ) → i < rowCount planar (m .words) j → row-of turn i ≡ row-of rows i
+  turn-keeps : (i : ℕ) → i < rowCount plane (m .words) j → row-of turn i ≡ row-of rows i
   unfolding buildSide
   turn-keeps i c = others-keep (buildSide planar-laws m warm substep rows room) j i c j 0 rows (λ p l u e. omega arith)
 
   -- what the build makes of joint j at its turn
   turn-made : madeOf planar-laws m warm substep j turn ≡ madeOf planar-laws m warm substep j rows
   turn-made =
-      let n : ℕ = rowCount planar (m .words) j in
-      let k : ℕ = rowsBefore planar (m .words) j in
-      let same : impulsesAt planar turn k n ≡ impulsesAt planar rows k n =
+      let n : ℕ = rowCount plane (m .words) j in
+      let k : ℕ = rowsBefore plane (m .words) j in
+      let same : impulsesAt plane turn k n ≡ impulsesAt plane rows k n =
       impulses-of turn k n ∙ ap (map (λ (r : JointConstraint). r .impulse)) (rowsFrom-same turn rows n k k turn-keeps) ∙ sym (impulses-of rows k n) in
-      ap (λ (l : List Float). (builtRows planar) (m .params) (m .bodies) (m .words) (m .numbers) j warm substep (filled 6 (bits 0) l)) same
+      ap (λ (l : List Float). (builtRows plane) (m .params) (m .bodies) (m .words) (m .numbers) j warm substep (filled 6 (bits 0) l)) same
 
-  later : (rest : ℕ) → jointCount planar (m .words) (m .numbers) ≡ j + suc rest → final ≡ eachJoint work (j + 1) rest (work j turn)
+  later : (rest : ℕ) → jointCount plane (m .words) (m .numbers) ≡ j + suc rest → final ≡ eachJoint work (j + 1) rest (work j turn)
   unfolding eachJoint
   later rest e =
       let z : 0 + j ≡ j = omega arith in
       rw e (each-split work j (suc rest) 0 rows ∙ rw z)
 
-  final-made : (i : ℕ) → i < rowCount planar (m .words) j → row-of final i ≡ getD (madeOf planar-laws m warm substep j rows) i blankRow
+  final-made : (i : ℕ) → i < rowCount plane (m .words) j → row-of final i ≡ getD (madeOf planar-laws m warm substep j rows) i blankRow
   unfolding buildSide
   final-made i c =
-      let rest : ℕ = jointCount planar (m .words) (m .numbers) - (j + 1) in
+      let rest : ℕ = jointCount plane (m .words) (m .numbers) - (j + 1) in
       ap (λ (s : List Float). row-of s i) (later rest (omega arith))
       ∙ others-keep (buildSide planar-laws m warm substep rows room) j i c rest (j + 1) (work j turn) (λ p l u e. omega arith)
       ∙ row-made planar-laws m warm substep rows room blankRow j i turn h c turn-ok
       ∙ ap (λ (l : List JointConstraint). getD l i blankRow) turn-made
 
-  pub built-rows : rowsOf planar (m .words) final j ≡ madeOf planar-laws m warm substep j rows
+  pub built-rows : rowsOf plane (m .words) final j ≡ madeOf planar-laws m warm substep j rows
   unfolding rowsOf
   built-rows =
-      let n : ℕ = rowCount planar (m .words) j in
-      let k : ℕ = rowsBefore planar (m .words) j in
-      ext-getD blankRow (rowsFrom planar final k n) (madeOf planar-laws m warm substep j rows) (rowsFrom-length final k n ∙ sym (length-made planar-laws m warm substep j rows))
+      let n : ℕ = rowCount plane (m .words) j in
+      let k : ℕ = rowsBefore plane (m .words) j in
+      ext-getD blankRow (rowsFrom plane final k n) (madeOf planar-laws m warm substep j rows) (rowsFrom-length final k n ∙ sym (length-made planar-laws m warm substep j rows))
       (λ i l. let c : i < n = omega (arith, rowsFrom-length final k n) in rowsFrom-at final k n i c ∙ final-made i c)

@@ -26,7 +26,7 @@ use Rattle.multibody.specs.Refusals.{finiteWarm, modelRules, storageRule, built
 use Rattle.multibody.specs.Calls.{Outcome, outcome, refusalOf, firstRules, ownRules, rulesOf, grantedOf, rowsOf, run}
 use Rattle.multibody.specs.Calls.Call.{build, readRows}
 use Rattle.multibody.specs.Calls.Answer.{rowsRead}
-use Rattle.model.specs.Planar.{planar}
+use Rattle.model.specs.Planar.{plane, planar}
 use Rattle.model.proofs.PlanarLaws.{planar-laws}
 use Rattle.model.specs.Refusals.{allAxes, masksFit}
 use Rattle.model.proofs.JointRowsLaws.{masks-enabled}
@@ -59,7 +59,7 @@ module _ (m : Model) (warm : Warmstart) (substep : ℕ) (rows : List Float) (gra
   no-rule : refusal (rulesOf planar (build warm substep) m rows) ≡ 0
   no-rule = sym (told planar-laws (build warm substep) m rows) ∙ granted
 
-  first-held : Hold (modelRules planar m (finiteWarm warm) ++ (storageRule planar m rows ∷ []))
+  first-held : Hold (modelRules planar m (finiteWarm warm) ++ (storageRule plane m rows ∷ []))
   unfolding rulesOf
   first-held =
       hold-first (firstRules planar (build warm substep) m rows) (ownRules planar (build warm substep) m)
@@ -68,20 +68,20 @@ module _ (m : Model) (warm : Warmstart) (substep : ℕ) (rows : List Float) (gra
   rules : RulesHold m
   rules =
       rules-hold m (finiteWarm warm)
-      (hold-granted (modelRules planar m (finiteWarm warm)) (hold-first (modelRules planar m (finiteWarm warm)) (storageRule planar m rows ∷ []) first-held))
+      (hold-granted (modelRules planar m (finiteWarm warm)) (hold-first (modelRules planar m (finiteWarm warm)) (storageRule plane m rows ∷ []) first-held))
 
-  room : Room planar m rows
-  room = room-of m rows (hold-granted (storageRule planar m rows ∷ []) (hold-second (modelRules planar m (finiteWarm warm)) (storageRule planar m rows ∷ []) first-held))
+  room : Room plane m rows
+  room = room-of m rows (hold-granted (storageRule plane m rows ∷ []) (hold-second (modelRules planar m (finiteWarm warm)) (storageRule plane m rows ∷ []) first-held))
 
   -- it leaves the model marked, and its rows in the storage
-  abbrev after : Outcome planar
+  abbrev after : Outcome plane
   after = grantedOf planar (build warm substep) m rows
 
   ran : run planar (build warm substep) m rows ≡ after
   ran = sym (run-granted (build warm substep) m rows no-rule)
 
   -- rule 3: each joint's masks are legal
-  legal-masks : (j : ℕ) → j < jointCount planar (m .words) (m .numbers) → Legal (masksAt (m .words) j)
+  legal-masks : (j : ℕ) → j < jointCount plane (m .words) (m .numbers) → Legal (masksAt (m .words) j)
   unfolding masksFit masksAt
   legal-masks j h =
       let fit = all-below (masksFit (m .words)) _ (rules .masks) j h in
@@ -96,16 +96,16 @@ module _ (m : Model) (warm : Warmstart) (substep : ℕ) (rows : List Float) (gra
 
   -- ---- a row read after it
 
-  module _ (j : ℕ) (h : j < jointCount planar (m .words) (m .numbers)) where
-    after-room : Room planar m (after .rows)
+  module _ (j : ℕ) (h : j < jointCount plane (m .words) (m .numbers)) where
+    after-room : Room plane m (after .rows)
     unfolding grantedOf rowCapacity
     after-room = omega (arith, room, final-length m warm substep rows room j h)
 
     read-held : Hold (rulesOf planar (readRows j) (after .after) (after .rows))
     unfolding grantedOf rulesOf storageRule builtRule jointRule
     read-held =
-        hold-both (modelRules planar (withMark m true) true ++ (storageRule planar (withMark m true) (after .rows) ∷ [])) _
-        (hold-both (modelRules planar (withMark m true) true) (storageRule planar (withMark m true) (after .rows) ∷ [])
+        hold-both (modelRules planar (withMark m true) true ++ (storageRule plane (withMark m true) (after .rows) ∷ [])) _
+        (hold-both (modelRules planar (withMark m true) true) (storageRule plane (withMark m true) (after .rows) ∷ [])
         (all-hold (modelRules planar (withMark m true) true) (model-numbered (withMark m true) true) (rules-granted (withMark m true) true marked refl))
         (ap not (le-ltb _ _ after-room), tt))
         (refl, (lt-ltb _ _ h, tt))
@@ -124,16 +124,16 @@ module _ (m : Model) (warm : Warmstart) (substep : ℕ) (rows : List Float) (gra
           dt = rules .dt;
         }
 
-    read-run : run planar (readRows j) (after .after) (after .rows) ≡ outcome (rowsRead (jointIds planar (m .words) j) (rowsOf planar (m .words) (after .rows) j)) (after .after) (after .rows)
+    read-run : run planar (readRows j) (after .after) (after .rows) ≡ outcome (rowsRead (jointIds plane (m .words) j) (rowsOf plane (m .words) (after .rows) j)) (after .after) (after .rows)
     unfolding grantedOf
     read-run = exactly-granted planar-laws (readRows j) (after .after) (after .rows) read-held
 
     module _ (n : ℕ) (on : OnLine m j n) where
-      ids-listed : jointIds planar (m .words) j ≡ listedIds n
+      ids-listed : jointIds plane (m .words) j ≡ listedIds n
       unfolding jointIds
       ids-listed = ap (rowIds 2 1) (masks-enabled (m .words) j (on .enabled) ∙ on .masks)
 
-      rows-made : rowsOf planar (m .words) (after .rows) j ≡ madeOf planar-laws m warm substep j rows
+      rows-made : rowsOf plane (m .words) (after .rows) j ≡ madeOf planar-laws m warm substep j rows
       unfolding grantedOf
       rows-made = built-rows m warm substep rows room j h
 
@@ -159,7 +159,7 @@ module _ (m : Model) (warm : Warmstart) (substep : ℕ) (rows : List Float) (gra
           (finalizeOf (map (rowOf (contextAt m j)) (groupOne 2 1 (entry n))) ++ finalizeOf (map (rowOf (contextAt m j)) (groupTwo 2 1 (entry n)))))
           joint-masks)
 
-      count-listed : rowCount planar (m .words) j ≡ length (listedIds n)
+      count-listed : rowCount plane (m .words) j ≡ length (listedIds n)
       unfolding rowCount
       count-listed = ap length ids-listed
 

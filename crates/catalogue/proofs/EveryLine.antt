@@ -21,7 +21,7 @@ use Rattle.multibody.specs.Rules.{all}
 use Rattle.multibody.specs.Refusals.{presentOrWorld, bodiesPresent, bodiesApart, finiteParams, finiteWarm, modelRules, storageRule, seedsRule, readsRows}
 use Rattle.multibody.specs.Calls.{refusalOf, firstRules, ownRules, rulesOf, run}
 use Rattle.multibody.specs.Calls.Call.{build}
-use Rattle.model.specs.Planar.{planar}
+use Rattle.model.specs.Planar.{plane, planar}
 use Rattle.model.proofs.PlanarLaws.{planar-laws}
 use Rattle.model.specs.Refusals.{masksFit, finiteFrom, noNanFrom, finiteBody, finiteMotor, finiteCenter, finiteJoint, angleFits, centerFits}
 use Rattle.model.proofs.JointRowsLaws.{few-rows}
@@ -68,7 +68,7 @@ module _ (k : Masks) (h : Legal k) where
     dt = refl;
   }
 
-  room : Room planar (sample k) storage
+  room : Room plane (sample k) storage
   unfolding jointCount rowCapacity rowsBefore
   room = omega (arith, few-rows (sample k .words) 0 refl)
 
@@ -76,7 +76,7 @@ module _ (k : Masks) (h : Legal k) where
   unfolding rulesOf storageRule seedsRule readsRows finiteWarm
   granted =
       hold-both (firstRules planar (build Cold 0) (sample k) storage) (ownRules planar (build Cold 0) (sample k))
-      (hold-both (modelRules planar (sample k) _) (storageRule planar (sample k) storage ∷ [])
+      (hold-both (modelRules planar (sample k) _) (storageRule plane (sample k) storage ∷ [])
       (all-hold (modelRules planar (sample k) _) (model-numbered (sample k) _) (rules-granted (sample k) _ rules refl)) (ap not (le-ltb _ _ room), tt))
       (refl, tt)
 

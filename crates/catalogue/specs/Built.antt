@@ -22,7 +22,7 @@ use Rattle.multibody.specs.Counts.{jointCount, rowsBefore}
 use Rattle.multibody.specs.Calls.{Outcome, outcome, refusalOf, run}
 use Rattle.multibody.specs.Calls.Call.{build, readRows}
 use Rattle.multibody.specs.Calls.Answer.{rowsRead}
-use Rattle.model.specs.Planar.{planar}
+use Rattle.model.specs.Planar.{plane, planar}
 use Rattle.catalogue.specs.Choices.{choices, entry}
 
 -- the ids on line n
@@ -31,7 +31,7 @@ listedIds n = rowIds 2 1 (entry n)
 
 -- joint j is there and enabled, and line n has its masks
 pub record OnLine (m : Model) (j n : ℕ) : Type 0 where
-  pub there : j < jointCount planar (m .words) (m .numbers)
+  pub there : j < jointCount plane (m .words) (m .numbers)
   pub enabled : isEnabled (enabledAt (m .words) j) ≡ true
   pub masks : masksAt (m .words) j ≡ entry n
 
@@ -42,7 +42,7 @@ contextAt m j =
 
 -- the last impulses of its rows, as they stand in the row storage
 abbrev pub lastAt : Model → ℕ → List Float → List Float
-lastAt m j rows = filled 6 (bits 0) (impulsesAt planar rows (rowsBefore planar (m .words) j) (rowCount planar (m .words) j))
+lastAt m j rows = filled 6 (bits 0) (impulsesAt plane rows (rowsBefore plane (m .words) j) (rowCount plane (m .words) j))
 
 -- The build gives joint j these ids.
 pub record Gives (m : Model) (warm : Warmstart) (substep : ℕ) (rows : List Float) (j : ℕ) (ids : List WritebackId) : Type 0 where
@@ -57,7 +57,7 @@ pub record Gives (m : Model) (warm : Warmstart) (substep : ℕ) (rows : List Flo
   -- as many as there are ids
   pub count : length made ≡ length ids
   -- a row read after the build answers these ids and these rows
-  pub read : let o : Outcome planar = run planar (build warm substep) m rows in
+  pub read : let o : Outcome plane = run planar (build warm substep) m rows in
       run planar (readRows j) (o .after) (o .rows) ≡ outcome (rowsRead ids made) (o .after) (o .rows)
 
 -- joint j's line, and its ids are what the build gives the joint
@@ -71,4 +71,4 @@ pub record HasLine (m : Model) (warm : Warmstart) (substep : ℕ) (rows : List F
 abbrev pub Catalogued : Type 0
 Catalogued =
     (m : Model) (warm : Warmstart) (substep : ℕ) (rows : List Float) → refusalOf (run planar (build warm substep) m rows .answer) ≡ 0
-    → (j : ℕ) → j < jointCount planar (m .words) (m .numbers) → isEnabled (enabledAt (m .words) j) ≡ true → HasLine m warm substep rows j
+    → (j : ℕ) → j < jointCount plane (m .words) (m .numbers) → isEnabled (enabledAt (m .words) j) ≡ true → HasLine m warm substep rows j

@@ -18,7 +18,7 @@ use Rattle.multibody.specs.JointRows.{rowCount}
 use Rattle.multibody.specs.Model.{Model, withBodies}
 use Rattle.multibody.specs.Counts.{Sound, bodyCount, jointCount, rowCapacity, rowsBefore, totalRows}
 use Rattle.multibody.specs.Calls.{eachJoint, rounds, rowsFrom}
-use Rattle.model.specs.Planar.{planar}
+use Rattle.model.specs.Planar.{plane}
 use Rattle.model.proofs.JointRowsLaws.{less, none, fill-turn}
 use Rattle.model.proofs.CountLaws.{rowsBefore-none, rowsBefore-next, rowsBefore-mono, rows-fit}
 
@@ -27,14 +27,14 @@ use Rattle.model.proofs.CountLaws.{rowsBefore-none, rowsBefore-next, ro
 -- what holds before turn j of n, with s₀ at the start and s now
 pub record Turn {A : Type 0} (work : ℕ → A → A) (words : List ℕ) (n : ℕ) (s₀ : A) (j first : ℕ) (s : A) : Type 0 where
   pub within : j ≤ n
-  pub begins : first ≡ rowsBefore planar words j
+  pub begins : first ≡ rowsBefore plane words j
   pub left : eachJoint work j (n - j) s ≡ eachJoint work 0 n s₀
 
 module _ {A : Type 0} (work : ℕ → A → A) (words : List ℕ) (n : ℕ) where
   pub first-turn : (s₀ : A) → Turn work words n s₀ 0 0 s₀
   first-turn s₀ = record { within = omega arith; begins = sym (rowsBefore-none words); left = rw sub-zero }
 
-  pub next-turn : {s₀ s s′ : A} {j first count : ℕ} → Turn work words n s₀ j first s → j < n → count ≡ rowCount planar words j → s′ ≡ work j s
+  pub next-turn : {s₀ s s′ : A} {j first count : ℕ} → Turn work words n s₀ j first s → j < n → count ≡ rowCount plane words j → s′ ≡ work j s
       → Turn work words n s₀ (j + 1) (first + count) s′
   unfolding eachJoint
   next-turn {j = j} t h c e = record {
@@ -48,16 +48,16 @@ module _ {A : Type 0} (work : ℕ → A → A) (words : List ℕ) (n : ℕ) wher
   unfolding eachJoint
   no-turn {j = j} t h = rw (none n j h) at (t .left)
 
-  pub all-rows : {s₀ s : A} {j first : ℕ} → Turn work words n s₀ j first s → n ≤ j → first ≡ rowsBefore planar words n
+  pub all-rows : {s₀ s : A} {j first : ℕ} → Turn work words n s₀ j first s → n ≤ j → first ≡ rowsBefore plane words n
   all-rows {j = j} t h =
       let e : j ≡ n = omega arith in
-      t .begins ∙ ap (rowsBefore planar words) e
+      t .begins ∙ ap (rowsBefore plane words) e
 
 -- joint j's rows lie within a storage that holds the total
-pub rows-within : (words : List ℕ) (numbers rows : List Float) {n j first count : ℕ} → totalRows planar words numbers ≤ rowCapacity planar rows → n ≡ jointCount planar words numbers
-    → j < n → first ≡ rowsBefore planar words j → count ≡ rowCount planar words j → (first + count) * rowWidth ≤ length rows
+pub rows-within : (words : List ℕ) (numbers rows : List Float) {n j first count : ℕ} → totalRows plane words numbers ≤ rowCapacity plane rows → n ≡ jointCount plane words numbers
+    → j < n → first ≡ rowsBefore plane words j → count ≡ rowCount plane words j → (first + count) * rowWidth ≤ length rows
 rows-within words numbers rows {j = j} room e h b c =
-    omega (arith, b, c, rows-fit rows (totalRows planar words numbers) room, rowsBefore-mono words j (jointCount planar words numbers) (omega arith))
+    omega (arith, b, c, rows-fit rows (totalRows plane words numbers) room, rowsBefore-mono words j (jointCount plane words numbers) (omega arith))
 
 -- ---- rounds
 
@@ -73,23 +73,23 @@ module _ {A : Type 0} (work : A → A) (n i : ℕ) (s : A) where
 -- ---- what the rounds keep
 
 -- a model is sound as long as its list of bodies is as long
-pub still-sound : (m : Model) (b : List Float) → length b ≡ length (m .bodies) → Sound planar m → Sound planar (withBodies m b)
+pub still-sound : (m : Model) (b : List Float) → length b ≡ length (m .bodies) → Sound plane m → Sound plane (withBodies m b)
 unfolding bodyCount
 still-sound m b e s = record { few = rw e (s .few); present1 = λ j h. rw e (s .present1 j h); present2 = λ j h. rw e (s .present2 j h); apart = s .apart }
 
 -- a row storage holds as many rows as long as it is as long
-pub still-room : (rows₀ rows : List Float) {total : ℕ} → length rows ≡ length rows₀ → total ≤ rowCapacity planar rows₀ → total ≤ rowCapacity planar rows
+pub still-room : (rows₀ rows : List Float) {total : ℕ} → length rows ≡ length rows₀ → total ≤ rowCapacity plane rows₀ → total ≤ rowCapacity plane rows
 unfolding rowCapacity
 still-room rows₀ rows e h = rw e h
 
 -- ---- one joint's rows read
 
-length-rowsFrom : (s : List Float) (k n : ℕ) → length (rowsFrom planar s k n) ≡ n
+length-rowsFrom : (s : List Float) (k n : ℕ) → length (rowsFrom plane s k n) ≡ n
 unfolding rowsFrom
 length-rowsFrom s k zero = refl
 length-rowsFrom s k (suc n) = ap suc (length-rowsFrom s (k + 1) n)
 
-rows-snoc : (s : List Float) (k n : ℕ) → rowsFrom planar s k (suc n) ≡ rowsFrom planar s k n ++ (rowAt s (k + n) ∷ [])
+rows-snoc : (s : List Float) (k n : ℕ) → rowsFrom plane s k (suc n) ≡ rowsFrom plane s k n ++ (rowAt s (k + n) ∷ [])
 unfolding rowsFrom
 rows-snoc s k zero = rw add-zero
 rows-snoc s k (suc n) =
@@ -97,15 +97,15 @@ rows-snoc s k (suc n) =
     rw e (ap (λ t. rowAt s k ∷ t) (rows-snoc s (k + 1) n))
 
 -- one more row
-pub row-turn : (s : List Float) (k i : ℕ) {out : List JointConstraint} {row : JointConstraint} → i < 6 → out ≡ filled 6 blankRow (rowsFrom planar s k i) → row ≡ rowAt s (k + i)
-    → set out i row ≡ filled 6 blankRow (rowsFrom planar s k (i + 1))
-row-turn s k i h e r = fill-turn blankRow (rowsFrom planar s k) (λ n. rowAt s (k + n)) (length-rowsFrom s k) (rows-snoc s k) 6 i h e r
+pub row-turn : (s : List Float) (k i : ℕ) {out : List JointConstraint} {row : JointConstraint} → i < 6 → out ≡ filled 6 blankRow (rowsFrom plane s k i) → row ≡ rowAt s (k + i)
+    → set out i row ≡ filled 6 blankRow (rowsFrom plane s k (i + 1))
+row-turn s k i h e r = fill-turn blankRow (rowsFrom plane s k) (λ n. rowAt s (k + n)) (length-rowsFrom s k) (rows-snoc s k) 6 i h e r
 
-pub no-rows : (s : List Float) (k : ℕ) → rowsFrom planar s k 0 ≡ []
+pub no-rows : (s : List Float) (k : ℕ) → rowsFrom plane s k 0 ≡ []
 unfolding rowsFrom
 no-rows s k = refl
 
 -- the array, once it holds n rows
-pub rows-array : (s : List Float) (k n : ℕ) {out : List JointConstraint} → out ≡ filled 6 blankRow (rowsFrom planar s k n)
-    → _≡_ {A = Rows} (record { rows = out; len = n }) (rowsArray (rowsFrom planar s k n))
-rows-array s k n e = cc (rowsArray-filled (rowsFrom planar s k n), length-rowsFrom s k n)
+pub rows-array : (s : List Float) (k n : ℕ) {out : List JointConstraint} → out ≡ filled 6 blankRow (rowsFrom plane s k n)
+    → _≡_ {A = Rows} (record { rows = out; len = n }) (rowsArray (rowsFrom plane s k n))
+rows-array s k n e = cc (rowsArray-filled (rowsFrom plane s k n), length-rowsFrom s k n)

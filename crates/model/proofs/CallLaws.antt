@@ -29,7 +29,7 @@ use Rattle.multibody.specs.Rules.{Rule, refusal}
 use Rattle.multibody.specs.Calls.{Call, outcome, firstRules, ownRules, rulesOf, grantedOf, run, rowsFrom, rowsOf, rounds, sweepCounts, Counted, counted, countedRound}
 use Rattle.multibody.specs.Calls.Call.{sweep, readRows}
 use Rattle.multibody.specs.Calls.Answer.{rowsRead, swept, refused}
-use Rattle.model.specs.Planar.{faultRule, tableRules, planar}
+use Rattle.model.specs.Planar.{faultRule, tableRules, plane, planar}
 use Rattle.model.specs.Answers.{idsList, rowsAnswer, noRows, rowsAnswerOf, sweepAnswer, sweptAs, sweepAnswerOf}
 use Rattle.model.specs.declared.calls.Plain.{Plain}
 use Rattle.model.specs.declared.calls.RowsAnswer.{RowsAnswer}
@@ -48,7 +48,7 @@ or-true false = refl
 
 -- rules 1 to 7 and 12, and rule 8
 abbrev pub storageRules : Model → Bool → List Float → List Rule
-storageRules m arguments rows = modelRules planar m arguments ++ (storageRule planar m rows ∷ [])
+storageRules m arguments rows = modelRules planar m arguments ++ (storageRule plane m rows ∷ [])
 
 -- ---- a call refused, and a call granted
 
@@ -102,16 +102,16 @@ granted-parts qs rs n e =
     (λ t. let z = eqb-false (refusal qs) 0 t in absurd (z (sym (refused-append qs rs z) ∙ e)))
 
 module _ (m : Model) (arguments : Bool) (rows : List Float) {k : ℕ} (e : k ≡ refusal (storageRules m arguments rows)) (z : k ≡ 0) where
-  parts : (refusal (modelRules planar m arguments) ≡ 0) × (refusal (storageRule planar m rows ∷ []) ≡ 0)
-  parts = granted-parts (modelRules planar m arguments) (storageRule planar m rows ∷ []) (model-numbered m arguments) (sym e ∙ z)
+  parts : (refusal (modelRules planar m arguments) ≡ 0) × (refusal (storageRule plane m rows ∷ []) ≡ 0)
+  parts = granted-parts (modelRules planar m arguments) (storageRule plane m rows ∷ []) (model-numbered m arguments) (sym e ∙ z)
 
-  pub call-sound : Sound planar m
+  pub call-sound : Sound plane m
   call-sound = sound-of m arguments (parts .0)
 
-  pub call-few-joints : jointCount planar (m .words) (m .numbers) ≤ mostJoints
-  call-few-joints = at-most mostJoints (jointCount planar (m .words) (m .numbers)) (rules-hold m arguments (parts .0) .joints)
+  pub call-few-joints : jointCount plane (m .words) (m .numbers) ≤ mostJoints
+  call-few-joints = at-most mostJoints (jointCount plane (m .words) (m .numbers)) (rules-hold m arguments (parts .0) .joints)
 
-  pub call-room : Room planar m rows
+  pub call-room : Room plane m rows
   call-room = room-of m rows (parts .1)
 
 -- ---- a call's own rules: each fails, or holds and leaves the rest to decide
@@ -143,21 +143,21 @@ module _ (rest : List Rule) where
     seeds warm substep (inl e) = rule-holds (seedsRule m warm substep) rest (rw e)
     seeds warm substep (inr r) = rule-holds (seedsRule m warm substep) rest (rw r (or-true (m .built)))
 
-    pub no-body : (i : ℕ) {n : ℕ} → n ≡ bodyCount planar (m .bodies) → n ≤ i → 11 ≡ refusal (bodyRule planar m i ∷ rest)
+    pub no-body : (i : ℕ) {n : ℕ} → n ≡ bodyCount plane (m .bodies) → n ≤ i → 11 ≡ refusal (bodyRule plane m i ∷ rest)
     unfolding bodyRule
-    no-body i {n} e h = sym (rule-fails (bodyRule planar m i) rest (rw (← e) (le-ltb i n h)))
+    no-body i {n} e h = sym (rule-fails (bodyRule plane m i) rest (rw (← e) (le-ltb i n h)))
 
-    pub some-body : (i : ℕ) {n : ℕ} → n ≡ bodyCount planar (m .bodies) → i < n → refusal (bodyRule planar m i ∷ rest) ≡ refusal rest
+    pub some-body : (i : ℕ) {n : ℕ} → n ≡ bodyCount plane (m .bodies) → i < n → refusal (bodyRule plane m i ∷ rest) ≡ refusal rest
     unfolding bodyRule
-    some-body i {n} e h = rule-holds (bodyRule planar m i) rest (rw (← e) (lt-ltb i n h))
+    some-body i {n} e h = rule-holds (bodyRule plane m i) rest (rw (← e) (lt-ltb i n h))
 
-    pub no-joint : (j : ℕ) {n : ℕ} → n ≡ jointCount planar (m .words) (m .numbers) → n ≤ j → 11 ≡ refusal (jointRule planar m j ∷ rest)
+    pub no-joint : (j : ℕ) {n : ℕ} → n ≡ jointCount plane (m .words) (m .numbers) → n ≤ j → 11 ≡ refusal (jointRule plane m j ∷ rest)
     unfolding jointRule
-    no-joint j {n} e h = sym (rule-fails (jointRule planar m j) rest (rw (← e) (le-ltb j n h)))
+    no-joint j {n} e h = sym (rule-fails (jointRule plane m j) rest (rw (← e) (le-ltb j n h)))
 
-    pub some-joint : (j : ℕ) {n : ℕ} → n ≡ jointCount planar (m .words) (m .numbers) → j < n → refusal (jointRule planar m j ∷ rest) ≡ refusal rest
+    pub some-joint : (j : ℕ) {n : ℕ} → n ≡ jointCount plane (m .words) (m .numbers) → j < n → refusal (jointRule plane m j ∷ rest) ≡ refusal rest
     unfolding jointRule
-    some-joint j {n} e h = rule-holds (jointRule planar m j) rest (rw (← e) (lt-ltb j n h))
+    some-joint j {n} e h = rule-holds (jointRule plane m j) rest (rw (← e) (lt-ltb j n h))
 
 -- a call whose one rule of its own is that a build comes before it
 module _ (c : Call planar) (m : Model) (rows : List Float) {k : ℕ} (e : k ≡ refusal (firstRules planar c m rows)) (z : k ≡ 0) (own : ownRules planar c m ≡ builtRule m ∷ []) where
@@ -182,14 +182,14 @@ module _ (n : ℕ) (bytes : List ℕ) {joints : ℕ} (e : joints ≡ n) where
   table-read {k} h = table-refusal n bytes ∙ answer-granted n _ 0 k (rw e at h)
 
 -- rule 2
-pub few-joints : (m : Model) (arguments : Bool) {k : ℕ} → k ≡ refusal (modelRules planar m arguments) → k ≡ 0 → jointCount planar (m .words) (m .numbers) ≤ mostJoints
-few-joints m arguments e z = at-most mostJoints (jointCount planar (m .words) (m .numbers)) (rules-hold m arguments (sym e ∙ z) .joints)
+pub few-joints : (m : Model) (arguments : Bool) {k : ℕ} → k ≡ refusal (modelRules planar m arguments) → k ≡ 0 → jointCount plane (m .words) (m .numbers) ≤ mostJoints
+few-joints m arguments e z = at-most mostJoints (jointCount plane (m .words) (m .numbers)) (rules-hold m arguments (sym e ∙ z) .joints)
 
 -- ---- a sweep's answer: the outcome as every call's, and how its array is filled
 
 module _ (n : ℕ) (m : Model) (rows : List Float) where
   abbrev joints : ℕ
-  joints = jointCount planar (m .words) (m .numbers)
+  joints = jointCount plane (m .words) (m .numbers)
 
   abbrev Swept : List Float → List Float → SweepAnswer → Type 0
   Swept bodies′ rows′ r = (outcome (sweepAnswer joints r) (withBodies m bodies′) rows′ ≡ run planar (sweep n) m rows) × (r ≡ sweepAnswerOf (run planar (sweep n) m rows .answer))
@@ -202,49 +202,49 @@ module _ (n : ℕ) (m : Model) (rows : List Float) where
   swept-as counts = record { answer = Plain.Granted; counts = counts }
 
   pub sweep-granted : {bodies′ rows′ : List Float} {counts : List ℕ} → joints ≤ mostJoints
-      → counted (state rows′ bodies′) counts ≡ rounds (countedRound planar (m .words) joints) n (counted (state rows (m .bodies)) (replicate 128 0))
+      → counted (state rows′ bodies′) counts ≡ rounds (countedRound plane (m .words) joints) n (counted (state rows (m .bodies)) (replicate 128 0))
       → grantedOf planar (sweep n) m rows ≡ run planar (sweep n) m rows → Swept bodies′ rows′ (swept-as counts)
   unfolding sweepAnswerOf grantedOf
   sweep-granted {bodies′} {rows′} {counts} few e o =
-      let last : List ℕ = sweepCounts planar (m .words) joints n (state rows (m .bodies)) in
-      let all = e ∙ last-counts planar (m .words) joints n (state rows (m .bodies)) few in
+      let last : List ℕ = sweepCounts plane (m .words) joints n (state rows (m .bodies)) in
+      let all = e ∙ last-counts plane (m .words) joints n (state rows (m .bodies)) few in
       let told : take joints counts ≡ last =
-      ap (λ (s : Counted). take joints (s .counts)) all ∙ take-filled 0 128 joints last (length-sweepCounts planar (m .words) joints n (state rows (m .bodies))) few in (
+      ap (λ (s : Counted). take joints (s .counts)) all ∙ take-filled 0 128 joints last (length-sweepCounts plane (m .words) joints n (state rows (m .bodies))) few in (
         ap (λ cs. outcome (swept cs) (withBodies m bodies′) rows′) told ∙ ap (λ (s : Counted). outcome (swept last) (withBodies m (s .state .bodies)) (s .state .rows)) all ∙ o,
         ap (λ (s : Counted). swept-as (s .counts)) all ∙ ap (λ o. sweepAnswerOf (o .answer)) o,
       )
 
 -- ---- a row read's answer: the outcome as every call's, and how its arrays are filled
 
-read-ids : (j : ℕ) (m : Model) → idsList (rowIdsArray (rowMasksAt planar (m .words) j)) ≡ jointIds planar (m .words) j
+read-ids : (j : ℕ) (m : Model) → idsList (rowIdsArray (rowMasksAt plane (m .words) j)) ≡ jointIds plane (m .words) j
 unfolding jointIds
-read-ids j m = rowIdsArray-ids (rowMasksAt planar (m .words) j)
+read-ids j m = rowIdsArray-ids (rowMasksAt plane (m .words) j)
 
-read-rows : (j : ℕ) (m : Model) (rows : List Float) → rowsList (rowsArray (rowsFrom planar rows (rowsBefore planar (m .words) j) (rowCount planar (m .words) j))) ≡ rowsOf planar (m .words) rows j
+read-rows : (j : ℕ) (m : Model) (rows : List Float) → rowsList (rowsArray (rowsFrom plane rows (rowsBefore plane (m .words) j) (rowCount plane (m .words) j))) ≡ rowsOf plane (m .words) rows j
 unfolding rowsOf
 read-rows j m rows =
-    let k = rowsBefore planar (m .words) j in
-    let n = rowCount planar (m .words) j in
-    rowsArray-rows (rowsFrom planar rows k n) (omega (arith, rowsFrom-length rows k n, few-rows (m .words) j {n = n} refl))
+    let k = rowsBefore plane (m .words) j in
+    let n = rowCount plane (m .words) j in
+    rowsArray-rows (rowsFrom plane rows k n) (omega (arith, rowsFrom-length rows k n, few-rows (m .words) j {n = n} refl))
 
 module _ (j : ℕ) (m : Model) (rows : List Float) where
   abbrev Promised : RowsAnswer → Type 0
-  Promised r = (outcome (rowsAnswer r) m rows ≡ run planar (readRows j) m rows) × (r ≡ rowsAnswerOf (rowMasksAt planar (m .words) j) (run planar (readRows j) m rows .answer))
+  Promised r = (outcome (rowsAnswer r) m rows ≡ run planar (readRows j) m rows) × (r ≡ rowsAnswerOf (rowMasksAt plane (m .words) j) (run planar (readRows j) m rows .answer))
 
   pub rows-refused : {k : ℕ} {r : RowsAnswer} → r ≡ noRows (Plain.Refused k) → outcome (refused k) m rows ≡ run planar (readRows j) m rows → Promised r
   unfolding rowsAnswerOf
-  rows-refused e o = (rw e o, e ∙ ap (λ o. rowsAnswerOf (rowMasksAt planar (m .words) j) (o .answer)) o)
+  rows-refused e o = (rw e o, e ∙ ap (λ o. rowsAnswerOf (rowMasksAt plane (m .words) j) (o .answer)) o)
 
-  pub rows-granted : {ids : RowIds} {first count : ℕ} {read : Rows} → ids ≡ rowIdsArray (rowMasksAt planar (m .words) j)
-      → first ≡ rowsBefore planar (m .words) j → count ≡ rowCount planar (m .words) j → read ≡ rowsArray (rowsFrom planar rows first count)
+  pub rows-granted : {ids : RowIds} {first count : ℕ} {read : Rows} → ids ≡ rowIdsArray (rowMasksAt plane (m .words) j)
+      → first ≡ rowsBefore plane (m .words) j → count ≡ rowCount plane (m .words) j → read ≡ rowsArray (rowsFrom plane rows first count)
       → grantedOf planar (readRows j) m rows ≡ run planar (readRows j) m rows → Promised (record { answer = Plain.Granted; ids = ids; rows = read })
   unfolding rowsAnswerOf grantedOf rowsOf
   rows-granted {read = read} i f c r o =
-      let k = rowsBefore planar (m .words) j in
-      let n = rowCount planar (m .words) j in
-      let same : read ≡ rowsArray (rowsFrom planar rows k n) = rw (← f, ← c) r in
+      let k = rowsBefore plane (m .words) j in
+      let n = rowCount plane (m .words) j in
+      let same : read ≡ rowsArray (rowsFrom plane rows k n) = rw (← f, ← c) r in
       let first = ap idsList i ∙ read-ids j m in
       let last = ap rowsList same ∙ read-rows j m rows in (
-        ap (λ is. outcome (rowsRead is (rowsList read)) m rows) first ∙ ap (λ rs. outcome (rowsRead (jointIds planar (m .words) j) rs) m rows) last ∙ o,
-        rw (r, f, c, i) (ap (λ o. rowsAnswerOf (rowMasksAt planar (m .words) j) (o .answer)) o),
+        ap (λ is. outcome (rowsRead is (rowsList read)) m rows) first ∙ ap (λ rs. outcome (rowsRead (jointIds plane (m .words) j) rs) m rows) last ∙ o,
+        rw (r, f, c, i) (ap (λ o. rowsAnswerOf (rowMasksAt plane (m .words) j) (o .answer)) o),
       )

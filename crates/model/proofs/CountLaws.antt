@@ -15,30 +15,30 @@ use lib.Ieee.{Float}
 use Rattle.model.specs.Layout.{rowWidth, bodyWidth, wordsWidth, numbersWidth}
 use Rattle.multibody.specs.JointRows.{rowCount}
 use Rattle.multibody.specs.Counts.{bodyCount, jointCount, rowCapacity, rowsBefore}
-use Rattle.model.specs.Planar.{planar}
+use Rattle.model.specs.Planar.{plane}
 use Rattle.model.proofs.JointRowsLaws.{few-rows}
 
 -- ---- bodies
 
-pub body-there : (b : List Float) (i : ℕ) → i < bodyCount planar b → i * bodyWidth + bodyWidth ≤ length b
+pub body-there : (b : List Float) (i : ℕ) → i < bodyCount plane b → i * bodyWidth + bodyWidth ≤ length b
 unfolding bodyCount
 body-there b i h = omega arith
 
-pub there-body : (b : List Float) (i : ℕ) → i * bodyWidth + bodyWidth ≤ length b → i < bodyCount planar b
+pub there-body : (b : List Float) (i : ℕ) → i * bodyWidth + bodyWidth ≤ length b → i < bodyCount plane b
 unfolding bodyCount
 there-body b i h = omega arith
 
-pub bodies-fit : (b : List Float) → bodyCount planar b * bodyWidth ≤ length b
+pub bodies-fit : (b : List Float) → bodyCount plane b * bodyWidth ≤ length b
 unfolding bodyCount
 bodies-fit b = omega arith
 
 -- ---- rows that a storage has room for
 
-pub rows-fit : (rows : List Float) (t : ℕ) → t ≤ rowCapacity planar rows → t * rowWidth ≤ length rows
+pub rows-fit : (rows : List Float) (t : ℕ) → t ≤ rowCapacity plane rows → t * rowWidth ≤ length rows
 unfolding rowCapacity
 rows-fit rows t h = omega arith
 
-pub fit-rows : (rows : List Float) (t : ℕ) → t * rowWidth ≤ length rows → t ≤ rowCapacity planar rows
+pub fit-rows : (rows : List Float) (t : ℕ) → t * rowWidth ≤ length rows → t ≤ rowCapacity plane rows
 unfolding rowCapacity
 fit-rows rows t h = omega arith
 
@@ -68,41 +68,41 @@ module _ (a b : ℕ) where
       go false = g
 
 module _ (words : List ℕ) (numbers : List Float) where
-  pub joints-words : jointCount planar words numbers * wordsWidth ≤ length words
+  pub joints-words : jointCount plane words numbers * wordsWidth ≤ length words
   unfolding jointCount
   joints-words = omega (arith, lesser-left (length words / wordsWidth) (length numbers / numbersWidth))
 
-  pub joints-numbers : jointCount planar words numbers * numbersWidth ≤ length numbers
+  pub joints-numbers : jointCount plane words numbers * numbersWidth ≤ length numbers
   unfolding jointCount
   joints-numbers = omega (arith, lesser-right (length words / wordsWidth) (length numbers / numbersWidth))
 
-  pub joint-words : (j : ℕ) → j < jointCount planar words numbers → j * wordsWidth + wordsWidth ≤ length words
+  pub joint-words : (j : ℕ) → j < jointCount plane words numbers → j * wordsWidth + wordsWidth ≤ length words
   joint-words j h = omega (arith, joints-words)
 
-  pub joint-numbers : (j : ℕ) → j < jointCount planar words numbers → j * numbersWidth + numbersWidth ≤ length numbers
+  pub joint-numbers : (j : ℕ) → j < jointCount plane words numbers → j * numbersWidth + numbersWidth ≤ length numbers
   joint-numbers j h = omega (arith, joints-numbers)
 
-  pub joint-there : (j : ℕ) → j * wordsWidth + wordsWidth ≤ length words → j * numbersWidth + numbersWidth ≤ length numbers → j < jointCount planar words numbers
+  pub joint-there : (j : ℕ) → j * wordsWidth + wordsWidth ≤ length words → j * numbersWidth + numbersWidth ≤ length numbers → j < jointCount plane words numbers
   unfolding jointCount
   joint-there j h g = below-lesser (length words / wordsWidth) (length numbers / numbersWidth) j (omega arith) (omega arith)
 
 -- ---- where a joint's rows begin
 
-pub rowsBefore-none : (words : List ℕ) → rowsBefore planar words 0 ≡ 0
+pub rowsBefore-none : (words : List ℕ) → rowsBefore plane words 0 ≡ 0
 unfolding rowsBefore
 rowsBefore-none words = refl
 
-pub rowsBefore-next : (words : List ℕ) (j : ℕ) → rowsBefore planar words (j + 1) ≡ rowsBefore planar words j + rowCount planar words j
+pub rowsBefore-next : (words : List ℕ) (j : ℕ) → rowsBefore plane words (j + 1) ≡ rowsBefore plane words j + rowCount plane words j
 unfolding rowsBefore
 rowsBefore-next words j = rw add-one
 
-pub rowsBefore-le : (words : List ℕ) (j : ℕ) → rowsBefore planar words j ≤ j * 6
+pub rowsBefore-le : (words : List ℕ) (j : ℕ) → rowsBefore plane words j ≤ j * 6
 unfolding rowsBefore
 rowsBefore-le words zero = omega arith
 rowsBefore-le words (suc j) = omega (arith, rowsBefore-le words j, few-rows words j refl)
 
 -- a joint's rows end before a later joint's begin
-pub rowsBefore-mono : (words : List ℕ) (j k : ℕ) → j < k → rowsBefore planar words j + rowCount planar words j ≤ rowsBefore planar words k
+pub rowsBefore-mono : (words : List ℕ) (j k : ℕ) → j < k → rowsBefore plane words j + rowCount plane words j ≤ rowsBefore plane words k
 unfolding rowsBefore
 rowsBefore-mono words j zero h = omega arith
 rowsBefore-mono words j (suc k) h =

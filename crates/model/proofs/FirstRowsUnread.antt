@@ -13,11 +13,11 @@ use Rattle.rows.specs.declared.generic_joint.Masks.{Masks}
 use Rattle.multibody.specs.Model.{Model, withWords}
 use Rattle.multibody.specs.Counts.{rowsBefore, storeFirsts}
 use Rattle.multibody.specs.Calls.{Call, run}
-use Rattle.multibody.proofs.Rewording.{SameWords}
+use Rattle.multibody.proofs.Rewording.{SameWords, same-count}
 use Rattle.multibody.proofs.FirstRowsUnread.{Unread, unread}
 use Rattle.model.specs.Layout.{wordsWidth, masksPlace}
 use Rattle.model.specs.Store.{putFirst, putMasks}
-use Rattle.model.specs.Planar.{planar}
+use Rattle.model.specs.Planar.{plane, planar}
 use Rattle.model.specs.FirstRows.{FirstRowsAlone, SameButFirstRows, FirstRowsUnread}
 use Rattle.model.proofs.Tests.{by-cases}
 use Rattle.model.proofs.FirstRows.{alone-reworded, masksAt-alone, maskRules-alone, jointAt-alone, put-alone}
@@ -33,15 +33,15 @@ after-first {a} {b} j k s =
     let t = put-alone b j k in
     record { size = t .size ∙ s .size; other = λ i c g. t .other i c g ∙ s .other i c g }
 
-after-firsts : {a : List ℕ} (n j : ℕ) (b : List ℕ) → FirstRowsAlone a b → FirstRowsAlone a (storeFirsts planar j n b)
+after-firsts : {a : List ℕ} (n j : ℕ) (b : List ℕ) → FirstRowsAlone a b → FirstRowsAlone a (storeFirsts plane j n b)
 unfolding storeFirsts
 after-firsts zero j b s = s
-after-firsts (suc n) j b s = after-firsts n (j + 1) (putFirst b j (rowsBefore planar b j)) (after-first j (rowsBefore planar b j) s)
+after-firsts (suc n) j b s = after-firsts n (j + 1) (putFirst b j (rowsBefore plane b j)) (after-first j (rowsBefore plane b j) s)
 
 turned : {a b : List ℕ} → FirstRowsAlone a b → FirstRowsAlone b a
 turned s = record { size = sym (s .size); other = λ i c g. sym (s .other i c g) }
 
-firsts-alone : {a b : List ℕ} (n : ℕ) → FirstRowsAlone a b → FirstRowsAlone (storeFirsts planar 0 n a) (storeFirsts planar 0 n b)
+firsts-alone : {a b : List ℕ} (n : ℕ) → FirstRowsAlone a b → FirstRowsAlone (storeFirsts plane 0 n a) (storeFirsts plane 0 n b)
 firsts-alone {a} {b} n s = turned (after-firsts n 0 a (turned (after-firsts n 0 b s)))
 
 -- ---- new masks
@@ -88,8 +88,8 @@ planar-unread = record {
   words = alone-words;
   masks = masks-alone;
   firsts = firsts-alone;
-  rules = λ f m mark w joints. refl;
-  numbers = λ f m mark w joints. refl;
+  rules = λ f m mark s. rw (same-count planar-laws (alone-reworded s) (m .numbers));
+  numbers = λ f m mark s. rw (same-count planar-laws (alone-reworded s) (m .numbers));
 }
 
 pub first-rows-unread : FirstRowsUnread

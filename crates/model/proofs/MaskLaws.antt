@@ -29,7 +29,7 @@ use Rattle.multibody.proofs.Rewording.{same-count}
 use Rattle.model.specs.Layout.{wordsWidth}
 use Rattle.model.specs.Store.{putMasks, enabledAt, masksAt}
 use Rattle.model.specs.Refusals.{newMasksFit}
-use Rattle.model.specs.Planar.{planar}
+use Rattle.model.specs.Planar.{plane, planar}
 use Rattle.model.proofs.JointRowsLaws.{count-disabled}
 use Rattle.model.proofs.NewMasks.{put-reworded, put-enabled, masksAt-apart, masks-put}
 use Rattle.model.proofs.PlanarLaws.{planar-laws}
@@ -37,7 +37,7 @@ use Rattle.model.proofs.PlanarLaws.{planar-laws}
 -- ---- rows with other masks of one joint
 
 module _ (w : List ℕ) (i j : ℕ) (ms : Masks) where
-  pub count-apart : i ≢ j → rowCount planar (putMasks w j ms) i ≡ rowCount planar w i
+  pub count-apart : i ≢ j → rowCount plane (putMasks w j ms) i ≡ rowCount plane w i
   unfolding rowCount jointIds rowMasksAt
   count-apart n = rw (masksAt-apart w j ms i n, put-enabled w j ms i)
 
@@ -46,28 +46,28 @@ module _ (w : List ℕ) (i j : ℕ) (ms : Masks) where
     still-enabled : isEnabled (enabledAt w i) ≡ true → isEnabled (enabledAt (putMasks w j ms) i) ≡ true
     still-enabled on = rw (put-enabled w j ms i) on
 
-    pub count-enabled : isEnabled (enabledAt w i) ≡ true → i * wordsWidth + wordsWidth ≤ length w → length (rowIds 2 1 ms) ≡ rowCount planar (putMasks w j ms) i
+    pub count-enabled : isEnabled (enabledAt w i) ≡ true → i * wordsWidth + wordsWidth ≤ length w → length (rowIds 2 1 ms) ≡ rowCount plane (putMasks w j ms) i
     unfolding rowCount jointIds rowMasksAt
     count-enabled on room =
         let m : masksAt (putMasks w j ms) i ≡ ms = rw e (masks-put w j ms (rw (← e) room)) in
         rw (still-enabled on, m)
 
-    pub count-none : isEnabled (enabledAt w i) ≡ false → 0 ≡ rowCount planar (putMasks w j ms) i
+    pub count-none : isEnabled (enabledAt w i) ≡ false → 0 ≡ rowCount plane (putMasks w j ms) i
     count-none off = sym (count-disabled (putMasks w j ms) i (rw (put-enabled w j ms i) off))
 
 -- ---- masks that do not fit
 
 module _ (m : Model) (arguments : Bool) where
-  pub unfit-bodies : {n : ℕ} → n ≡ bodyCount planar (m .bodies) → mostBodies < n → 1 ≡ refusal (modelRulesWith planar m false arguments)
+  pub unfit-bodies : {n : ℕ} → n ≡ bodyCount plane (m .bodies) → mostBodies < n → 1 ≡ refusal (modelRulesWith planar m false arguments)
   unfolding modelRulesWith
   unfit-bodies b h = sym (rule-fails _ _ (ap not (lt-ltb mostBodies _ (rw b at h))))
 
-  pub unfit-joints : {n joints : ℕ} → n ≡ bodyCount planar (m .bodies) → joints ≡ jointCount planar (m .words) (m .numbers) → n ≤ mostBodies → mostJoints < joints
+  pub unfit-joints : {n joints : ℕ} → n ≡ bodyCount plane (m .bodies) → joints ≡ jointCount plane (m .words) (m .numbers) → n ≤ mostBodies → mostJoints < joints
       → 2 ≡ refusal (modelRulesWith planar m false arguments)
   unfolding modelRulesWith
   unfit-joints b j h g = sym (rule-holds _ _ (ap not (le-ltb mostBodies _ (rw b at h))) ∙ rule-fails _ _ (ap not (lt-ltb mostJoints _ (rw j at g))))
 
-  pub unfit-masks : {n joints : ℕ} → n ≡ bodyCount planar (m .bodies) → joints ≡ jointCount planar (m .words) (m .numbers) → n ≤ mostBodies → joints ≤ mostJoints
+  pub unfit-masks : {n joints : ℕ} → n ≡ bodyCount plane (m .bodies) → joints ≡ jointCount plane (m .words) (m .numbers) → n ≤ mostBodies → joints ≤ mostJoints
       → 3 ≡ refusal (modelRulesWith planar m false arguments)
   unfolding modelRulesWith
   unfit-masks b j h g =
@@ -77,10 +77,10 @@ module _ (m : Model) (arguments : Bool) where
 
 module _ (m : Model) (rows : List Float) (j : ℕ) (ms : Masks) where
   abbrev eighth : Rule
-  eighth = storageRule planar (changed {sys = planar} m (given j ms)) rows
+  eighth = storageRule plane (changed {sys = planar} m (given j ms)) rows
 
   abbrev last : List Rule
-  last = eighth ∷ jointRule planar m j ∷ []
+  last = eighth ∷ jointRule plane m j ∷ []
 
   -- the order in which it tries them
   pub masks-order : map (λ (r : Rule). r .number) (rulesOf planar (setMasks j ms) m rows) ≡ 1 ∷ 2 ∷ 3 ∷ 4 ∷ 5 ∷ 6 ∷ 12 ∷ 7 ∷ 8 ∷ 11 ∷ []
@@ -89,7 +89,7 @@ module _ (m : Model) (rows : List Float) (j : ℕ) (ms : Masks) where
 
   change-rules : {fit : Bool} → newMasksFit ms ≡ fit → refusal (rulesOf planar (setMasks j ms) m rows) ≡ refusal (modelRulesWith planar m fit true ++ last)
   unfolding rulesOf
-  change-rules e = rw (← e) (ap refusal (append-assoc (modelRulesWith planar m (newMasksFit ms) true) (eighth ∷ []) (jointRule planar m j ∷ [])))
+  change-rules e = rw (← e) (ap refusal (append-assoc (modelRulesWith planar m (newMasksFit ms) true) (eighth ∷ []) (jointRule plane m j ∷ [])))
 
   abbrev Refuses : ℕ → Type 0
   Refuses k = outcome (refused k) m rows ≡ run planar (setMasks j ms) m rows
@@ -104,13 +104,13 @@ module _ (m : Model) (rows : List Float) (j : ℕ) (ms : Masks) where
     model-refused n = run-refused (setMasks j ms) m rows (e ∙ sym (change-rules fit ∙ refused-append (modelRules planar m true) last (λ z. n (e ∙ z)))) n
 
     -- rules 1 to 7 and 12 hold: the last two decide, with the total and the room that the code has
-    module _ (z : k ≡ 0) {total joints room : ℕ} (n : joints ≡ jointCount planar (m .words) (m .numbers)) (t : total ≡ rowsBefore planar (putMasks (m .words) j ms) joints)
-        (c : room ≡ rowCapacity planar rows) where
+    module _ (z : k ≡ 0) {total joints room : ℕ} (n : joints ≡ jointCount plane (m .words) (m .numbers)) (t : total ≡ rowsBefore plane (putMasks (m .words) j ms) joints)
+        (c : room ≡ rowCapacity plane rows) where
       last-decide : refusal (rulesOf planar (setMasks j ms) m rows) ≡ refusal last
       last-decide = change-rules fit ∙ granted-append (modelRules planar m true) last (model-numbered planar-laws m true true) (sym e ∙ z)
 
-      new-total : totalRows planar (putMasks (m .words) j ms) (m .numbers) ≡ total
-      new-total = ap (rowsBefore planar (putMasks (m .words) j ms)) (same-count planar-laws (put-reworded (m .words) j ms) (m .numbers) ∙ sym n) ∙ sym t
+      new-total : totalRows plane (putMasks (m .words) j ms) (m .numbers) ≡ total
+      new-total = ap (rowsBefore plane (putMasks (m .words) j ms)) (same-count planar-laws (put-reworded (m .words) j ms) (m .numbers) ∙ sym n) ∙ sym t
 
       eighth-tells : eighth .holds ≡ not (ltb room total)
       unfolding storageRule
@@ -122,11 +122,11 @@ module _ (m : Model) (rows : List Float) (j : ℕ) (ms : Masks) where
 
       pub short-refused : room < total → Refuses 8
       short-refused s =
-          run-refused (setMasks j ms) m rows (sym (last-decide ∙ rule-fails eighth (jointRule planar m j ∷ []) (eighth-tells ∙ ap not (lt-ltb room total s)) ∙ eighth-number)) (omega arith)
+          run-refused (setMasks j ms) m rows (sym (last-decide ∙ rule-fails eighth (jointRule plane m j ∷ []) (eighth-tells ∙ ap not (lt-ltb room total s)) ∙ eighth-number)) (omega arith)
 
       module _ (s : total ≤ room) where
-        enough : refusal (rulesOf planar (setMasks j ms) m rows) ≡ refusal (jointRule planar m j ∷ [])
-        enough = last-decide ∙ rule-holds eighth (jointRule planar m j ∷ []) (eighth-tells ∙ ap not (le-ltb room total s))
+        enough : refusal (rulesOf planar (setMasks j ms) m rows) ≡ refusal (jointRule plane m j ∷ [])
+        enough = last-decide ∙ rule-holds eighth (jointRule plane m j ∷ []) (eighth-tells ∙ ap not (le-ltb room total s))
 
         pub missing-refused : joints ≤ j → Refuses 11
         unfolding jointRule

@@ -27,7 +27,7 @@ use Rattle.multibody.proofs.RefusedExactly.{told}
 use Rattle.multibody.proofs.Premises.{Turn, recorded, recorded-returns}
 use Rattle.model.specs.Store.{putMasks, masksAt, body1At, body2At, enabledAt, centerAt}
 use Rattle.model.specs.Refusals.{masksFit, newMasksFit, finiteFrom, noNanFrom, finiteBody, finiteMotor, finiteCenter, finiteJoint, angleFits, centerFits}
-use Rattle.model.specs.Planar.{planar}
+use Rattle.model.specs.Planar.{plane, planar}
 use Rattle.model.specs.Studies.{planarCalls}
 use Rattle.model.proofs.PlanarLaws.{planar-laws, planar-two-studies}
 use Rattle.model.proofs.StudyPair.{o, m, m′, s, s′, storage, set, ts, agree, loaded, loaded′, same-numbers}
@@ -57,7 +57,7 @@ granted = comes .0
 pub one-alone : (refusal (rulesOf planar (setMasks 0 (locks 7)) m five) ≡ 8) × (refusal (rulesOf planar (setMasks 0 (locks 7)) m′ five) ≡ 0)
 one-alone = comes .1
 
-pub room : Room planar m five × Room planar m′ five
+pub room : Room plane m five × Room plane m′ five
 unfolding jointCount rowCapacity rowsBefore rowCount jointIds rowMasksAt enabledAt masksAt hasAxis rowIds
 room = (lit≤ tt, lit≤ tt)
 
@@ -79,7 +79,7 @@ unnamed : (j : ℕ) (id : WritebackId) → Names planarCalls (recorded planarCal
 unfolding AtSome recorded
 unnamed j id h = absurd (⊎-elim (λ n. ⊎-elim (λ k. false≢true (k .0 .0)) (λ k. false≢true (k .0 .0)) n) (λ e. e) h)
 
-agrees : Agree planar set (Names planarCalls (recorded planarCalls turns s s′) s s′) m m′
+agrees : Agree plane set (Names planarCalls (recorded planarCalls turns s s′) s s′) m m′
 agrees = record {
   params = agree .params;
   closed = agree .closed;

@@ -22,7 +22,7 @@ use Rattle.model.specs.Layout.{wordsWidth, masksPlace}
 use Rattle.model.specs.Records.{word}
 use Rattle.model.specs.Store.{putMasks, jointAt, centerAt, masksAt, enabledAt, body1At, body2At}
 use Rattle.model.specs.Refusals.{allAxes, masksFit, newMasksFit, finiteJoint, centerFits}
-use Rattle.model.specs.Planar.{planar}
+use Rattle.model.specs.Planar.{plane, planar}
 use Rattle.model.proofs.Tests.{by-cases}
 
 -- a word that is no mask
@@ -210,7 +210,7 @@ named-masks named a b ms ms′ e s = record {
 }
 
 pub named-put : {named : WritebackId → Type 0} (w w′ : List ℕ) (n n′ : List Float) (j : ℕ) (ms : Masks) → j * wordsWidth + wordsWidth ≤ length w → j * wordsWidth + wordsWidth ≤ length w′
-    → SameJoint planar named w n w′ n′ j → SameJoint planar named (putMasks w j ms) n (putMasks w′ j ms) n′ j
+    → SameJoint plane named w n w′ n′ j → SameJoint plane named (putMasks w j ms) n (putMasks w′ j ms) n′ j
 named-put {named} w w′ n n′ j ms room room′ s =
     let r : SameNamed named (jointAt (putMasks w j ms) n j) (jointAt (putMasks w′ j ms) n′ j) =
     rw (joint-put w n j ms, joint-put w′ n′ j ms) (named-masks named (jointAt w n j) (jointAt w′ n′ j) _ _ (masks-put w j ms room ∙ sym (masks-put w′ j ms room′)) s) in

@@ -19,7 +19,7 @@ use Rattle.multibody.specs.Model.{Model}
 use Rattle.multibody.specs.Counts.{jointCount, rowsBefore, totalRows}
 use Rattle.multibody.specs.Calls.{Call, Outcome, eachJoint, rounds, buildOne, sweepOne, sweepRound, removeBiasOne, grantedOf, run}
 use Rattle.multibody.specs.Calls.Call.{load, place, build, warmStart, sweep, removeBias, writeBack, readRows, readVelocity, setMasks, further}
-use Rattle.model.specs.Planar.{planar}
+use Rattle.model.specs.Planar.{plane, planar}
 use Rattle.model.proofs.JointRowsLaws.{length-builtRows}
 use Rattle.model.proofs.CountLaws.{rowsBefore-mono}
 use Rattle.multibody.proofs.Keeps.{run-cases}
@@ -40,17 +40,17 @@ module _ (t : ℕ) where
   unfolding putRow
   row-past s k r h = puts-past (rowNumbers r) s (k * rowWidth) 0 (t * rowWidth) (omega arith)
 
-  rows-past : (rs : List JointConstraint) (s : List Float) (k : ℕ) → k + length rs ≤ t → Past t s (putRows planar s k rs)
+  rows-past : (rs : List JointConstraint) (s : List Float) (k : ℕ) → k + length rs ≤ t → Past t s (putRows plane s k rs)
   unfolding putRows
   rows-past [] s k h = refl
   rows-past (r ∷ rs) s k h = rows-past rs (putRow s k r) (k + 1) (omega arith) ∙ row-past s k r (omega arith)
 
-  swept-past : (n k b1 b2 : ℕ) (st : State) → k + n ≤ t → Past t (st .rows) (sweepJoint planar k n b1 b2 st .rows)
+  swept-past : (n k b1 b2 : ℕ) (st : State) → k + n ≤ t → Past t (st .rows) (sweepJoint plane k n b1 b2 st .rows)
   unfolding sweepJoint sweepRow
   swept-past zero k b1 b2 st h = refl
-  swept-past (suc n) k b1 b2 st h = swept-past n (k + 1) b1 b2 (sweepRow planar k b1 b2 st) (omega arith) ∙ row-past (st .rows) k _ (omega arith)
+  swept-past (suc n) k b1 b2 st h = swept-past n (k + 1) b1 b2 (sweepRow plane k b1 b2 st) (omega arith) ∙ row-past (st .rows) k _ (omega arith)
 
-  bias-past : (n k : ℕ) (s : List Float) → k + n ≤ t → Past t s (removeBiasJoint planar k n s)
+  bias-past : (n k : ℕ) (s : List Float) → k + n ≤ t → Past t s (removeBiasJoint plane k n s)
   unfolding removeBiasJoint
   bias-past zero k s h = refl
   bias-past (suc n) k s h = bias-past n (k + 1) (putRow s k _) (omega arith) ∙ row-past s k _ (omega arith)
@@ -72,45 +72,45 @@ module _ (t : ℕ) where
 
 module _ (m : Model) (rows : List Float) where
   abbrev total : ℕ
-  total = totalRows planar (m .words) (m .numbers)
+  total = totalRows plane (m .words) (m .numbers)
 
   -- joint j's rows end before row t
-  ends : (j : ℕ) → j < jointCount planar (m .words) (m .numbers) → rowsBefore planar (m .words) j + rowCount planar (m .words) j ≤ total
-  ends j h = rowsBefore-mono (m .words) j (jointCount planar (m .words) (m .numbers)) h
+  ends : (j : ℕ) → j < jointCount plane (m .words) (m .numbers) → rowsBefore plane (m .words) j + rowCount plane (m .words) j ≤ total
+  ends j h = rowsBefore-mono (m .words) j (jointCount plane (m .words) (m .numbers)) h
 
-  build-past : (warm : Warmstart) (substep j : ℕ) (s : List Float) → j < jointCount planar (m .words) (m .numbers) → Past total s (buildOne planar m warm substep j s)
+  build-past : (warm : Warmstart) (substep j : ℕ) (s : List Float) → j < jointCount plane (m .words) (m .numbers) → Past total s (buildOne plane m warm substep j s)
   unfolding buildOne buildJoint
   build-past warm substep j s h =
-      let last = impulsesAt planar s (rowsBefore planar (m .words) j) (rowCount planar (m .words) j) in
+      let last = impulsesAt plane s (rowsBefore plane (m .words) j) (rowCount plane (m .words) j) in
       let prevs = filled 6 (bits 0) last in
-      rows-past total (builtRows planar (m .params) (m .bodies) (m .words) (m .numbers) j warm substep prevs) s (rowsBefore planar (m .words) j)
+      rows-past total (builtRows plane (m .params) (m .bodies) (m .words) (m .numbers) j warm substep prevs) s (rowsBefore plane (m .words) j)
       (rw (length-builtRows (m .params) substep warm (m .bodies) (m .words) (m .numbers) j prevs (length-filled (bits 0) 6 last)) (ends j h))
 
-  sweep-past : (j : ℕ) (st : State) → j < jointCount planar (m .words) (m .numbers) → Past total (st .rows) (sweepOne planar (m .words) j st .rows)
+  sweep-past : (j : ℕ) (st : State) → j < jointCount plane (m .words) (m .numbers) → Past total (st .rows) (sweepOne plane (m .words) j st .rows)
   unfolding sweepOne
-  sweep-past j st h = swept-past total (rowCount planar (m .words) j) (rowsBefore planar (m .words) j) (body1At (m .words) j) (body2At (m .words) j) st (ends j h)
+  sweep-past j st h = swept-past total (rowCount plane (m .words) j) (rowsBefore plane (m .words) j) (body1At (m .words) j) (body2At (m .words) j) st (ends j h)
 
-  bias-one-past : (j : ℕ) (s : List Float) → j < jointCount planar (m .words) (m .numbers) → Past total s (removeBiasOne planar (m .words) j s)
+  bias-one-past : (j : ℕ) (s : List Float) → j < jointCount plane (m .words) (m .numbers) → Past total s (removeBiasOne plane (m .words) j s)
   unfolding removeBiasOne
-  bias-one-past j s h = bias-past total (rowCount planar (m .words) j) (rowsBefore planar (m .words) j) s (ends j h)
+  bias-one-past j s h = bias-past total (rowCount plane (m .words) j) (rowsBefore plane (m .words) j) s (ends j h)
 
   granted-past : (c : Call planar) → Past total rows (grantedOf planar c m rows .rows)
   unfolding grantedOf sweepRound
   granted-past load = refl
   granted-past (place i pose) = refl
   granted-past (build warm substep) =
-      each-past total (λ s. s) (buildOne planar m warm substep) (jointCount planar (m .words) (m .numbers)) 0 rows (λ j s h. build-past warm substep j s (omega arith))
+      each-past total (λ s. s) (buildOne plane m warm substep) (jointCount plane (m .words) (m .numbers)) 0 rows (λ j s h. build-past warm substep j s (omega arith))
   granted-past warmStart = refl
   granted-past (sweep n) =
-      rounds-past total (λ (st : State). st .rows) (sweepRound planar (m .words) (jointCount planar (m .words) (m .numbers))) n (state rows (m .bodies))
-      (λ st. each-past total (λ (st : State). st .rows) (sweepOne planar (m .words)) (jointCount planar (m .words) (m .numbers)) 0 st (λ j st h. sweep-past j st (omega arith)))
+      rounds-past total (λ (st : State). st .rows) (sweepRound plane (m .words) (jointCount plane (m .words) (m .numbers))) n (state rows (m .bodies))
+      (λ st. each-past total (λ (st : State). st .rows) (sweepOne plane (m .words)) (jointCount plane (m .words) (m .numbers)) 0 st (λ j st h. sweep-past j st (omega arith)))
   granted-past removeBias =
-      each-past total (λ s. s) (removeBiasOne planar (m .words)) (jointCount planar (m .words) (m .numbers)) 0 rows (λ j s h. bias-one-past j s (omega arith))
+      each-past total (λ s. s) (removeBiasOne plane (m .words)) (jointCount plane (m .words) (m .numbers)) 0 rows (λ j s h. bias-one-past j s (omega arith))
   granted-past writeBack = refl
   granted-past (readRows j) = refl
   granted-past (readVelocity i) = refl
   granted-past (setMasks j ms) = refl
   granted-past (further bytes) = refl
 
-  pub past-total : (c : Call planar) → drop (totalRows planar (m .words) (m .numbers) * rowWidth) (run planar c m rows .rows) ≡ drop (totalRows planar (m .words) (m .numbers) * rowWidth) rows
-  past-total c = run-cases planar-laws c m rows (λ (o : Outcome planar). Past total rows (o .rows)) (λ _. granted-past c) refl
+  pub past-total : (c : Call planar) → drop (totalRows plane (m .words) (m .numbers) * rowWidth) (run planar c m rows .rows) ≡ drop (totalRows plane (m .words) (m .numbers) * rowWidth) rows
+  past-total c = run-cases planar-laws c m rows (λ (o : Outcome plane). Past total rows (o .rows)) (λ _. granted-past c) refl

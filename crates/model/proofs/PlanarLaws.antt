@@ -28,7 +28,6 @@ use Rattle.multibody.specs.Rules.{refusal, rule, all}
 use Rattle.multibody.specs.Model.{Model, world}
 use Rattle.multibody.specs.Counts as Any
 use Rattle.multibody.specs.Refusals.{readsRows}
-use Rattle.multibody.specs.Calls.{addedRules, addedNumbers}
 use Rattle.multibody.specs.Studies.{TwoStudies}
 use Rattle.multibody.proofs.RuleLaws.{Numbered, all-cong}
 use Rattle.multibody.proofs.Laws.{SameJoint, Given, BodyRoom, JointRoom, Laws}
@@ -38,7 +37,7 @@ use Rattle.model.specs.Layout.{numbersWidth}
 use Rattle.model.specs.Store.{jointAt, masksAt, enabledAt, putSeed, solverPoseAt, putPose}
 use Rattle.model.specs.Refusals.{finiteJoint, centerFits}
 use Rattle.model.specs.MotorTargets.{setRecords, setTable}
-use Rattle.model.specs.Planar.{tableRules, planar}
+use Rattle.model.specs.Planar.{tableRules, plane, planar}
 use Rattle.model.specs.Studies.{planarCalls}
 use Rattle.model.proofs.StoreLaws.{withPose, length-putRow, rowAt-putRow, rowAt-putRow-other, velAt-world, solverPoseAt-world, length-putVel, velAt-putVel, velAt-putVel-other, solverPoseAt-putVel, length-putPose, solverPoseAt-putPose, solverPoseAt-putPose-other, velAt-putPose, length-putSeed, jointAt-putSeed-other}
 use Rattle.model.proofs.CallLaws.{table-refusal}
@@ -54,19 +53,19 @@ jointAt-axes : (words : List ℕ) (n : List Float) (j : ℕ) → Axes (jointAt w
 unfolding jointAt
 jointAt-axes words n j = record { limits = refl; motors = refl; impulses = refl }
 
-seed-named : {named : WritebackId → Type 0} (words words′ : List ℕ) (n n′ : List Float) (j : ℕ) (id : WritebackId) (p : Float) → JointRoom planar n j → JointRoom planar n′ j
-    → SameJoint planar named words n words′ n′ j → SameJoint planar named words (putSeed n j id p) words′ (putSeed n′ j id p) j
+seed-named : {named : WritebackId → Type 0} (words words′ : List ℕ) (n n′ : List Float) (j : ℕ) (id : WritebackId) (p : Float) → JointRoom plane n j → JointRoom plane n′ j
+    → SameJoint plane named words n words′ n′ j → SameJoint plane named words (putSeed n j id p) words′ (putSeed n′ j id p) j
 seed-named {named} words words′ n n′ j id p room room′ s =
     let t = named-written (jointAt words n j) (jointAt words′ n′ j) id p (jointAt-axes words n j) (jointAt-axes words′ n′ j) s in
     let r : Rattle.rows.specs.Named.SameNamed named (jointAt words (putSeed n j id p) j) (jointAt words′ (putSeed n′ j id p) j) =
     rw (jointAt-putSeed-writeback words n j id p room, jointAt-putSeed-writeback words′ n′ j id p room′) t in
     r
 
-masks-same : {named : WritebackId → Type 0} (words words′ : List ℕ) (n n′ : List Float) (j : ℕ) → SameJoint planar named words n words′ n′ j → masksAt words j ≡ masksAt words′ j
+masks-same : {named : WritebackId → Type 0} (words words′ : List ℕ) (n n′ : List Float) (j : ℕ) → SameJoint plane named words n words′ n′ j → masksAt words j ≡ masksAt words′ j
 unfolding jointAt masksAt
 masks-same words words′ n n′ j s = s .masks
 
-enabled-same : {named : WritebackId → Type 0} (words words′ : List ℕ) (n n′ : List Float) (j : ℕ) → SameJoint planar named words n words′ n′ j → enabledAt words j ≡ enabledAt words′ j
+enabled-same : {named : WritebackId → Type 0} (words words′ : List ℕ) (n n′ : List Float) (j : ℕ) → SameJoint plane named words n words′ n′ j → enabledAt words j ≡ enabledAt words′ j
 unfolding jointAt enabledAt
 enabled-same words words′ n n′ j s = s .enabled
 
@@ -98,14 +97,14 @@ no-row-read params zero (Warm c) b1 b2 a last last′ e = first-reads-no-row par
 no-row-read params (suc substep) (Warm c) b1 b2 a last last′ e = absurd (mathlib.Core.Bool.true≢false (sym (lt-ltb 0 (suc substep) (omega arith)) ∙ e))
 
 named-rows : (params : IntegrationParameters) (substep : ℕ) (warm : Warmstart) (b1 b2 : SolverPose) (words words′ : List ℕ) (n n′ : List Float) (j : ℕ) (last : List Float)
-    → SameJoint planar (Given planar words j) words n words′ n′ j
+    → SameJoint plane (Given plane words j) words n words′ n′ j
     → builderUpdateOf params substep warm b1 b2 (jointAt words n j) last ≡ builderUpdateOf params substep warm b1 b2 (jointAt words′ n′ j) last
 unfolding jointAt masksAt
 named-rows params substep warm b1 b2 words words′ n n′ j last s = Rows.same-named params b1 b2 (jointAt words n j) (jointAt words′ n′ j) s substep warm last
 
 -- ---- bodies
 
-pose-placed : (b b′ : List Float) (i : ℕ) (p : Pose) → (i ≡ world → ⊥) → BodyRoom planar b i → BodyRoom planar b′ i → solverPoseAt b i ≡ solverPoseAt b′ i
+pose-placed : (b b′ : List Float) (i : ℕ) (p : Pose) → (i ≡ world → ⊥) → BodyRoom plane b i → BodyRoom plane b′ i → solverPoseAt b i ≡ solverPoseAt b′ i
     → solverPoseAt (putPose b i p) i ≡ solverPoseAt (putPose b′ i p) i
 pose-placed b b′ i p ne room room′ e =
     solverPoseAt-putPose b i p ne room ∙ ap (λ (q : SolverPose). withPose q p) e ∙ sym (solverPoseAt-putPose b′ i p ne room′)
@@ -114,45 +113,45 @@ pose-placed b b′ i p ne room room′ e =
 
 module _ (bytes : List ℕ) (m : Model) where
   abbrev joints : ℕ
-  joints = Any.jointCount planar (m .words) (m .numbers)
+  joints = Any.jointCount plane (m .words) (m .numbers)
 
-  module _ (e : refusal (addedRules planar bytes m) ≡ 0) where
+  module _ (e : refusal (planar .furtherRules bytes m) ≡ 0) where
     table : Granted joints (readTable joints bytes)
     table = granted-fit joints mostRecords bytes (sym (table-refusal joints bytes) ∙ e)
 
-    table-set : addedNumbers planar bytes m ≡ setRecords (m .numbers) (table .records)
+    table-set : planar .furtherNumbers bytes m ≡ setRecords (m .numbers) (table .records)
     unfolding setTable
     table-set = ap (setTable (m .numbers)) (table .holds)
 
-    finite-set : (j : ℕ) → finiteJoint (m .words) (m .numbers) j ≡ true → finiteJoint (m .words) (addedNumbers planar bytes m) j ≡ true
+    finite-set : (j : ℕ) → finiteJoint (m .words) (m .numbers) j ≡ true → finiteJoint (m .words) (planar .furtherNumbers bytes m) j ≡ true
     finite-set j f =
         rw table-set
         (finiteJoint-steady (m .numbers) (setRecords (m .numbers) (table .records))
-        (records-steady joints (table .records) (m .numbers) (table .fit) (AnyCounts.joints-numbers planar (m .words) (m .numbers))) j (m .words) f)
+        (records-steady joints (table .records) (m .numbers) (table .fit) (AnyCounts.joints-numbers plane (m .words) (m .numbers))) j (m .words) f)
 
-    contents-set : (k : ℕ) → planar .contentRules (m .words) (addedNumbers planar bytes m) k ≡ planar .contentRules (m .words) (m .numbers) k
+    contents-set : (k : ℕ) → planar .contentRules (m .words) (planar .furtherNumbers bytes m) k ≡ planar .contentRules (m .words) (m .numbers) k
     contents-set k =
         rw table-set
         (ap (λ t. rule 12 t ∷ [])
         (all-cong (centerFits (m .words) (setRecords (m .numbers) (table .records))) (centerFits (m .words) (m .numbers)) 0 k
         (λ j _ _. centerFits-steady (m .numbers) (setRecords (m .numbers) (table .records))
-        (records-steady joints (table .records) (m .numbers) (table .fit) (AnyCounts.joints-numbers planar (m .words) (m .numbers))) j (m .words))))
+        (records-steady joints (table .records) (m .numbers) (table .fit) (AnyCounts.joints-numbers plane (m .words) (m .numbers))) j (m .words))))
 
-named-set : {named : WritebackId → Type 0} (bytes : List ℕ) (m m′ : Model) → refusal (addedRules planar bytes m) ≡ 0 → refusal (addedRules planar bytes m′) ≡ 0
-    → (j : ℕ) → j < Any.jointCount planar (m .words) (m .numbers) → j < Any.jointCount planar (m′ .words) (m′ .numbers)
-    → SameJoint planar named (m .words) (m .numbers) (m′ .words) (m′ .numbers) j → SameJoint planar named (m .words) (addedNumbers planar bytes m) (m′ .words) (addedNumbers planar bytes m′) j
+named-set : {named : WritebackId → Type 0} (bytes : List ℕ) (m m′ : Model) → refusal (planar .furtherRules bytes m) ≡ 0 → refusal (planar .furtherRules bytes m′) ≡ 0
+    → (j : ℕ) → j < Any.jointCount plane (m .words) (m .numbers) → j < Any.jointCount plane (m′ .words) (m′ .numbers)
+    → SameJoint plane named (m .words) (m .numbers) (m′ .words) (m′ .numbers) j → SameJoint plane named (m .words) (planar .furtherNumbers bytes m) (m′ .words) (planar .furtherNumbers bytes m′) j
 named-set {named} bytes m m′ z z′ j l l′ s =
     let g = table bytes m z in
     let g′ = table bytes m′ z′ in
     let same = same-records _ _ mostRecords bytes (g .records) (g′ .records) (g .holds) (g′ .holds) in
     let r : Rattle.rows.specs.Named.SameNamed named (jointAt (m .words) (setRecords (m .numbers) (g .records)) j) (jointAt (m′ .words) (setRecords (m′ .numbers) (g .records)) j) =
-    records-named named (m .words) (m′ .words) j _ (g .records) (g .fit) (m .numbers) (m′ .numbers) (AnyCounts.joint-numbers planar (m .words) (m .numbers) j l)
-    (AnyCounts.joint-numbers planar (m′ .words) (m′ .numbers) j l′) s in
-    let q : Rattle.rows.specs.Named.SameNamed named (jointAt (m .words) (addedNumbers planar bytes m) j) (jointAt (m′ .words) (addedNumbers planar bytes m′) j) =
+    records-named named (m .words) (m′ .words) j _ (g .records) (g .fit) (m .numbers) (m′ .numbers) (AnyCounts.joint-numbers plane (m .words) (m .numbers) j l)
+    (AnyCounts.joint-numbers plane (m′ .words) (m′ .numbers) j l′) s in
+    let q : Rattle.rows.specs.Named.SameNamed named (jointAt (m .words) (planar .furtherNumbers bytes m) j) (jointAt (m′ .words) (planar .furtherNumbers bytes m′) j) =
     rw (table-set bytes m z, table-set bytes m′ z′, ← same) r in
     q
 
-table-numbered : (bytes : List ℕ) (m : Model) → Numbered (addedRules planar bytes m)
+table-numbered : (bytes : List ℕ) (m : Model) → Numbered (planar .furtherRules bytes m)
 unfolding tableRules
 table-numbered bytes m = (omega arith, (omega arith, (omega arith, tt)))
 
@@ -205,7 +204,7 @@ planar-laws = record {
       ap (λ t. rule 12 t ∷ []) (all-cong (centerFits words (putSeed n j id p)) (centerFits words n) 0 joints (λ j′ _ _. centerFits-kept n (putSeed n j id p) (putSeed-seeds n j id p) j′ words));
   further-numbered = table-numbered;
   further-size = λ bytes m. table-size (m .numbers) _;
-  further-equal = λ bytes m m′ joints. refl;
+  further-equal = λ bytes m m′ e. ap (λ joints. refusal (tableRules joints bytes)) e;
   further-finite = finite-set;
   further-contents = contents-set;
   further-named = named-set;

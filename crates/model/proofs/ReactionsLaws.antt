@@ -9,10 +9,10 @@ use lib.Ieee.{Float}
 use Rattle.multibody.specs.Counts.{bodyCount}
 use Rattle.model.specs.Layout.{bodyWidth, wordsWidth}
 use Rattle.model.specs.Store.{world, worldPose, rest, solverPoseAt, velAt, body1At, body2At}
-use Rattle.model.specs.Planar.{planar}
+use Rattle.model.specs.Planar.{plane}
 use Rattle.model.specs.Reactions.{poseIfThere, velIfThere, body1IfThere, body2IfThere}
 
-module _ (bodies : List Float) (i : ℕ) {n : ℕ} (e : n ≡ bodyCount planar bodies) where
+module _ (bodies : List Float) (i : ℕ) {n : ℕ} (e : n ≡ bodyCount plane bodies) where
   pub body-fits : i < n → i * bodyWidth + bodyWidth ≤ length bodies
   unfolding bodyCount
   body-fits h = omega (arith, e, h)

@@ -20,7 +20,7 @@ use Rattle.multibody.specs.Refusals.{presentOrWorld, bodiesPresent, bodiesApart
 use Rattle.multibody.specs.Calls.{Call, Asked, Own, Change, fitChange, changed, ownRule, callTable, handedRules, askedRules, firstRules, ownRules, rulesOf}
 use Rattle.multibody.specs.Calls.Own.{fewRounds, afterBuild, rowsToRead}
 use Rattle.multibody.specs.Calls.Asked.{nothing, body, joint, named as records}
-use Rattle.model.specs.Planar.{tableRules, planar}
+use Rattle.model.specs.Planar.{tableRules, plane, planar}
 use Rattle.model.specs.Refusals.{masksFit, finiteBody, finiteJoint, centerFits}
 use Rattle.model.proofs.Tests.{by-cases}
 use Rattle.model.proofs.CountLaws.{body-there}
@@ -237,9 +237,9 @@ with-numbered : (m : Model) (fit arguments : Bool) → Numbered (modelRulesWith 
 unfolding modelRulesWith
 with-numbered m fit arguments = omega arith
 
-pub storage-numbered : (m n : Model) (fit arguments : Bool) (rows : List Float) → Numbered (modelRulesWith planar m fit arguments ++ (storageRule planar n rows ∷ []))
+pub storage-numbered : (m n : Model) (fit arguments : Bool) (rows : List Float) → Numbered (modelRulesWith planar m fit arguments ++ (storageRule plane n rows ∷ []))
 unfolding storageRule
-storage-numbered m n fit arguments rows = numbered-append (modelRulesWith planar m fit arguments) (storageRule planar n rows ∷ []) (with-numbered m fit arguments) (omega arith)
+storage-numbered m n fit arguments rows = numbered-append (modelRulesWith planar m fit arguments) (storageRule plane n rows ∷ []) (with-numbered m fit arguments) (omega arith)
 
 module _ (m : Model) where
   handed-numbered : (stored finite : Bool) (change : Change planar) (rows : List Float) → Numbered (handedRules planar stored m change finite rows)
@@ -277,15 +277,15 @@ module _ (m : Model) where
 
 -- what they ask of the model; beside it rule 6 asks that the call's own numbers are finite
 pub record RulesHold (m : Model) : Type 0 where
-  pub bodies : atMost mostBodies (bodyCount planar (m .bodies)) ≡ true
-  pub joints : atMost mostJoints (jointCount planar (m .words) (m .numbers)) ≡ true
-  pub masks : all 0 (jointCount planar (m .words) (m .numbers)) (masksFit (m .words)) ≡ true
-  pub present : all 0 (jointCount planar (m .words) (m .numbers)) (bodiesPresent planar (m .bodies) (m .words)) ≡ true
-  pub apart : all 0 (jointCount planar (m .words) (m .numbers)) (bodiesApart planar (m .words)) ≡ true
+  pub bodies : atMost mostBodies (bodyCount plane (m .bodies)) ≡ true
+  pub joints : atMost mostJoints (jointCount plane (m .words) (m .numbers)) ≡ true
+  pub masks : all 0 (jointCount plane (m .words) (m .numbers)) (masksFit (m .words)) ≡ true
+  pub present : all 0 (jointCount plane (m .words) (m .numbers)) (bodiesPresent plane (m .bodies) (m .words)) ≡ true
+  pub apart : all 0 (jointCount plane (m .words) (m .numbers)) (bodiesApart plane (m .words)) ≡ true
   pub finite-params : finiteParams (m .params) ≡ true
-  pub finite-bodies : all 0 (bodyCount planar (m .bodies)) (finiteBody (m .bodies)) ≡ true
-  pub finite-joints : all 0 (jointCount planar (m .words) (m .numbers)) (finiteJoint (m .words) (m .numbers)) ≡ true
-  pub angles : all 0 (jointCount planar (m .words) (m .numbers)) (centerFits (m .words) (m .numbers)) ≡ true
+  pub finite-bodies : all 0 (bodyCount plane (m .bodies)) (finiteBody (m .bodies)) ≡ true
+  pub finite-joints : all 0 (jointCount plane (m .words) (m .numbers)) (finiteJoint (m .words) (m .numbers)) ≡ true
+  pub angles : all 0 (jointCount plane (m .words) (m .numbers)) (centerFits (m .words) (m .numbers)) ≡ true
   pub dt : not (lt (m .params .dt) (bits 0)) ≡ true
 
 module _ (m : Model) (arguments : Bool) where
@@ -295,13 +295,13 @@ module _ (m : Model) (arguments : Bool) where
     held k = hold-number k (modelRules planar m arguments) (all-hold (modelRules planar m arguments) (model-numbered m arguments) e)
 
     -- rule 6, taken apart
-    finite : (finiteParams (m .params) ≡ true) × (all 0 (bodyCount planar (m .bodies)) (finiteBody (m .bodies)) ≡ true)
-        × (all 0 (jointCount planar (m .words) (m .numbers)) (finiteJoint (m .words) (m .numbers)) ≡ true) × (arguments ≡ true)
+    finite : (finiteParams (m .params) ≡ true) × (all 0 (bodyCount plane (m .bodies)) (finiteBody (m .bodies)) ≡ true)
+        × (all 0 (jointCount plane (m .words) (m .numbers)) (finiteJoint (m .words) (m .numbers)) ≡ true) × (arguments ≡ true)
     unfolding modelRulesWith
     finite =
         let s = both (finiteParams (m .params)) _ (held 6) in
-        let b = both (all 0 (bodyCount planar (m .bodies)) (finiteBody (m .bodies))) _ (s .1) in
-        let j = both (all 0 (jointCount planar (m .words) (m .numbers)) (finiteJoint (m .words) (m .numbers))) arguments (b .1) in
+        let b = both (all 0 (bodyCount plane (m .bodies)) (finiteBody (m .bodies))) _ (s .1) in
+        let j = both (all 0 (jointCount plane (m .words) (m .numbers)) (finiteJoint (m .words) (m .numbers))) arguments (b .1) in
         (s .0, b .0, j .0, j .1)
 
     pub rules-hold : RulesHold m
@@ -338,37 +338,37 @@ module _ (m : Model) (arguments : Bool) where
 -- ---- what the rules see to
 
 -- a body that is present or the world has its record in the storage, if it is not the world
-pub present-of : (b : List Float) (i : ℕ) → presentOrWorld planar b i ≡ true → Present b i
+pub present-of : (b : List Float) (i : ℕ) → presentOrWorld plane b i ≡ true → Present b i
 unfolding presentOrWorld
-present-of b i e other = body-there b i (ltb-true i (bodyCount planar b) (rw (ne-eqb i world other) at e))
+present-of b i e other = body-there b i (ltb-true i (bodyCount plane b) (rw (ne-eqb i world other) at e))
 
 pub at-most : (most n : ℕ) → atMost most n ≡ true → n ≤ most
 at-most most n e = ltb-false most n (not-true (ltb most n) e)
 
 -- rules 1, 4 and 5
 module _ (m : Model) (h : RulesHold m) where
-  here : (j : ℕ) → j < jointCount planar (m .words) (m .numbers)
-      → (presentOrWorld planar (m .bodies) (body1At (m .words) j) ≡ true) × (presentOrWorld planar (m .bodies) (body2At (m .words) j) ≡ true)
+  here : (j : ℕ) → j < jointCount plane (m .words) (m .numbers)
+      → (presentOrWorld plane (m .bodies) (body1At (m .words) j) ≡ true) × (presentOrWorld plane (m .bodies) (body2At (m .words) j) ≡ true)
   unfolding bodiesPresent
-  here j l = both _ _ (all-below (bodiesPresent planar (m .bodies) (m .words)) _ (h .present) j l)
+  here j l = both _ _ (all-below (bodiesPresent plane (m .bodies) (m .words)) _ (h .present) j l)
 
-  differ : (j : ℕ) → j < jointCount planar (m .words) (m .numbers) → eqb (body1At (m .words) j) (body2At (m .words) j) ≡ false
+  differ : (j : ℕ) → j < jointCount plane (m .words) (m .numbers) → eqb (body1At (m .words) j) (body2At (m .words) j) ≡ false
   unfolding bodiesApart
-  differ j l = not-true _ (all-below (bodiesApart planar (m .words)) _ (h .apart) j l)
+  differ j l = not-true _ (all-below (bodiesApart plane (m .words)) _ (h .apart) j l)
 
-  pub sound-held : Sound planar m
+  pub sound-held : Sound plane m
   sound-held = record {
-    few = at-most mostBodies (bodyCount planar (m .bodies)) (h .bodies);
+    few = at-most mostBodies (bodyCount plane (m .bodies)) (h .bodies);
     present1 = λ j l. present-of (m .bodies) (body1At (m .words) j) (here j l .0);
     present2 = λ j l. present-of (m .bodies) (body2At (m .words) j) (here j l .1);
     apart = λ j l. eqb-false (body1At (m .words) j) (body2At (m .words) j) (differ j l);
   }
 
-pub sound-of : (m : Model) (arguments : Bool) → refusal (modelRules planar m arguments) ≡ 0 → Sound planar m
+pub sound-of : (m : Model) (arguments : Bool) → refusal (modelRules planar m arguments) ≡ 0 → Sound plane m
 sound-of m arguments e = sound-held m (rules-hold m arguments e)
 
 -- rule 8
-pub room-of : (m : Model) (rows : List Float) → refusal (storageRule planar m rows ∷ []) ≡ 0 → Room planar m rows
+pub room-of : (m : Model) (rows : List Float) → refusal (storageRule plane m rows ∷ []) ≡ 0 → Room plane m rows
 unfolding storageRule
 room-of m rows e =
-    at-most (rowCapacity planar rows) (totalRows planar (m .words) (m .numbers)) (all-hold (storageRule planar m rows ∷ []) (omega arith) e .0)
+    at-most (rowCapacity plane rows) (totalRows plane (m .words) (m .numbers)) (all-hold (storageRule plane m rows ∷ []) (omega arith) e .0)

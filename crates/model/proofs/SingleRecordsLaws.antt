@@ -12,14 +12,14 @@ use Rattle.rows.specs.declared.joint_velocity_constraint.WritebackId.{Writeback
 use Rattle.model.specs.Layout.{rowWidth, wordsWidth, numbersWidth}
 use Rattle.model.specs.Store.{rowAt, putRow, jointAt, putSeed}
 use Rattle.multibody.specs.Counts.{jointCount, rowCapacity}
-use Rattle.model.specs.Planar.{planar}
+use Rattle.model.specs.Planar.{plane}
 use Rattle.model.specs.SingleRecords.{rowIfThere, putRowIfThere, blankJoint, jointIfThere, putSeedIfThere}
 use Rattle.model.proofs.CountLaws.{joint-there}
 
 -- ---- rows
 
 module _ (rows : List Float) (k : ℕ) where
-  pub row-fits : {n : ℕ} → n ≡ rowCapacity planar rows → k < n → k * rowWidth + rowWidth ≤ length rows
+  pub row-fits : {n : ℕ} → n ≡ rowCapacity plane rows → k < n → k * rowWidth + rowWidth ≤ length rows
   unfolding rowCapacity
   row-fits e h = omega (arith, e)
 
@@ -27,7 +27,7 @@ module _ (rows : List Float) (k : ℕ) where
   unfolding rowIfThere rowCapacity
   row-there h = rw (lt-ltb k (length rows / rowWidth) (omega arith))
 
-  pub row-absent : {n : ℕ} → n ≡ rowCapacity planar rows → n ≤ k → rowIfThere rows k ≡ blankRow
+  pub row-absent : {n : ℕ} → n ≡ rowCapacity plane rows → n ≤ k → rowIfThere rows k ≡ blankRow
   unfolding rowIfThere
   row-absent {n} e h = rw (← e, le-ltb k n h)
 
@@ -35,7 +35,7 @@ module _ (rows : List Float) (k : ℕ) where
   unfolding putRowIfThere rowCapacity
   put-row-there r h = rw (lt-ltb k (length rows / rowWidth) (omega arith))
 
-  pub put-row-absent : (r : JointConstraint) {n : ℕ} → n ≡ rowCapacity planar rows → n ≤ k → putRowIfThere rows k r ≡ rows
+  pub put-row-absent : (r : JointConstraint) {n : ℕ} → n ≡ rowCapacity plane rows → n ≤ k → putRowIfThere rows k r ≡ rows
   unfolding putRowIfThere
   put-row-absent r {n} e h = rw (← e, le-ltb k n h)
 
@@ -44,9 +44,9 @@ module _ (rows : List Float) (k : ℕ) where
 module _ (words : List ℕ) (numbers : List Float) (j : ℕ) where
   pub joint-read : j * wordsWidth + wordsWidth ≤ length words → j * numbersWidth + numbersWidth ≤ length numbers → jointIfThere words numbers j ≡ jointAt words numbers j
   unfolding jointIfThere
-  joint-read h g = rw (lt-ltb j (jointCount planar words numbers) (joint-there words numbers j h g))
+  joint-read h g = rw (lt-ltb j (jointCount plane words numbers) (joint-there words numbers j h g))
 
-  pub joint-absent : {n : ℕ} → n ≡ jointCount planar words numbers → n ≤ j → jointIfThere words numbers j ≡ blankJoint
+  pub joint-absent : {n : ℕ} → n ≡ jointCount plane words numbers → n ≤ j → jointIfThere words numbers j ≡ blankJoint
   unfolding jointIfThere
   joint-absent {n} e h = rw (← e, le-ltb j n h)
 

@@ -18,7 +18,7 @@ use Rattle.multibody.specs.Calls.Call.{load, setMasks}
 use Rattle.multibody.proofs.Rewording.{same-count, first-rows-kept, firsts-same, rows-kept}
 use Rattle.model.specs.Layout.{wordsWidth, firstRowPlace}
 use Rattle.model.specs.Store.{firstAt, putFirst, putMasks}
-use Rattle.model.specs.Planar.{planar}
+use Rattle.model.specs.Planar.{plane, planar}
 use Rattle.model.proofs.Tests.{by-cases}
 use Rattle.model.proofs.CountLaws.{rowsBefore-next, rowsBefore-le, joints-words}
 use Rattle.model.proofs.FirstRows.{first-reworded}
@@ -26,43 +26,43 @@ use Rattle.model.proofs.NewMasks.{put-reworded}
 use Rattle.model.proofs.PlanarLaws.{planar-laws}
 
 -- what a store leaves of another joint's first row, and of its own
-first-apart : (n j : ℕ) (w : List ℕ) (i : ℕ) → i < j → firstAt (storeFirsts planar j n w) i ≡ firstAt w i
+first-apart : (n j : ℕ) (w : List ℕ) (i : ℕ) → i < j → firstAt (storeFirsts plane j n w) i ≡ firstAt w i
 unfolding storeFirsts firstAt putFirst
 first-apart zero j w i h = refl
-first-apart (suc n) j w i h = first-apart n (j + 1) _ i (omega arith) ∙ getD-set-other w _ _ (rowsBefore planar w j) 0 (λ e. omega (arith, e, h))
+first-apart (suc n) j w i h = first-apart n (j + 1) _ i (omega arith) ∙ getD-set-other w _ _ (rowsBefore plane w j) 0 (λ e. omega (arith, e, h))
 
 first-own : (w : List ℕ) (j k : ℕ) → j * wordsWidth + wordsWidth ≤ length w → firstAt (putFirst w j k) j ≡ k
 unfolding putFirst firstAt
 first-own w j k room = getD-set-same w _ k 0 (omega (arith, room))
 
 -- each joint's first row is the sum of the earlier joints' row counts, before and after alike
-pub first-rows : (n j : ℕ) (w : List ℕ) (i : ℕ) → (j + n) * wordsWidth ≤ length w → j ≤ i → i < j + n → firstAt (storeFirsts planar j n w) i ≡ rowsBefore planar w i
+pub first-rows : (n j : ℕ) (w : List ℕ) (i : ℕ) → (j + n) * wordsWidth ≤ length w → j ≤ i → i < j + n → firstAt (storeFirsts plane j n w) i ≡ rowsBefore plane w i
 unfolding storeFirsts
 first-rows zero j w i room h g = absurd (omega (arith, h, g))
 first-rows (suc n) j w i room h g =
-    let w1 = putFirst w j (rowsBefore planar w j) in
+    let w1 = putFirst w j (rowsBefore plane w j) in
     by-cases (eqb i j)
-    (λ t. rw (eqb-true i j t) (first-apart n (j + 1) w1 j (omega arith) ∙ first-own w j (rowsBefore planar w j) (omega (arith, room))))
+    (λ t. rw (eqb-true i j t) (first-apart n (j + 1) w1 j (omega arith) ∙ first-own w j (rowsBefore plane w j) (omega (arith, room))))
     (λ t.
     let ne = eqb-false i j t in
-    first-rows n (j + 1) w1 i (rw (first-reworded w j (rowsBefore planar w j) .size) (omega (arith, room))) (omega (arith, h, ne)) (omega (arith, g))
-    ∙ first-rows-kept planar-laws w j (rowsBefore planar w j) i)
+    first-rows n (j + 1) w1 i (rw (first-reworded w j (rowsBefore plane w j) .size) (omega (arith, room))) (omega (arith, h, ne)) (omega (arith, g))
+    ∙ first-rows-kept planar-laws w j (rowsBefore plane w j) i)
 
 -- stored for the joints that are there, each is the sum in the words that are left
-pub stored-first : (w : List ℕ) (n : List Float) (i : ℕ) → i < jointCount planar w n
-    → firstAt (storeFirsts planar 0 (jointCount planar w n) w) i ≡ rowsBefore planar (storeFirsts planar 0 (jointCount planar w n) w) i
+pub stored-first : (w : List ℕ) (n : List Float) (i : ℕ) → i < jointCount plane w n
+    → firstAt (storeFirsts plane 0 (jointCount plane w n) w) i ≡ rowsBefore plane (storeFirsts plane 0 (jointCount plane w n) w) i
 stored-first w n i l =
-    first-rows (jointCount planar w n) 0 w i (omega (arith, joints-words w n)) (omega arith) (omega (arith, l)) ∙ sym (rows-kept planar-laws (firsts-same planar-laws (jointCount planar w n) 0 w) i)
+    first-rows (jointCount plane w n) 0 w i (omega (arith, joints-words w n)) (omega arith) (omega (arith, l)) ∙ sym (rows-kept planar-laws (firsts-same planar-laws (jointCount plane w n) 0 w) i)
 
 -- so it is after a granted load
-pub loaded-first : (m : Model) (rows : List Float) (i : ℕ) → i < jointCount planar (m .words) (m .numbers)
-    → firstAt (grantedOf planar load m rows .after .words) i ≡ rowsBefore planar (grantedOf planar load m rows .after .words) i
+pub loaded-first : (m : Model) (rows : List Float) (i : ℕ) → i < jointCount plane (m .words) (m .numbers)
+    → firstAt (grantedOf planar load m rows .after .words) i ≡ rowsBefore plane (grantedOf planar load m rows .after .words) i
 unfolding grantedOf
 loaded-first m rows i l = stored-first (m .words) (m .numbers) i l
 
 -- and after a granted change of masks
-pub masked-first : (m : Model) (rows : List Float) (j : ℕ) (ms : Masks) (i : ℕ) → i < jointCount planar (m .words) (m .numbers)
-    → firstAt (grantedOf planar (setMasks j ms) m rows .after .words) i ≡ rowsBefore planar (grantedOf planar (setMasks j ms) m rows .after .words) i
+pub masked-first : (m : Model) (rows : List Float) (j : ℕ) (ms : Masks) (i : ℕ) → i < jointCount plane (m .words) (m .numbers)
+    → firstAt (grantedOf planar (setMasks j ms) m rows .after .words) i ≡ rowsBefore plane (grantedOf planar (setMasks j ms) m rows .after .words) i
 unfolding grantedOf
 masked-first m rows j ms i l =
     let e = same-count planar-laws (put-reworded (m .words) j ms) (m .numbers) in
@@ -71,22 +71,22 @@ masked-first m rows j ms i l =
 -- ---- the loop that stores them
 
 module _ (j n : ℕ) (w : List ℕ) where
-  pub no-first : n ≤ j → storeFirsts planar j (n - j) w ≡ w
+  pub no-first : n ≤ j → storeFirsts plane j (n - j) w ≡ w
   unfolding storeFirsts
   no-first g =
       let z : n - j ≡ 0 = omega arith in
       rw z
 
-  pub next-first : j < n → {first : ℕ} → first ≡ rowsBefore planar w j → storeFirsts planar j (n - j) w ≡ storeFirsts planar (j + 1) (n - (j + 1)) (putFirst w j first)
+  pub next-first : j < n → {first : ℕ} → first ≡ rowsBefore plane w j → storeFirsts plane j (n - j) w ≡ storeFirsts plane (j + 1) (n - (j + 1)) (putFirst w j first)
   unfolding storeFirsts
   next-first g e =
       let z : n - j ≡ suc (n - (j + 1)) = omega arith in
       rw (z, e)
 
 -- where the rows of the next joint begin, after a store
-pub first-next : (w : List ℕ) (j first count : ℕ) → first ≡ rowsBefore planar w j → count ≡ rowCount planar (putFirst w j first) j → first + count ≡ rowsBefore planar (putFirst w j first) (j + 1)
+pub first-next : (w : List ℕ) (j first count : ℕ) → first ≡ rowsBefore plane w j → count ≡ rowCount plane (putFirst w j first) j → first + count ≡ rowsBefore plane (putFirst w j first) (j + 1)
 first-next w j first count e c =
-    rw c (ap (λ k. k + rowCount planar (putFirst w j first) j) (e ∙ sym (first-rows-kept planar-laws w j first j)) ∙ sym (rowsBefore-next (putFirst w j first) j))
+    rw c (ap (λ k. k + rowCount plane (putFirst w j first) j) (e ∙ sym (first-rows-kept planar-laws w j first j)) ∙ sym (rowsBefore-next (putFirst w j first) j))
 
-pub first-small : (w : List ℕ) (j n first : ℕ) → first ≡ rowsBefore planar w j → j < n → n ≤ mostJoints → first ≤ 768
+pub first-small : (w : List ℕ) (j n first : ℕ) → first ≡ rowsBefore plane w j → j < n → n ≤ mostJoints → first ≤ 768
 first-small w j n first e l few = omega (arith, e, l, few, rowsBefore-le w j)

@@ -39,7 +39,7 @@ use Rattle.multibody.proofs.CallLaws.{run-granted}
 use Rattle.multibody.proofs.RefusedExactly.{told}
 use Rattle.multibody.proofs.Premises.{Turn, recorded, recorded-returns}
 use Rattle.model.specs.Refusals.{masksFit, finiteFrom, noNanFrom, finiteBody, finiteMotor, finiteCenter, finiteJoint, angleFits, centerFits}
-use Rattle.model.specs.Planar.{planar}
+use Rattle.model.specs.Planar.{plane, planar}
 use Rattle.model.specs.Studies.{planarCalls}
 use Rattle.model.proofs.PlanarLaws.{planar-laws, planar-two-studies}
 
@@ -133,11 +133,11 @@ body-cases P a b (suc zero) e = b
 body-cases P a b (suc (suc i)) e = absurd (omega (arith, ltb-true (suc (suc i)) 2 e))
 
 -- either model has two joints
-two-joints : (x v : Float) (axes choice : ℕ) → jointCount planar (example x axes v choice .words) (example x axes v choice .numbers) ≡ 2
+two-joints : (x v : Float) (axes choice : ℕ) → jointCount plane (example x axes v choice .words) (example x axes v choice .numbers) ≡ 2
 unfolding jointCount
 two-joints x v axes choice = refl
 
-three-bodies : (x v : Float) (axes choice : ℕ) → bodyCount planar (example x axes v choice .bodies) ≡ 3
+three-bodies : (x v : Float) (axes choice : ℕ) → bodyCount plane (example x axes v choice .bodies) ≡ 3
 unfolding bodyCount
 three-bodies x v axes choice = refl
 
@@ -151,29 +151,29 @@ module _ (x v : Float) (axes choice : ℕ) where
   abbrev q : Model
   q = example x axes v choice
 
-  closed : Closed planar set q
+  closed : Closed plane set q
   unfolding body1At body2At
   closed zero t = refl
   closed (suc zero) t = absurd (t .body2 refl)
   closed (suc (suc j)) t = absurd (omega (arith, t .there, two-joints x v axes choice))
 
   -- the set's joint is joint 0
-  joint-zero : OfSet planar set q 0
+  joint-zero : OfSet plane set q 0
   unfolding body1At body2At
   joint-zero = record { there = omega (arith, two-joints x v axes choice); inside1 = inl refl; inside2 = inl refl }
 
-  joint-cases : (P : ℕ → Type 0) → P 0 → (j : ℕ) → OfSet planar set q j → P j
+  joint-cases : (P : ℕ → Type 0) → P 0 → (j : ℕ) → OfSet plane set q j → P j
   unfolding body1At body2At
   joint-cases P a zero t = a
   joint-cases P a (suc zero) t = absurd (⊎-elim (λ e. omega (arith, ltb-true 2 2 e)) (λ e. omega (arith, e)) (t .inside1))
   joint-cases P a (suc (suc j)) t = absurd (omega (arith, t .there, two-joints x v axes choice))
 
   -- which has no row but its locks'
-  ids : jointIds planar (q .words) 0 ≡ Dof 0 ∷ Dof 1 ∷ []
+  ids : jointIds plane (q .words) 0 ≡ Dof 0 ∷ Dof 1 ∷ []
   unfolding jointIds rowMasksAt enabledAt masksAt hasAxis rowIds
   ids = refl
 
-  locks-alone : (id : WritebackId) → isDof id ≡ false → HasRow planar q 0 id → ⊥
+  locks-alone : (id : WritebackId) → isDof id ≡ false → HasRow plane q 0 id → ⊥
   locks-alone id e h = ⊎-elim (λ r. other r) (λ h. ⊎-elim (λ r. other r) List·Memᴰ·not-nil (List·Memᴰ·cases-cons h)) (List·Memᴰ·cases-cons (rw ids at h))
     where
       other : {k : ℕ} → id ≡ Dof k → ⊥
@@ -197,7 +197,7 @@ contents = record {
   dof = λ i n. refl;
 }
 
-pub agree : Agree planar set (Names planarCalls (recorded planarCalls ts s s′) s s′) m m′
+pub agree : Agree plane set (Names planarCalls (recorded planarCalls ts s s′) s s′) m m′
 unfolding solverPoseAt velAt body1At body2At
 agree = record {
   params = refl;
@@ -206,8 +206,8 @@ agree = record {
   present = λ i e. (omega (arith, ltb-true i 2 e, three-bodies two one 7 0), omega (arith, ltb-true i 2 e, three-bodies o two 3 1));
   poses = body-cases (λ i. solverPoseAt (m .bodies) i ≡ solverPoseAt (m′ .bodies) i) refl refl;
   velocities = body-cases (λ i. velAt (m .bodies) i ≡ velAt (m′ .bodies) i) refl refl;
-  joints = joint-cases two one 7 0 (OfSet planar set m′) (joint-zero o two 3 1);
-  joints′ = joint-cases o two 3 1 (OfSet planar set m) (joint-zero two one 7 0);
+  joints = joint-cases two one 7 0 (OfSet plane set m′) (joint-zero o two 3 1);
+  joints′ = joint-cases o two 3 1 (OfSet plane set m) (joint-zero two one 7 0);
   bodies1 = joint-cases two one 7 0 (λ j. body1At (m .words) j ≡ body1At (m′ .words) j) refl;
   bodies2 = joint-cases two one 7 0 (λ j. body2At (m .words) j ≡ body2At (m′ .words) j) refl;
   contents = joint-cases two one 7 0 (λ j. SameNamed (Names planarCalls (recorded planarCalls ts s s′) s s′ j) (jointAt (m .words) (m .numbers) j) (jointAt (m′ .words) (m′ .numbers) j)) contents;
@@ -223,7 +223,7 @@ no-alike = (tt, tt)
 pub compared : Compared planarCalls set (recorded planarCalls ts s s′) s s′
 compared = record { loaded = loaded; loaded′ = loaded′; agree = agree; storage = enough; alike = no-alike; traces = recorded-returns planarCalls ts s s′ }
 
-pub same-numbers : SameNumbers planar m m′
+pub same-numbers : SameNumbers plane m m′
 same-numbers = record { bodies = three-bodies two one 7 0 ∙ sym (three-bodies o two 3 1); joints = two-joints two one 7 0 ∙ sym (two-joints o two 3 1) }
 
 pub shared : Noninterference planarCalls set (recorded planarCalls ts s s′) s s′

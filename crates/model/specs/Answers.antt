@@ -14,7 +14,7 @@ use Rattle.rows.specs.declared.joint_velocity_constraint.WritebackId.{Writeback
 use Rattle.model.specs.JointRows.{rowsList}
 use Rattle.multibody.specs.Calls.{Answer, Outcome}
 use Rattle.multibody.specs.Calls.Answer.{granted, total, rowsRead, velocityRead, swept, refused}
-use Rattle.model.specs.Planar.{planar}
+use Rattle.model.specs.Planar.{plane}
 use Rattle.model.specs.declared.header.Header.{Header}
 use Rattle.model.specs.declared.calls.Plain.{Plain}
 use Rattle.model.specs.declared.calls.LoadAnswer.{LoadAnswer}
@@ -24,14 +24,14 @@ use Rattle.model.specs.declared.calls.VelocityAnswer.{VelocityAnswer}
 use Rattle.model.specs.declared.calls.SweepAnswer.{SweepAnswer}
 
 -- a call that is handed no row storage: the same whatever storage there is
-abbrev pub WithoutRows : (List Float → Outcome planar) → (List Float → Outcome planar) → Type 0
+abbrev pub WithoutRows : (List Float → Outcome plane) → (List Float → Outcome plane) → Type 0
 WithoutRows f g = (rows : List Float) → f rows ≡ g rows
 
-abbrev pub plainAnswer : Plain → Answer planar
+abbrev pub plainAnswer : Plain → Answer plane
 plainAnswer Plain.Granted = granted
 plainAnswer (Plain.Refused k) = refused k
 
-abbrev pub loadAnswer : LoadAnswer → Answer planar
+abbrev pub loadAnswer : LoadAnswer → Answer plane
 loadAnswer (LoadAnswer.Loaded h) = granted
 loadAnswer (LoadAnswer.Refused k) = refused k
 
@@ -40,7 +40,7 @@ abbrev pub loadHeader : Header → LoadAnswer → Header
 loadHeader before (LoadAnswer.Loaded h) = h
 loadHeader before (LoadAnswer.Refused k) = before
 
-abbrev pub buildAnswer : BuildAnswer → Answer planar
+abbrev pub buildAnswer : BuildAnswer → Answer plane
 buildAnswer (BuildAnswer.Built h n) = total n
 buildAnswer (BuildAnswer.Refused k) = refused k
 
@@ -48,23 +48,23 @@ abbrev pub buildHeader : Header → BuildAnswer → Header
 buildHeader before (BuildAnswer.Built h n) = h
 buildHeader before (BuildAnswer.Refused k) = before
 
-abbrev pub velocityAnswer : VelocityAnswer → Answer planar
+abbrev pub velocityAnswer : VelocityAnswer → Answer plane
 velocityAnswer (VelocityAnswer.Velocity v) = velocityRead v
 velocityAnswer (VelocityAnswer.Refused k) = refused k
 
 -- a sweep's counts, one for each of so many joints, held in an array of 128
-abbrev pub countsAnswer : ℕ → Plain → List ℕ → Answer planar
+abbrev pub countsAnswer : ℕ → Plain → List ℕ → Answer plane
 countsAnswer joints Plain.Granted counts = swept (take joints counts)
 countsAnswer joints (Plain.Refused k) counts = refused k
 
-abbrev pub sweepAnswer : ℕ → SweepAnswer → Answer planar
+abbrev pub sweepAnswer : ℕ → SweepAnswer → Answer plane
 sweepAnswer joints r = countsAnswer joints (r .answer) (r .counts)
 
 -- Past the joints the array holds zeros, and beside a refusal zeros alone.
 abbrev pub sweptAs : Plain → List ℕ → SweepAnswer
 sweptAs a counts = record { answer = a; counts = filled 128 0 counts }
 
-unfoldable pub sweepAnswerOf : Answer planar → SweepAnswer
+unfoldable pub sweepAnswerOf : Answer plane → SweepAnswer
 sweepAnswerOf (swept counts) = sweptAs Plain.Granted counts
 sweepAnswerOf (refused k) = sweptAs (Plain.Refused k) []
 -- a sweep answers none of these
@@ -77,18 +77,18 @@ sweepAnswerOf (velocityRead v) = sweptAs Plain.Granted []
 abbrev pub idsList : RowIds → List WritebackId
 idsList r = map (λ (i : RowId). i .id) (take (r .len) (r .ids))
 
-abbrev pub readAnswer : Plain → RowIds → Rows → Answer planar
+abbrev pub readAnswer : Plain → RowIds → Rows → Answer plane
 readAnswer Plain.Granted ids rows = rowsRead (idsList ids) (rowsList rows)
 readAnswer (Plain.Refused k) ids rows = refused k
 
-abbrev pub rowsAnswer : RowsAnswer → Answer planar
+abbrev pub rowsAnswer : RowsAnswer → Answer plane
 rowsAnswer r = readAnswer (r .answer) (r .ids) (r .rows)
 
 -- Past their counts the arrays are filled up, and beside a refusal they hold nothing. The first argument is the joint's masks.
 abbrev pub noRows : Plain → RowsAnswer
 noRows a = record { answer = a; ids = rowIdsArray noMasks; rows = rowsArray [] }
 
-unfoldable pub rowsAnswerOf : Masks → Answer planar → RowsAnswer
+unfoldable pub rowsAnswerOf : Masks → Answer plane → RowsAnswer
 rowsAnswerOf masks (rowsRead ids rows) = record { answer = Plain.Granted; ids = rowIdsArray masks; rows = rowsArray rows }
 rowsAnswerOf masks (refused k) = noRows (Plain.Refused k)
 -- a row read answers none of these

@@ -1,4 +1,4 @@
--- The planar model as a kind of multibody system: two linear axes and one angular. Beside document 01's calls it has motor tables (document 02, R-6).
+-- The planar model as a kind of multibody system: its store, two linear axes and one angular, and over it its rules and calls. Beside document 01's calls it has motor tables (document 02, R-6).
 use Prim.Native.Nat.{ℕ}
 use mathlib.Core.List.{List, [], _∷_}
 use mathlib.Core.Bool.{not, _&&_}
@@ -16,7 +16,9 @@ use Rattle.rows.specs.declared.joint_velocity_constraint.JointConstraint.{Joint
 use Rattle.motor_table.specs.Tables.{tableRefusal, readTable}
 use Rattle.multibody.specs.Rules.{Rule, rule, all}
 use Rattle.multibody.specs.Model.{Model}
+use Rattle.multibody.specs.Store.{Store}
 use Rattle.multibody.specs.System.{System}
+use Rattle.multibody.specs.Counts.{jointCount}
 use Rattle.multibody.specs.Refusals.{bodiesPresent, bodiesApart}
 use Rattle.model.specs.Layout.{rowWidth, bodyWidth, wordsWidth, numbersWidth}
 use Rattle.model.specs.Store.{rowAt, putRow, velAt, putVel, solverPoseAt, putPose, jointAt, masksAt, enabledAt, body1At, body2At, putSeed, putFirst, putMasks}
@@ -32,8 +34,9 @@ tableRules joints bytes =
     let fault = tableRefusal (readTable joints bytes) in
     faultRule 13 fault ∷ faultRule 14 fault ∷ faultRule 15 fault ∷ []
 
-abbrev pub planar : System
-planar = record {
+-- bodies, joints and rows of the plane
+abbrev pub plane : Store
+plane = record {
   linear = 2;
   angular = 1;
   mostRows = 6;
@@ -59,9 +62,6 @@ planar = record {
   body2At = body2At;
   putSeed = putSeed;
   putFirst = putFirst;
-  NewMasks = Masks;
-  fitMasks = newMasksFit;
-  putMasks = putMasks;
   builderUpdateOf = builderUpdateOf;
   impulseOf = λ r. r .impulse;
   stepOf = λ r v1 v2. let t = stepOf r v1 v2 in record { row = t .row; vel1 = t .vels .vel1; vel2 = t .vels .vel2; side = t .side };
@@ -69,17 +69,25 @@ planar = record {
   removeBiasOf = removeBiasOf;
   seedOf = seedOf;
   SameNamed = SameNamed;
+}
+
+abbrev pub planar : System
+planar = record {
+  store = plane;
   maskRules = λ words joints fit. rule 3 (fit && all 0 joints (masksFit words)) ∷ [];
   finitePose = finitePose;
   finiteBody = finiteBody;
   finiteJoint = finiteJoint;
   contentRules = λ words numbers joints. rule 12 (all 0 joints (centerFits words numbers)) ∷ [];
+  NewMasks = Masks;
+  fitMasks = newMasksFit;
+  putMasks = putMasks;
   Further = List ℕ;
-  furtherRules = λ bytes m joints. tableRules joints bytes;
-  furtherNumbers = λ bytes m joints. setTable (m .numbers) (readTable joints bytes);
+  furtherRules = λ bytes m. tableRules (jointCount plane (m .words) (m .numbers)) bytes;
+  furtherNumbers = λ bytes m. setTable (m .numbers) (readTable (jointCount plane (m .words) (m .numbers)) bytes);
 }
 
 -- rules 3 to 5, of the joints
 abbrev pub jointRules : List Float → List ℕ → ℕ → List Rule
 jointRules bodies words joints =
-    rule 3 (all 0 joints (masksFit words)) ∷ rule 4 (all 0 joints (bodiesPresent planar bodies words)) ∷ rule 5 (all 0 joints (bodiesApart planar words)) ∷ []
+    rule 3 (all 0 joints (masksFit words)) ∷ rule 4 (all 0 joints (bodiesPresent plane bodies words)) ∷ rule 5 (all 0 joints (bodiesApart plane words)) ∷ []

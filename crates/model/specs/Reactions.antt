@@ -15,15 +15,15 @@ use Rattle.rows.specs.declared.reaction.Reaction.{Reaction}
 use Rattle.multibody.specs.Counts.{bodyCount}
 use Rattle.model.specs.Layout.{wordsWidth}
 use Rattle.model.specs.Store.{world, worldPose, rest, solverPoseAt, velAt, body1At, body2At}
-use Rattle.model.specs.Planar.{planar}
+use Rattle.model.specs.Planar.{plane}
 use Rattle.model.specs.SingleRecords.{jointIfThere}
 
 -- body i's pose and velocity
 unfoldable pub poseIfThere : List Float → ℕ → Pose
-poseIfThere bodies i = cond (ltb i (bodyCount planar bodies)) (solverPoseAt bodies i .pose) (worldPose .pose)
+poseIfThere bodies i = cond (ltb i (bodyCount plane bodies)) (solverPoseAt bodies i .pose) (worldPose .pose)
 
 unfoldable pub velIfThere : List Float → ℕ → SolverVel
-velIfThere bodies i = cond (ltb i (bodyCount planar bodies)) (velAt bodies i) rest
+velIfThere bodies i = cond (ltb i (bodyCount plane bodies)) (velAt bodies i) rest
 
 -- joint j's bodies
 unfoldable pub body1IfThere : List ℕ → ℕ → ℕ

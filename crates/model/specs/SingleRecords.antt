@@ -14,19 +14,19 @@ use Rattle.rows.specs.declared.joint_velocity_constraint.WritebackId.{Writeback
 use Rattle.model.specs.Layout.{numbersWidth}
 use Rattle.model.specs.Store.{rowAt, putRow, jointOf, jointAt, putSeed}
 use Rattle.multibody.specs.Counts.{jointCount, rowCapacity}
-use Rattle.model.specs.Planar.{planar}
+use Rattle.model.specs.Planar.{plane}
 
 unfoldable pub rowIfThere : List Float → ℕ → JointConstraint
-rowIfThere rows k = cond (ltb k (rowCapacity planar rows)) (rowAt rows k) blankRow
+rowIfThere rows k = cond (ltb k (rowCapacity plane rows)) (rowAt rows k) blankRow
 
 unfoldable pub putRowIfThere : List Float → ℕ → JointConstraint → List Float
-putRowIfThere rows k r = cond (ltb k (rowCapacity planar rows)) (putRow rows k r) rows
+putRowIfThere rows k r = cond (ltb k (rowCapacity plane rows)) (putRow rows k r) rows
 
 abbrev pub blankJoint : ImpulseJoint
 blankJoint = jointOf (λ _. bits 0) (λ _. 0)
 
 unfoldable pub jointIfThere : List ℕ → List Float → ℕ → ImpulseJoint
-jointIfThere words numbers j = cond (ltb j (jointCount planar words numbers)) (jointAt words numbers j) blankJoint
+jointIfThere words numbers j = cond (ltb j (jointCount plane words numbers)) (jointAt words numbers j) blankJoint
 
 unfoldable pub putSeedIfThere : List Float → ℕ → WritebackId → Float → List Float
 putSeedIfThere numbers j id p = cond (ltb j (length numbers / numbersWidth)) (putSeed numbers j id p) numbers

@@ -7,7 +7,7 @@ ghost use Rattle.model.specs.Layout.{rowWidth};
 ghost use Rattle.multibody.specs.JointRows.{state};
 ghost use Rattle.multibody.specs.Counts.{Sound, Room, jointCount, totalRows};
 ghost use Rattle.multibody.specs.Calls.{eachJoint, rounds, buildOne, warmstartOne, counted, countedRound, removeBiasOne, writeBackOne, rowsFrom};
-ghost use Rattle.model.specs.Planar.{planar};
+ghost use Rattle.model.specs.Planar.{plane};
 ghost use Rattle.model.specs.Model.{modelOf};
 use crate::counts::joint_count;
 use crate::header::Header;
@@ -35,9 +35,9 @@ pub fn build_all(
     warmstart: Warmstart,
     substep_id: u32,
 ) -> usize
-    requires { ⌜ (Sound planar) (modelOf header (now bodies) (now words) (now numbers)) ⌝ }
-    requires { ⌜ (Room planar) (modelOf header (now bodies) (now words) (now numbers)) (now rows) ⌝ }
-    ensures { λ r. ⌜ (r ≡ totalRows planar (now (words .entry)) (now (numbers .entry))) × (now (rows .exit) ≡ eachJoint (buildOne planar (modelOf header (now (bodies .entry)) (now (words .entry)) (now (numbers .entry))) warmstart «substep_id») 0 (jointCount planar (now (words .entry)) (now (numbers .entry))) (now (rows .entry))) ⌝ }
+    requires { ⌜ (Sound plane) (modelOf header (now bodies) (now words) (now numbers)) ⌝ }
+    requires { ⌜ (Room plane) (modelOf header (now bodies) (now words) (now numbers)) (now rows) ⌝ }
+    ensures { λ r. ⌜ (r ≡ totalRows plane (now (words .entry)) (now (numbers .entry))) × (now (rows .exit) ≡ eachJoint (buildOne plane (modelOf header (now (bodies .entry)) (now (words .entry)) (now (numbers .entry))) warmstart «substep_id») 0 (jointCount plane (now (words .entry)) (now (numbers .entry))) (now (rows .entry))) ⌝ }
 {
     let joints = joint_count(words, numbers);
     let params = header.params;
@@ -68,9 +68,9 @@ pub fn warmstart_all(
     numbers: &[f32],
     rows: &[f32],
 )
-    requires { ⌜ (Sound planar) (modelOf header (now bodies) (now words) (now numbers)) ⌝ }
-    requires { ⌜ (Room planar) (modelOf header (now bodies) (now words) (now numbers)) (now rows) ⌝ }
-    ensures { λ _. ⌜ now (bodies .exit) ≡ eachJoint (warmstartOne planar (now (words .entry)) (now (rows .entry))) 0 (jointCount planar (now (words .entry)) (now (numbers .entry))) (now (bodies .entry)) ⌝ }
+    requires { ⌜ (Sound plane) (modelOf header (now bodies) (now words) (now numbers)) ⌝ }
+    requires { ⌜ (Room plane) (modelOf header (now bodies) (now words) (now numbers)) (now rows) ⌝ }
+    ensures { λ _. ⌜ now (bodies .exit) ≡ eachJoint (warmstartOne plane (now (words .entry)) (now (rows .entry))) 0 (jointCount plane (now (words .entry)) (now (numbers .entry))) (now (bodies .entry)) ⌝ }
 {
     let n = joint_count(words, numbers);
     let mut j = 0usize;
@@ -94,10 +94,10 @@ pub fn sweep_round(
     rows: &mut [f32],
     counts: &mut [u8],
 )
-    requires { ⌜ (Sound planar) (modelOf header (now bodies) (now words) (now numbers)) ⌝ }
-    requires { ⌜ (Room planar) (modelOf header (now bodies) (now words) (now numbers)) (now rows) ⌝ }
-    requires { ⌜ (jointCount planar) (now words) (now numbers) ≤ length (now counts) ⌝ }
-    ensures { λ _. ⌜ counted (state (now (rows .exit)) (now (bodies .exit))) (now (counts .exit)) ≡ countedRound planar (now (words .entry)) (jointCount planar (now (words .entry)) (now (numbers .entry))) (counted (state (now (rows .entry)) (now (bodies .entry))) (now (counts .entry))) ⌝ }
+    requires { ⌜ (Sound plane) (modelOf header (now bodies) (now words) (now numbers)) ⌝ }
+    requires { ⌜ (Room plane) (modelOf header (now bodies) (now words) (now numbers)) (now rows) ⌝ }
+    requires { ⌜ (jointCount plane) (now words) (now numbers) ≤ length (now counts) ⌝ }
+    ensures { λ _. ⌜ counted (state (now (rows .exit)) (now (bodies .exit))) (now (counts .exit)) ≡ countedRound plane (now (words .entry)) (jointCount plane (now (words .entry)) (now (numbers .entry))) (counted (state (now (rows .entry)) (now (bodies .entry))) (now (counts .entry))) ⌝ }
 {
     let n = joint_count(words, numbers);
     let mut j = 0usize;
@@ -123,10 +123,10 @@ pub fn sweep_all(
     counts: &mut [u8],
     n: u32,
 )
-    requires { ⌜ (Sound planar) (modelOf header (now bodies) (now words) (now numbers)) ⌝ }
-    requires { ⌜ (Room planar) (modelOf header (now bodies) (now words) (now numbers)) (now rows) ⌝ }
-    requires { ⌜ (jointCount planar) (now words) (now numbers) ≤ length (now counts) ⌝ }
-    ensures { λ _. ⌜ counted (state (now (rows .exit)) (now (bodies .exit))) (now (counts .exit)) ≡ rounds (countedRound planar (now (words .entry)) (jointCount planar (now (words .entry)) (now (numbers .entry)))) n (counted (state (now (rows .entry)) (now (bodies .entry))) (now (counts .entry))) ⌝ }
+    requires { ⌜ (Sound plane) (modelOf header (now bodies) (now words) (now numbers)) ⌝ }
+    requires { ⌜ (Room plane) (modelOf header (now bodies) (now words) (now numbers)) (now rows) ⌝ }
+    requires { ⌜ (jointCount plane) (now words) (now numbers) ≤ length (now counts) ⌝ }
+    ensures { λ _. ⌜ counted (state (now (rows .exit)) (now (bodies .exit))) (now (counts .exit)) ≡ rounds (countedRound plane (now (words .entry)) (jointCount plane (now (words .entry)) (now (numbers .entry)))) n (counted (state (now (rows .entry)) (now (bodies .entry))) (now (counts .entry))) ⌝ }
 {
     let mut round = 0u32;
     while round < n {
@@ -143,8 +143,8 @@ pub fn remove_bias_all(
     numbers: &[f32],
     rows: &mut [f32],
 )
-    requires { ⌜ (Room planar) (modelOf header (now bodies) (now words) (now numbers)) (now rows) ⌝ }
-    ensures { λ _. ⌜ now (rows .exit) ≡ eachJoint (removeBiasOne planar (now (words .entry))) 0 (jointCount planar (now (words .entry)) (now (numbers .entry))) (now (rows .entry)) ⌝ }
+    requires { ⌜ (Room plane) (modelOf header (now bodies) (now words) (now numbers)) (now rows) ⌝ }
+    ensures { λ _. ⌜ now (rows .exit) ≡ eachJoint (removeBiasOne plane (now (words .entry))) 0 (jointCount plane (now (words .entry)) (now (numbers .entry))) (now (rows .entry)) ⌝ }
 {
     let n = joint_count(words, numbers);
     let mut j = 0usize;
@@ -165,8 +165,8 @@ pub fn write_back_all(
     numbers: &mut [f32],
     rows: &[f32],
 )
-    requires { ⌜ (Room planar) (modelOf header (now bodies) (now words) (now numbers)) (now rows) ⌝ }
-    ensures { λ _. ⌜ now (numbers .exit) ≡ eachJoint (writeBackOne planar (now (rows .entry)) (now (words .entry))) 0 (jointCount planar (now (words .entry)) (now (numbers .entry))) (now (numbers .entry)) ⌝ }
+    requires { ⌜ (Room plane) (modelOf header (now bodies) (now words) (now numbers)) (now rows) ⌝ }
+    ensures { λ _. ⌜ now (numbers .exit) ≡ eachJoint (writeBackOne plane (now (rows .entry)) (now (words .entry))) 0 (jointCount plane (now (words .entry)) (now (numbers .entry))) (now (numbers .entry)) ⌝ }
 {
     let n = joint_count(words, numbers);
     let mut j = 0usize;
@@ -182,7 +182,7 @@ pub fn write_back_all(
 pub fn rows_from(rows: &[f32], k: usize, n: usize) -> Rows
     requires { ⌜ n ≤ 6 ⌝ }
     requires { ⌜ (k + n) * rowWidth ≤ length (now rows) ⌝ }
-    ensures { λ r. ⌜ r ≡ rowsArray (rowsFrom planar (now (rows .entry)) k n) ⌝ }
+    ensures { λ r. ⌜ r ≡ rowsArray (rowsFrom plane (now (rows .entry)) k n) ⌝ }
 {
     let blank = blank_row();
     let mut out = [blank; 6];

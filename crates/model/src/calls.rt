@@ -7,7 +7,7 @@ ghost use Rattle.multibody.specs.Counts.{jointCount};
 ghost use Rattle.multibody.specs.Calls.{outcome, run};
 ghost use Rattle.multibody.specs.Calls.Call.{load, place, build, warmStart, sweep, removeBias, writeBack, readRows, readVelocity, setMasks, further};
 ghost use Rattle.multibody.specs.JointRows.{rowMasksAt};
-ghost use Rattle.model.specs.Planar.{planar};
+ghost use Rattle.model.specs.Planar.{plane, planar};
 ghost use Rattle.model.specs.Answers.{WithoutRows, loadAnswer, loadHeader, plainAnswer, buildAnswer, buildHeader, rowsAnswer, noRows, rowsAnswerOf, velocityAnswer, sweepAnswer, sweptAs, sweepAnswerOf};
 use crate::all_joints::build_all;
 use crate::all_joints::remove_bias_all;
@@ -205,7 +205,7 @@ pub fn sweep(
     rows: &mut [f32],
     n: u32,
 ) -> SweepAnswer
-    ensures { λ r. ⌜ outcome (sweepAnswer (jointCount planar (now (words .entry)) (now (numbers .entry))) r) (modelOf header (now (bodies .exit)) (now (words .entry)) (now (numbers .entry))) (now (rows .exit)) ≡ run planar (sweep n) (modelOf header (now (bodies .entry)) (now (words .entry)) (now (numbers .entry))) (now (rows .entry)) ⌝ }
+    ensures { λ r. ⌜ outcome (sweepAnswer (jointCount plane (now (words .entry)) (now (numbers .entry))) r) (modelOf header (now (bodies .exit)) (now (words .entry)) (now (numbers .entry))) (now (rows .exit)) ≡ run planar (sweep n) (modelOf header (now (bodies .entry)) (now (words .entry)) (now (numbers .entry))) (now (rows .entry)) ⌝ }
     ensures { λ r. ⌜ r ≡ sweepAnswerOf (run planar (sweep n) (modelOf header (now (bodies .entry)) (now (words .entry)) (now (numbers .entry))) (now (rows .entry)) .answer) ⌝ }
 {
     let k = storage_refusal(header, bodies, words, numbers, rows, true);
@@ -292,7 +292,7 @@ pub fn read_rows(
     joint: u32,
 ) -> RowsAnswer
     ensures { λ r. ⌜ outcome (rowsAnswer r) (modelOf header (now (bodies .entry)) (now (words .entry)) (now (numbers .entry))) (now (rows .entry)) ≡ run planar (readRows joint) (modelOf header (now (bodies .entry)) (now (words .entry)) (now (numbers .entry))) (now (rows .entry)) ⌝ }
-    ensures { λ r. ⌜ r ≡ rowsAnswerOf (rowMasksAt planar (now (words .entry)) joint) (run planar (readRows joint) (modelOf header (now (bodies .entry)) (now (words .entry)) (now (numbers .entry))) (now (rows .entry)) .answer) ⌝ }
+    ensures { λ r. ⌜ r ≡ rowsAnswerOf (rowMasksAt plane (now (words .entry)) joint) (run planar (readRows joint) (modelOf header (now (bodies .entry)) (now (words .entry)) (now (numbers .entry))) (now (rows .entry)) .answer) ⌝ }
 {
     let k = storage_refusal(header, bodies, words, numbers, rows, true);
     if k != 0 {

@@ -13,7 +13,7 @@ ghost use Rattle.rows.specs.declared.joint_constraint_builder.SolverPose.{Solve
 ghost use Rattle.model.specs.Layout.{rowWidth, wordsWidth, numbersWidth};
 ghost use Rattle.multibody.specs.Refusals.{readsRows};
 ghost use Rattle.multibody.specs.JointRows.{state, rowMasksAt, rowCount, motorCount, putRows, impulsesAt, buildJoint, sweepRow, sweepSide, sweepJoint, countRow, countRows, warmstartRow, warmstartJoint, removeBiasJoint, writeBackJoint};
-ghost use Rattle.model.specs.Planar.{planar};
+ghost use Rattle.model.specs.Planar.{plane};
 ghost use Rattle.model.specs.Store.{Present, putMasks, enabledAt, body1At, body2At};
 ghost use Rattle.model.specs.JointRows.{rowsList};
 use crate::layout::ROW_WIDTH;
@@ -55,7 +55,7 @@ pub fn no_masks() -> Masks
 // The masks that give joint j its rows: its own where it is enabled, and none where it is not.
 pub fn row_masks_at(words: &[u32], j: usize) -> Masks
     requires { ⌜ j * wordsWidth + wordsWidth ≤ length (now words) ⌝ }
-    ensures { λ r. ⌜ r ≡ rowMasksAt planar (now (words .entry)) j ⌝ }
+    ensures { λ r. ⌜ r ≡ rowMasksAt plane (now (words .entry)) j ⌝ }
 {
     let enabled = enabled_at(words, j);
     if enabled.is_enabled() {
@@ -67,7 +67,7 @@ pub fn row_masks_at(words: &[u32], j: usize) -> Masks
 // The ids of joint j's rows, in order.
 pub fn ids_at(words: &[u32], j: usize) -> RowIds
     requires { ⌜ j * wordsWidth + wordsWidth ≤ length (now words) ⌝ }
-    ensures { λ r. ⌜ r ≡ rowIdsArray (rowMasksAt planar (now (words .entry)) j) ⌝ }
+    ensures { λ r. ⌜ r ≡ rowIdsArray (rowMasksAt plane (now (words .entry)) j) ⌝ }
 {
     row_ids(row_masks_at(words, j))
 }
@@ -75,7 +75,7 @@ pub fn ids_at(words: &[u32], j: usize) -> RowIds
 // Their number.
 pub fn count_at(words: &[u32], j: usize) -> usize
     requires { ⌜ j * wordsWidth + wordsWidth ≤ length (now words) ⌝ }
-    ensures { λ r. ⌜ r ≡ rowCount planar (now (words .entry)) j ⌝ }
+    ensures { λ r. ⌜ r ≡ rowCount plane (now (words .entry)) j ⌝ }
 {
     row_count(row_masks_at(words, j))
 }
@@ -83,7 +83,7 @@ pub fn count_at(words: &[u32], j: usize) -> usize
 // Their number once joint j has other masks, of which none is stored yet (request R-10): joint i's own where it is another one.
 pub fn count_with(words: &[u32], i: usize, j: usize, masks: Masks) -> usize
     requires { ⌜ i * wordsWidth + wordsWidth ≤ length (now words) ⌝ }
-    ensures { λ r. ⌜ r ≡ rowCount planar (putMasks (now (words .entry)) j masks) i ⌝ }
+    ensures { λ r. ⌜ r ≡ rowCount plane (putMasks (now (words .entry)) j masks) i ⌝ }
 {
     if i != j {
         return count_at(words, i);
@@ -98,7 +98,7 @@ pub fn count_with(words: &[u32], i: usize, j: usize, masks: Masks) -> usize
 // How many of them are motors', the first ones.
 pub fn motors_at(words: &[u32], j: usize) -> usize
     requires { ⌜ j * wordsWidth + wordsWidth ≤ length (now words) ⌝ }
-    ensures { λ r. ⌜ r ≡ motorCount planar (now (words .entry)) j ⌝ }
+    ensures { λ r. ⌜ r ≡ motorCount plane (now (words .entry)) j ⌝ }
 {
     motor_count(row_masks_at(words, j))
 }
@@ -107,7 +107,7 @@ pub fn motors_at(words: &[u32], j: usize) -> usize
 pub fn impulses_at(rows: &[f32], k: usize, n: usize) -> [f32; 6]
     requires { ⌜ n ≤ 6 ⌝ }
     requires { ⌜ (k + n) * rowWidth ≤ length (now rows) ⌝ }
-    ensures { λ r. ⌜ r ≡ filled 6 (bits 0) (impulsesAt planar (now (rows .entry)) k n) ⌝ }
+    ensures { λ r. ⌜ r ≡ filled 6 (bits 0) (impulsesAt plane (now (rows .entry)) k n) ⌝ }
 {
     let mut out = [0.0f32; 6];
     let mut i = 0usize;
@@ -138,7 +138,7 @@ fn last_impulses(
 ) -> [f32; 6]
     requires { ⌜ n ≤ 6 ⌝ }
     requires { ⌜ (k + n) * rowWidth ≤ length (now rows) ⌝ }
-    ensures { λ r. ⌜ ((params : IntegrationParameters) (body1 body2 : SolverPose) (joint : ImpulseJoint) → builderUpdateOf params «substep_id» warmstart body1 body2 joint r ≡ builderUpdateOf params «substep_id» warmstart body1 body2 joint (filled 6 (bits 0) (impulsesAt planar (now (rows .entry)) k n))) ⌝ }
+    ensures { λ r. ⌜ ((params : IntegrationParameters) (body1 body2 : SolverPose) (joint : ImpulseJoint) → builderUpdateOf params «substep_id» warmstart body1 body2 joint r ≡ builderUpdateOf params «substep_id» warmstart body1 body2 joint (filled 6 (bits 0) (impulsesAt plane (now (rows .entry)) k n))) ⌝ }
 {
     if reads_rows(warmstart, substep_id) {
         return impulses_at(rows, k, n);
@@ -150,7 +150,7 @@ fn last_impulses(
 pub fn put_rows(rows: &mut [f32], k: usize, made: Rows)
     requires { ⌜ made .len ≤ 6 ⌝ }
     requires { ⌜ (k + made .len) * rowWidth ≤ length (now rows) ⌝ }
-    ensures { λ _. ⌜ now (rows .exit) ≡ putRows planar (now (rows .entry)) k (rowsList made) ⌝ }
+    ensures { λ _. ⌜ now (rows .exit) ≡ putRows plane (now (rows .entry)) k (rowsList made) ⌝ }
 {
     let n = made.len;
     let mut i = 0usize;
@@ -177,9 +177,9 @@ fn build_enabled(
     requires { ⌜ j * numbersWidth + numbersWidth ≤ length (now numbers) ⌝ }
     requires { ⌜ Present (now bodies) (body1At (now words) j) ⌝ }
     requires { ⌜ Present (now bodies) (body2At (now words) j) ⌝ }
-    requires { ⌜ (first + rowCount planar (now words) j) * rowWidth ≤ length (now rows) ⌝ }
+    requires { ⌜ (first + rowCount plane (now words) j) * rowWidth ≤ length (now rows) ⌝ }
     requires { ⌜ isEnabled (enabledAt (now words) j) ≡ true ⌝ }
-    ensures { λ r. ⌜ (r ≡ rowCount planar (now (words .entry)) j) × (now (rows .exit) ≡ buildJoint planar params (now (bodies .entry)) (now (words .entry)) (now (numbers .entry)) j first warmstart «substep_id» (now (rows .entry))) ⌝ }
+    ensures { λ r. ⌜ (r ≡ rowCount plane (now (words .entry)) j) × (now (rows .exit) ≡ buildJoint plane params (now (bodies .entry)) (now (words .entry)) (now (numbers .entry)) j first warmstart «substep_id» (now (rows .entry))) ⌝ }
 {
     let n = count_at(words, j);
     let prevs = last_impulses(rows, first, n, warmstart, substep_id);
@@ -207,8 +207,8 @@ pub fn build_joint(
     requires { ⌜ j * numbersWidth + numbersWidth ≤ length (now numbers) ⌝ }
     requires { ⌜ Present (now bodies) (body1At (now words) j) ⌝ }
     requires { ⌜ Present (now bodies) (body2At (now words) j) ⌝ }
-    requires { ⌜ (first + rowCount planar (now words) j) * rowWidth ≤ length (now rows) ⌝ }
-    ensures { λ r. ⌜ (r ≡ rowCount planar (now (words .entry)) j) × (now (rows .exit) ≡ buildJoint planar params (now (bodies .entry)) (now (words .entry)) (now (numbers .entry)) j first warmstart «substep_id» (now (rows .entry))) ⌝ }
+    requires { ⌜ (first + rowCount plane (now words) j) * rowWidth ≤ length (now rows) ⌝ }
+    ensures { λ r. ⌜ (r ≡ rowCount plane (now (words .entry)) j) × (now (rows .exit) ≡ buildJoint plane params (now (bodies .entry)) (now (words .entry)) (now (numbers .entry)) j first warmstart «substep_id» (now (rows .entry))) ⌝ }
 {
     let enabled = enabled_at(words, j);
     if enabled.is_enabled() {
@@ -232,7 +232,7 @@ pub fn sweep_row(rows: &mut [f32], k: usize, bodies: &mut [f32], b1: u32, b2: u3
     requires { ⌜ k * rowWidth + rowWidth ≤ length (now rows) ⌝ }
     requires { ⌜ Present (now bodies) b1 ⌝ }
     requires { ⌜ Present (now bodies) b2 ⌝ }
-    ensures { λ r. ⌜ (r ≡ sweepSide planar k b1 b2 (state (now (rows .entry)) (now (bodies .entry)))) × (state (now (rows .exit)) (now (bodies .exit)) ≡ sweepRow planar k b1 b2 (state (now (rows .entry)) (now (bodies .entry)))) ⌝ }
+    ensures { λ r. ⌜ (r ≡ sweepSide plane k b1 b2 (state (now (rows .entry)) (now (bodies .entry)))) × (state (now (rows .exit)) (now (bodies .exit)) ≡ sweepRow plane k b1 b2 (state (now (rows .entry)) (now (bodies .entry)))) ⌝ }
 {
     let row = row_at(rows, k);
     let solved = solve_row(row, vel_at(bodies, b1), vel_at(bodies, b2));
@@ -246,7 +246,7 @@ pub fn sweep_row(rows: &mut [f32], k: usize, bodies: &mut [f32], b1: u32, b2: u3
 
 // 1 where row i is one of the first `motors` and its step met a bound.
 fn count_row(i: usize, motors: usize, side: Side) -> u8
-    ensures { λ r. ⌜ r ≡ countRow planar i motors side ⌝ }
+    ensures { λ r. ⌜ r ≡ countRow plane i motors side ⌝ }
     ensures { λ r. ⌜ r ≤ 1 ⌝ }
 {
     if i >= motors {
@@ -273,7 +273,7 @@ pub fn sweep_joint(
     requires { ⌜ (k + n) * rowWidth ≤ length (now rows) ⌝ }
     requires { ⌜ Present (now bodies) b1 ⌝ }
     requires { ⌜ Present (now bodies) b2 ⌝ }
-    ensures { λ r. ⌜ (r ≡ countRows planar motors k n b1 b2 (state (now (rows .entry)) (now (bodies .entry)))) × (state (now (rows .exit)) (now (bodies .exit)) ≡ sweepJoint planar k n b1 b2 (state (now (rows .entry)) (now (bodies .entry)))) ⌝ }
+    ensures { λ r. ⌜ (r ≡ countRows plane motors k n b1 b2 (state (now (rows .entry)) (now (bodies .entry)))) × (state (now (rows .exit)) (now (bodies .exit)) ≡ sweepJoint plane k n b1 b2 (state (now (rows .entry)) (now (bodies .entry)))) ⌝ }
 {
     let mut count = 0u8;
     let mut i = 0usize;
@@ -290,7 +290,7 @@ pub fn warmstart_row(rows: &[f32], k: usize, bodies: &mut [f32], b1: u32, b2: u3
     requires { ⌜ k * rowWidth + rowWidth ≤ length (now rows) ⌝ }
     requires { ⌜ Present (now bodies) b1 ⌝ }
     requires { ⌜ Present (now bodies) b2 ⌝ }
-    ensures { λ _. ⌜ now (bodies .exit) ≡ warmstartRow planar (now (rows .entry)) k b1 b2 (now (bodies .entry)) ⌝ }
+    ensures { λ _. ⌜ now (bodies .exit) ≡ warmstartRow plane (now (rows .entry)) k b1 b2 (now (bodies .entry)) ⌝ }
 {
     let row = row_at(rows, k);
     let vels = row.warmstart_generic(vel_at(bodies, b1), vel_at(bodies, b2));
@@ -302,7 +302,7 @@ pub fn warmstart_joint(rows: &[f32], k: usize, n: usize, bodies: &mut [f32], b1:
     requires { ⌜ (k + n) * rowWidth ≤ length (now rows) ⌝ }
     requires { ⌜ Present (now bodies) b1 ⌝ }
     requires { ⌜ Present (now bodies) b2 ⌝ }
-    ensures { λ _. ⌜ now (bodies .exit) ≡ warmstartJoint planar (now (rows .entry)) k n b1 b2 (now (bodies .entry)) ⌝ }
+    ensures { λ _. ⌜ now (bodies .exit) ≡ warmstartJoint plane (now (rows .entry)) k n b1 b2 (now (bodies .entry)) ⌝ }
 {
     let mut i = 0usize;
     while i < n {
@@ -314,7 +314,7 @@ pub fn warmstart_joint(rows: &[f32], k: usize, n: usize, bodies: &mut [f32], b1:
 // n rows from row k on without their bias.
 pub fn remove_bias_joint(rows: &mut [f32], k: usize, n: usize)
     requires { ⌜ (k + n) * rowWidth ≤ length (now rows) ⌝ }
-    ensures { λ _. ⌜ now (rows .exit) ≡ removeBiasJoint planar k n (now (rows .entry)) ⌝ }
+    ensures { λ _. ⌜ now (rows .exit) ≡ removeBiasJoint plane k n (now (rows .entry)) ⌝ }
 {
     let mut i = 0usize;
     while i < n {
@@ -328,8 +328,8 @@ pub fn remove_bias_joint(rows: &mut [f32], k: usize, n: usize)
 pub fn write_back_joint(rows: &[f32], words: &[u32], k: usize, j: usize, numbers: &mut [f32])
     requires { ⌜ j * wordsWidth + wordsWidth ≤ length (now words) ⌝ }
     requires { ⌜ j * numbersWidth + numbersWidth ≤ length (now numbers) ⌝ }
-    requires { ⌜ (k + rowCount planar (now words) j) * rowWidth ≤ length (now rows) ⌝ }
-    ensures { λ _. ⌜ now (numbers .exit) ≡ writeBackJoint planar (now (rows .entry)) (now (words .entry)) k j (now (numbers .entry)) ⌝ }
+    requires { ⌜ (k + rowCount plane (now words) j) * rowWidth ≤ length (now rows) ⌝ }
+    ensures { λ _. ⌜ now (numbers .exit) ≡ writeBackJoint plane (now (rows .entry)) (now (words .entry)) k j (now (numbers .entry)) ⌝ }
 {
     let ids = ids_at(words, j);
     let n = ids.len;

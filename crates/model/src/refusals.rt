@@ -12,7 +12,7 @@ ghost use Rattle.model.specs.Model.{modelOf};
 ghost use Rattle.multibody.specs.Counts.{totalRows};
 ghost use Rattle.multibody.specs.Rules.{rule, refusal, all, atMost};
 ghost use Rattle.multibody.specs.Refusals.{presentOrWorld, bodiesPresent, bodiesApart, finiteParams, finiteWarm, modelRules, modelRulesWith, storageRule};
-ghost use Rattle.model.specs.Planar.{jointRules, planar};
+ghost use Rattle.model.specs.Planar.{jointRules, plane, planar};
 ghost use Rattle.model.specs.Refusals.{masksFit, newMasksFit, finiteFrom, noNanFrom, finitePose, finiteBody, finiteMotor, limitEnds, finiteMotors, finiteCenter, finiteJoint, angleFits, centerFits};
 use crate::counts::body_count;
 use crate::counts::joint_count;
@@ -103,7 +103,7 @@ pub fn new_masks_fit(masks: Masks) -> bool
 }
 
 fn present_or_world(bodies: &[f32], i: u32) -> bool
-    ensures { λ r. ⌜ r ≡ presentOrWorld planar (now (bodies .entry)) i ⌝ }
+    ensures { λ r. ⌜ r ≡ presentOrWorld plane (now (bodies .entry)) i ⌝ }
 {
     if i == WORLD {
         return true;
@@ -113,7 +113,7 @@ fn present_or_world(bodies: &[f32], i: u32) -> bool
 
 fn bodies_present(bodies: &[f32], words: &[u32], j: usize) -> bool
     requires { ⌜ j * wordsWidth + wordsWidth ≤ length (now words) ⌝ }
-    ensures { λ r. ⌜ r ≡ bodiesPresent planar (now (bodies .entry)) (now (words .entry)) j ⌝ }
+    ensures { λ r. ⌜ r ≡ bodiesPresent plane (now (bodies .entry)) (now (words .entry)) j ⌝ }
 {
     if !present_or_world(bodies, body1_at(words, j)) {
         return false;
@@ -123,7 +123,7 @@ fn bodies_present(bodies: &[f32], words: &[u32], j: usize) -> bool
 
 fn all_bodies_present(bodies: &[f32], words: &[u32], n: usize) -> bool
     requires { ⌜ n * wordsWidth ≤ length (now words) ⌝ }
-    ensures { λ r. ⌜ r ≡ all 0 n (bodiesPresent planar (now (bodies .entry)) (now (words .entry))) ⌝ }
+    ensures { λ r. ⌜ r ≡ all 0 n (bodiesPresent plane (now (bodies .entry)) (now (words .entry))) ⌝ }
 {
     let mut j = 0usize;
     while j < n {
@@ -137,7 +137,7 @@ fn all_bodies_present(bodies: &[f32], words: &[u32], n: usize) -> bool
 
 fn all_bodies_apart(words: &[u32], n: usize) -> bool
     requires { ⌜ n * wordsWidth ≤ length (now words) ⌝ }
-    ensures { λ r. ⌜ r ≡ all 0 n (bodiesApart planar (now (words .entry))) ⌝ }
+    ensures { λ r. ⌜ r ≡ all 0 n (bodiesApart plane (now (words .entry))) ⌝ }
 {
     let mut j = 0usize;
     while j < n {
@@ -405,7 +405,7 @@ fn first_refusal(
     handed: bool,
     room: usize,
 ) -> u32
-    ensures { λ r. ⌜ ((header : Header) (arguments : Bool) → dt ≡ header .params .dt → finite ≡ (finiteParams (header .params) && arguments) → r ≡ refusal (modelRules planar (modelOf header (now (bodies .entry)) (now (words .entry)) (now (numbers .entry))) arguments ++ (rule 8 (not handed || atMost room (totalRows planar (now (words .entry)) (now (numbers .entry)))) ∷ []))) ⌝ }
+    ensures { λ r. ⌜ ((header : Header) (arguments : Bool) → dt ≡ header .params .dt → finite ≡ (finiteParams (header .params) && arguments) → r ≡ refusal (modelRules planar (modelOf header (now (bodies .entry)) (now (words .entry)) (now (numbers .entry))) arguments ++ (rule 8 (not handed || atMost room (totalRows plane (now (words .entry)) (now (numbers .entry)))) ∷ []))) ⌝ }
 {
     let n = body_count(bodies);
     let joints = joint_count(words, numbers);
@@ -474,7 +474,7 @@ pub fn storage_refusal(
     rows: &[f32],
     arguments: bool,
 ) -> u32
-    ensures { λ r. ⌜ r ≡ refusal (modelRules planar (modelOf header (now (bodies .entry)) (now (words .entry)) (now (numbers .entry))) arguments ++ (storageRule planar (modelOf header (now (bodies .entry)) (now (words .entry)) (now (numbers .entry))) (now (rows .entry)) ∷ [])) ⌝ }
+    ensures { λ r. ⌜ r ≡ refusal (modelRules planar (modelOf header (now (bodies .entry)) (now (words .entry)) (now (numbers .entry))) arguments ++ (storageRule plane (modelOf header (now (bodies .entry)) (now (words .entry)) (now (numbers .entry))) (now (rows .entry)) ∷ [])) ⌝ }
 {
     let params = header.params;
     let finite = finite_params(params) & arguments;

@@ -14,7 +14,7 @@ use Rattle.multibody.specs.System.{System}
 use Rattle.multibody.specs.JointRows.{jointIds}
 use Rattle.multibody.specs.Counts.{jointCount, rowCapacity, totalRows}
 use Rattle.multibody.specs.Refusals.{finiteWarm, modelRules, modelRulesWith, storageRule, sweepRule, builtRule, seedsRule, bodyRule, jointRule}
-use Rattle.multibody.specs.Calls.{Call, Outcome, Change, fitChange, changed, callTable, addedRules, handedRules, rulesOf, grantedOf, run, refusalOf, rowsOf}
+use Rattle.multibody.specs.Calls.{Call, Outcome, Change, fitChange, changed, callTable, handedRules, rulesOf, grantedOf, run, refusalOf, rowsOf}
 use Rattle.multibody.specs.Calls.Call.{load, place, build, warmStart, sweep, removeBias, writeBack, readRows, readVelocity, setMasks, further}
 use Rattle.multibody.specs.Calls.Change.{none, given}
 use Rattle.multibody.specs.Calls.Answer.{rowsRead}
@@ -30,14 +30,14 @@ numbers-append [] rs = refl
 numbers-append (q ∷ qs) rs = ap (λ l. q .number ∷ l) (numbers-append qs rs)
 
 module _ (sys : System) (m : Model) where
-  open System sys using (maskRules, contentRules, Further)
+  open System sys using (store, maskRules, contentRules, Further)
 
   -- document 01's order: the rules of a kind stand where 3 stands, and right after 6
-  pub checking-order : (fit arguments : Bool) → let joints = jointCount sys (m .words) (m .numbers) in
+  pub checking-order : (fit arguments : Bool) → let joints = jointCount store (m .words) (m .numbers) in
       numbersOf (modelRulesWith sys m fit arguments) ≡ 1 ∷ 2 ∷ (numbersOf (maskRules (m .words) joints fit) ++ (4 ∷ 5 ∷ 6 ∷ (numbersOf (contentRules (m .words) (m .numbers) joints) ++ (7 ∷ []))))
   unfolding modelRulesWith
   checking-order fit arguments =
-      let joints = jointCount sys (m .words) (m .numbers) in
+      let joints = jointCount store (m .words) (m .numbers) in
       ap (λ l. 1 ∷ 2 ∷ l)
       (numbers-append (maskRules (m .words) joints fit) _
       ∙ ap (λ l. numbersOf (maskRules (m .words) joints fit) ++ (4 ∷ 5 ∷ 6 ∷ l)) (numbers-append (contentRules (m .words) (m .numbers) joints) _))
@@ -54,7 +54,7 @@ module _ (sys : System) (m : Model) where
   laterNumbers (readRows j) = 8 ∷ 10 ∷ 11 ∷ []
   laterNumbers (readVelocity i) = 11 ∷ []
   laterNumbers (setMasks j ms) = 8 ∷ 11 ∷ []
-  laterNumbers (further f) = numbersOf (addedRules sys f m)
+  laterNumbers (further f) = numbersOf (sys .furtherRules f m)
 
   module _ (rows : List Float) where
     stored-order : (change : Change sys) (finite : Bool) (rest : List Rule)
@@ -62,8 +62,8 @@ module _ (sys : System) (m : Model) where
     unfolding storageRule
     stored-order change finite rest =
         let first = modelRulesWith sys m (fitChange change) finite in
-        numbers-append (first ++ (storageRule sys (changed m change) rows ∷ [])) rest
-        ∙ ap (λ l. l ++ numbersOf rest) (numbers-append first (storageRule sys (changed m change) rows ∷ []))
+        numbers-append (first ++ (storageRule store (changed m change) rows ∷ [])) rest
+        ∙ ap (λ l. l ++ numbersOf rest) (numbers-append first (storageRule store (changed m change) rows ∷ []))
         ∙ append-assoc (numbersOf first) (8 ∷ []) (numbersOf rest)
 
     -- a build tries 8 and 10, a sweep 9 before 10, and a further call no 8
@@ -77,7 +77,7 @@ module _ (sys : System) (m : Model) where
 
     pub further-order : (f : Further) → numbersOf (rulesOf sys (further f) m rows) ≡ numbersOf (modelRules sys m true) ++ laterNumbers (further f)
     unfolding rulesOf
-    further-order f = numbers-append (modelRules sys m true) (addedRules sys f m)
+    further-order f = numbers-append (modelRules sys m true) (sys .furtherRules f m)
 
     pub call-order : (c : Call sys) → numbersOf (rulesOf sys c m rows) ≡ numbersOf (modelRulesWith sys m (fitChange (callTable sys c .masks)) (callTable sys c .finite)) ++ laterNumbers c
     unfolding rulesOf builtRule bodyRule jointRule
@@ -95,12 +95,14 @@ module _ (sys : System) (m : Model) where
 
     -- new masks: 3 asks whether they fit too, and 8 for the total with them; 11 comes last
     pub masks-rules : (j : ℕ) (ms : sys .NewMasks) → rulesOf sys (setMasks j ms) m rows
-        ≡ (modelRulesWith sys m (sys .fitMasks ms) true ++ (rule 8 (atMost (rowCapacity sys rows) (totalRows sys (sys .putMasks (m .words) j ms) (m .numbers))) ∷ []))
-        ++ (rule 11 (ltb j (jointCount sys (m .words) (m .numbers))) ∷ [])
+        ≡ (modelRulesWith sys m (sys .fitMasks ms) true ++ (rule 8 (atMost (rowCapacity store rows) (totalRows store (sys .putMasks (m .words) j ms) (m .numbers))) ∷ []))
+        ++ (rule 11 (ltb j (jointCount store (m .words) (m .numbers))) ∷ [])
     unfolding rulesOf storageRule jointRule
     masks-rules j ms = refl
 
 module _ (sys : System) where
+  open System sys using (store)
+
   -- ---- the mark
 
   -- a granted load clears the mark, and so do new masks, a granted build sets it, and no other call changes it
@@ -138,10 +140,10 @@ module _ (sys : System) where
       → MakesRows (modelCalls sys) (build warm substep) (run sys (build warm substep) m rows)
   build-makes warm substep m rows e = (refl, e)
 
-  pub refused-makes-none : (c : Call sys) (o : Outcome sys) → refusalOf (o .answer) ≢ 0 → MakesRows (modelCalls sys) c o → ⊥
+  pub refused-makes-none : (c : Call sys) (o : Outcome store) → refusalOf (o .answer) ≢ 0 → MakesRows (modelCalls sys) c o → ⊥
   refused-makes-none c o n h = n (h .1)
 
   -- the joint's own ids and rows
-  pub read-own : (j : ℕ) (m : Model) (rows : List Float) → grantedOf sys (readRows j) m rows .answer ≡ rowsRead (jointIds sys (m .words) j) (rowsOf sys (m .words) rows j)
+  pub read-own : (j : ℕ) (m : Model) (rows : List Float) → grantedOf sys (readRows j) m rows .answer ≡ rowsRead (jointIds store (m .words) j) (rowsOf store (m .words) rows j)
   unfolding grantedOf
   read-own j m rows = refl

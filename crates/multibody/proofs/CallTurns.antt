@@ -15,6 +15,7 @@ use Rattle.rows.specs.declared.joint_constraint_builder.Warmstart.{Warmstart}
 use Rattle.rows.specs.declared.joint_velocity_constraint.WritebackId.{WritebackId}
 use Rattle.multibody.specs.Rules.{refusal}
 use Rattle.multibody.specs.Model.{Model, world, model, withBodies}
+use Rattle.multibody.specs.Store.{Store}
 use Rattle.multibody.specs.System.{System}
 use Rattle.multibody.specs.JointRows.{jointIds}
 use Rattle.multibody.specs.Counts.{jointCount, Sound, Room}
@@ -41,7 +42,8 @@ use Rattle.multibody.proofs.CallLocality.{warm-start-same, sweep-same, 
 use Rattle.multibody.proofs.SameRefusals.{about-asked, same-refusal}
 
 module _ {sys : System} (laws : Laws sys) where
-  open System sys using (Pose, SolverPose, solverPoseAt, velAt, putPose, NewMasks, Further)
+  open System sys using (store, NewMasks, Further)
+  open Store store using (Pose, SolverPose, solverPoseAt, velAt, putPose)
 
   -- ---- what a granted call's rules say of the model
 
@@ -75,15 +77,15 @@ module _ {sys : System} (laws : Laws sys) where
   pub record Related (set : ℕ → Bool) (named : ℕ → WritebackId → Type 0) (m m′ : Model) (rows rows′ : List Float) : Type 0 where
     pub held : RulesHold laws m
     pub held′ : RulesHold laws m′
-    pub agree : Agree sys set named m m′
+    pub agree : Agree store set named m m′
     pub mark : m .built ≡ m′ .built
-    pub same-rows : m .built ≡ true → RowsSame sys set m m′ rows rows′
+    pub same-rows : m .built ≡ true → RowsSame store set m m′ rows rows′
 
   -- after a call: what is shared of the models and the rows, and the answers
-  pub record Next (set : ℕ → Bool) (named : ℕ → WritebackId → Type 0) (m : Model) (c : Call sys) (o o′ : Outcome sys) : Type 0 where
-    pub agree : Agree sys set named (o .after) (o′ .after)
+  pub record Next (set : ℕ → Bool) (named : ℕ → WritebackId → Type 0) (m : Model) (c : Call sys) (o o′ : Outcome store) : Type 0 where
+    pub agree : Agree store set named (o .after) (o′ .after)
     pub mark : o .after .built ≡ o′ .after .built
-    pub same-rows : o .after .built ≡ true → RowsSame sys set (o .after) (o′ .after) (o .rows) (o′ .rows)
+    pub same-rows : o .after .built ≡ true → RowsSame store set (o .after) (o′ .after) (o .rows) (o′ .rows)
     pub answer : AboutSet sys set m (callTable sys c .asked) → withoutTotal (o .answer) ≡ withoutTotal (o′ .answer)
 
   -- a call that changes nothing where it is granted
@@ -91,7 +93,7 @@ module _ {sys : System} (laws : Laws sys) where
   left-alone c m rows e f = run-cases laws c m rows (λ o. (o .after ≡ m) × (o .rows ≡ rows)) (λ _. (e, f)) (refl, refl)
 
   -- a call that changes the poses of bodies outside the set at most
-  record Elsewhere (set : ℕ → Bool) (m : Model) (given : List Float) (o : Outcome sys) : Type 0 where
+  record Elsewhere (set : ℕ → Bool) (m : Model) (given : List Float) (o : Outcome store) : Type 0 where
     bodies : List Float
     changed : o .after ≡ withBodies m bodies
     rows-left : o .rows ≡ given
@@ -115,7 +117,7 @@ module _ {sys : System} (laws : Laws sys) where
 
   module _ (set : ℕ → Bool) {named : ℕ → WritebackId → Type 0} (m m′ : Model) (rows rows′ : List Float) (b : Related set named m m′ rows rows′) where
     -- a call that is refused alike: both are refused, or both are granted
-    alike : (c : Call sys) → SameAsked sys m m′ (callTable sys c .asked) → (callTable sys c .rowStorage ≡ true → Room sys m rows × Room sys m′ rows′)
+    alike : (c : Call sys) → SameAsked sys m m′ (callTable sys c .asked) → (callTable sys c .rowStorage ≡ true → Room store m rows × Room store m′ rows′)
         → BothOrNeither (callTable sys c .alike) (refusal (rulesOf sys c m rows)) (refusal (rulesOf sys c m′ rows′))
         → (refusal (rulesOf sys c m rows) ≡ 0 → refusal (rulesOf sys c m′ rows′) ≡ 0 → Next set named m c (grantedOf sys c m rows) (grantedOf sys c m′ rows′))
         → Next set named m c (run sys c m rows) (run sys c m′ rows′)
@@ -132,16 +134,16 @@ module _ {sys : System} (laws : Laws sys) where
 
     -- the models with other marks and bodies, where the set's bodies are still equal
     module _ (mark mark′ : Bool) (c c′ : List Float) (size : length c ≡ length (m .bodies)) (size′ : length c′ ≡ length (m′ .bodies)) where
-      agree-bodies : ((i : ℕ) → set i ≡ true → solverPoseAt c i ≡ solverPoseAt c′ i) → VelsSame sys set c c′
-          → Agree sys set named (model (m .params) mark c (m .words) (m .numbers)) (model (m′ .params) mark′ c′ (m′ .words) (m′ .numbers))
-      agree-bodies p v = agree-after sys set m m′ mark mark′ c c′ (m .numbers) (m′ .numbers) size size′ refl refl (b .agree) p v (b .agree .contents)
+      agree-bodies : ((i : ℕ) → set i ≡ true → solverPoseAt c i ≡ solverPoseAt c′ i) → VelsSame store set c c′
+          → Agree store set named (model (m .params) mark c (m .words) (m .numbers)) (model (m′ .params) mark′ c′ (m′ .words) (m′ .numbers))
+      agree-bodies p v = agree-after store set m m′ mark mark′ c c′ (m .numbers) (m′ .numbers) size size′ refl refl (b .agree) p v (b .agree .contents)
 
     -- rows of the set's joints
-    rows-after : (mark : Bool) (c r r′ : List Float) → RowsSame sys set m m′ r r′ → RowsSame sys set (model (m .params) mark c (m .words) (m .numbers)) m′ r r′
-    rows-after mark c r r′ s j i = s j (of-set-before sys set m mark c (m .numbers) refl j i)
+    rows-after : (mark : Bool) (c r r′ : List Float) → RowsSame store set m m′ r r′ → RowsSame store set (model (m .params) mark c (m .words) (m .numbers)) m′ r r′
+    rows-after mark c r r′ s j i = s j (of-set-before store set m mark c (m .numbers) refl j i)
 
     -- velocities alone have changed
-    agree-vels : (c c′ : List Float) → SamePoses laws (m .bodies) c → SamePoses laws (m′ .bodies) c′ → VelsSame sys set c c′ → Agree sys set named (withBodies m c) (withBodies m′ c′)
+    agree-vels : (c c′ : List Float) → SamePoses laws (m .bodies) c → SamePoses laws (m′ .bodies) c′ → VelsSame store set c c′ → Agree store set named (withBodies m c) (withBodies m′ c′)
     agree-vels c c′ p p′ v =
         agree-bodies (m .built) (m′ .built) c c′ (p .size) (p′ .size)
         (λ i s. p .poses i ∙ b .agree .poses i s ∙ sym (p′ .poses i)) v
@@ -165,8 +167,8 @@ module _ {sys : System} (laws : Laws sys) where
       placed-poses i′ s = by-cases (eqb i′ i)
           (λ t.
           rw (eqb-true i′ i t)
-          (laws .solverPoseAt-putPose (m .bodies) (m′ .bodies) i pose not-world (body-there sys (m .bodies) i (b .agree .present i inSet .0))
-          (body-there sys (m′ .bodies) i (b .agree .present i inSet .1)) (b .agree .poses i inSet)))
+          (laws .solverPoseAt-putPose (m .bodies) (m′ .bodies) i pose not-world (body-there store (m .bodies) i (b .agree .present i inSet .0))
+          (body-there store (m′ .bodies) i (b .agree .present i inSet .1)) (b .agree .poses i inSet)))
           (λ t.
           let n = eqb-false i′ i t in
           laws .solverPoseAt-putPose-other (m .bodies) i i′ pose n ∙ b .agree .poses i′ s ∙ sym (laws .solverPoseAt-putPose-other (m′ .bodies) i i′ pose n))
@@ -192,19 +194,19 @@ module _ {sys : System} (laws : Laws sys) where
     back-next t = record {
       agree = write-back-agrees laws set m m′ (b .agree) rows rows′ (b .same-rows t);
       mark = b .mark;
-      same-rows = λ e j i. b .same-rows e j (of-set-before sys set m (m .built) (m .bodies) _ (back-keeps laws (m .words) (m .numbers) rows 0 _ .size) j i);
+      same-rows = λ e j i. b .same-rows e j (of-set-before store set m (m .built) (m .bodies) _ (back-keeps laws (m .words) (m .numbers) rows 0 _ .size) j i);
       answer = λ _. refl;
     }
 
     -- the work on rows and velocities
-    module _ (room : Room sys m rows) (room′ : Room sys m′ rows′) where
-      ok : Sound sys m
+    module _ (room : Room store m rows) (room′ : Room store m′ rows′) where
+      ok : Sound store m
       ok = sound-held laws m (b .held)
 
-      ok′ : Sound sys m′
+      ok′ : Sound store m′
       ok′ = sound-held laws m′ (b .held′)
 
-      build-next : ((j : ℕ) (id : WritebackId) → List·Memᴰ id (jointIds sys (m .words) j) → named j id) → (warm : Warmstart) (substep : ℕ) → refusal (rulesOf sys (build warm substep) m rows) ≡ 0
+      build-next : ((j : ℕ) (id : WritebackId) → List·Memᴰ id (jointIds store (m .words) j) → named j id) → (warm : Warmstart) (substep : ℕ) → refusal (rulesOf sys (build warm substep) m rows) ≡ 0
           → Next set named m (build warm substep) (grantedOf sys (build warm substep) m rows) (grantedOf sys (build warm substep) m′ rows′)
       unfolding grantedOf
       build-next gives warm substep z = record {
@@ -218,8 +220,8 @@ module _ {sys : System} (laws : Laws sys) where
       warm-next : m .built ≡ true → Next set named m warmStart (grantedOf sys warmStart m rows) (grantedOf sys warmStart m′ rows′)
       unfolding grantedOf
       warm-next t =
-          let p = warm-keeps laws (m .bodies) (m .words) rows 0 (jointCount sys (m .words) (m .numbers)) in
-          let p′ = warm-keeps laws (m′ .bodies) (m′ .words) rows′ 0 (jointCount sys (m′ .words) (m′ .numbers)) in
+          let p = warm-keeps laws (m .bodies) (m .words) rows 0 (jointCount store (m .words) (m .numbers)) in
+          let p′ = warm-keeps laws (m′ .bodies) (m′ .words) rows′ 0 (jointCount store (m′ .words) (m′ .numbers)) in
           record {
             agree = agree-vels _ _ p p′ (warm-start-same laws set m m′ (b .agree) ok ok′ rows rows′ room room′ (b .same-rows t));
             mark = b .mark;
@@ -230,8 +232,8 @@ module _ {sys : System} (laws : Laws sys) where
       sweep-next : (n : ℕ) → m .built ≡ true → Next set named m (sweep n) (grantedOf sys (sweep n) m rows) (grantedOf sys (sweep n) m′ rows′)
       unfolding grantedOf
       sweep-next n t =
-          let p = sweep-keeps laws (m .bodies) rows (m .words) (jointCount sys (m .words) (m .numbers)) n .poses in
-          let p′ = sweep-keeps laws (m′ .bodies) rows′ (m′ .words) (jointCount sys (m′ .words) (m′ .numbers)) n .poses in
+          let p = sweep-keeps laws (m .bodies) rows (m .words) (jointCount store (m .words) (m .numbers)) n .poses in
+          let p′ = sweep-keeps laws (m′ .bodies) rows′ (m′ .words) (jointCount store (m′ .words) (m′ .numbers)) n .poses in
           let s = sweep-same laws set m m′ (b .agree) ok ok′ rows rows′ room room′ n (b .same-rows t) in
           record {
             agree = agree-vels _ _ p p′ (s .0);
@@ -259,7 +261,7 @@ module _ {sys : System} (laws : Laws sys) where
       answer = a;
     }
 
-    read-rows-next : (j : ℕ) → Room sys m rows × Room sys m′ rows′ → Next set named m (readRows j) (run sys (readRows j) m rows) (run sys (readRows j) m′ rows′)
+    read-rows-next : (j : ℕ) → Room store m rows × Room store m′ rows′ → Next set named m (readRows j) (run sys (readRows j) m rows) (run sys (readRows j) m′ rows′)
     unfolding grantedOf
     read-rows-next j room =
         unchanged (readRows j) (left-alone (readRows j) m rows refl refl) (left-alone (readRows j) m′ rows′ refl refl)
@@ -295,7 +297,7 @@ module _ {sys : System} (laws : Laws sys) where
         }
 
     -- new masks of a joint: granted in both, or refused in both, for a joint that only one of them has too
-    masks-next : (j : ℕ) (ms : NewMasks) → (callTable sys (setMasks j ms) .rowStorage ≡ true → Room sys m rows × Room sys m′ rows′)
+    masks-next : (j : ℕ) (ms : NewMasks) → (callTable sys (setMasks j ms) .rowStorage ≡ true → Room store m rows × Room store m′ rows′)
         → BothOrNeither (callTable sys (setMasks j ms) .alike) (refusal (rulesOf sys (setMasks j ms) m rows)) (refusal (rulesOf sys (setMasks j ms) m′ rows′))
         → Next set named m (setMasks j ms) (run sys (setMasks j ms) m rows) (run sys (setMasks j ms) m′ rows′)
     unfolding grantedOf
@@ -324,17 +326,17 @@ module _ {sys : System} (laws : Laws sys) where
         let g = further-granted laws f m rows z in
         let g′ = further-granted laws f m′ rows′ z′ in
         record {
-          agree = agree-after sys set m m′ (m .built) (m′ .built) (m .bodies) (m′ .bodies) _ _ refl refl (laws .further-size f m) (laws .further-size f m′) (b .agree) (b .agree .poses) (b .agree .velocities)
+          agree = agree-after store set m m′ (m .built) (m′ .built) (m .bodies) (m′ .bodies) _ _ refl refl (laws .further-size f m) (laws .further-size f m′) (b .agree) (b .agree .poses) (b .agree .velocities)
               (λ j i. laws .further-named f m m′ g g′ j (i .there) (b .agree .joints j i .there) (b .agree .contents j i));
           mark = b .mark;
-          same-rows = λ e j i. b .same-rows e j (of-set-before sys set m (m .built) (m .bodies) _ (laws .further-size f m) j i);
+          same-rows = λ e j i. b .same-rows e j (of-set-before store set m (m .built) (m .bodies) _ (laws .further-size f m) j i);
           answer = λ _. refl;
         }
 
     -- a call keeps what two studies share, and its answers about the set are the same
-    pub turn : (c : Call sys) → SameFurther sys m m′ (callTable sys c .asked) → (callTable sys c .rowStorage ≡ true → Room sys m rows × Room sys m′ rows′)
+    pub turn : (c : Call sys) → SameFurther sys m m′ (callTable sys c .asked) → (callTable sys c .rowStorage ≡ true → Room store m rows × Room store m′ rows′)
         → BothOrNeither (callTable sys c .alike) (refusal (rulesOf sys c m rows)) (refusal (rulesOf sys c m′ rows′))
-        → (MakesRows (modelCalls sys) c (run sys c m rows) → (j : ℕ) (id : WritebackId) → List·Memᴰ id (jointIds sys (m .words) j) → named j id)
+        → (MakesRows (modelCalls sys) c (run sys c m rows) → (j : ℕ) (id : WritebackId) → List·Memᴰ id (jointIds store (m .words) j) → named j id)
         → Next set named m c (run sys c m rows) (run sys c m′ rows′)
     turn load t r k d = alike load tt r k (λ z _. load-next)
     turn (place i pose) t r k d =
@@ -361,7 +363,7 @@ module _ {sys : System} (laws : Laws sys) where
       both-none c e e′ = counts-none c m rows e ∙ sym (counts-none c m′ rows′ e′)
 
       -- what a call counts for a joint of the set's is the same
-      pub counts-alike : (c : Call sys) → (callTable sys c .rowStorage ≡ true → Room sys m rows × Room sys m′ rows′) → OfSet sys set m j → countOf j (run sys c m rows .answer) ≡ countOf j (run sys c m′ rows′ .answer)
+      pub counts-alike : (c : Call sys) → (callTable sys c .rowStorage ≡ true → Room store m rows × Room store m′ rows′) → OfSet store set m j → countOf j (run sys c m rows .answer) ≡ countOf j (run sys c m′ rows′ .answer)
       unfolding grantedOf
       counts-alike (sweep n) r t =
           let e = same-refusal laws m m′ (b .held) (b .held′) (b .mark) rows rows′ (sweep n) tt r tt in
@@ -385,7 +387,7 @@ module _ {sys : System} (laws : Laws sys) where
       counts-alike (further f) r t = both-none (further f) refl refl
 
     -- it is refused alike where both models have what it asks for, or neither has it
-    pub refused-alike : (c : Call sys) → (callTable sys c .rowStorage ≡ true → Room sys m rows × Room sys m′ rows′)
+    pub refused-alike : (c : Call sys) → (callTable sys c .rowStorage ≡ true → Room store m rows × Room store m′ rows′)
         → BothOrNeither (callTable sys c .alike) (refusal (rulesOf sys c m rows)) (refusal (rulesOf sys c m′ rows′)) → SameAsked sys m m′ (callTable sys c .asked)
         → refusalOf (run sys c m rows .answer) ≡ refusalOf (run sys c m′ rows′ .answer)
     refused-alike c r k a =
@@ -400,9 +402,9 @@ module _ {sys : System} (laws : Laws sys) where
       by-cases (eqb k 0)
       (λ t.
       let z = eqb-true k 0 t in
-      let h = rules-hold laws m true (granted-front (modelRules sys m true) (storageRule sys m (s .rows) ∷ []) (granted-front (modelRules sys m true ++ (storageRule sys m (s .rows) ∷ [])) [] z)) in
-      (rw (l .byLoad) at (run-holds laws load m (s .rows) h), ap (λ (o : Outcome sys). o .after .built) (sym (l .byLoad) ∙ sym (run-granted load m (s .rows) z))))
+      let h = rules-hold laws m true (granted-front (modelRules sys m true) (storageRule store m (s .rows) ∷ []) (granted-front (modelRules sys m true ++ (storageRule store m (s .rows) ∷ [])) [] z)) in
+      (rw (l .byLoad) at (run-holds laws load m (s .rows) h), ap (λ (o : Outcome store). o .after .built) (sym (l .byLoad) ∙ sym (run-granted load m (s .rows) z))))
       (λ t.
-      let e : refused k ≡ granted = ap (λ (o : Outcome sys). o .answer) (run-refused load m (s .rows) refl (eqb-false k 0 t) ∙ l .byLoad) in
+      let e : refused k ≡ granted = ap (λ (o : Outcome store). o .answer) (run-refused load m (s .rows) refl (eqb-false k 0 t) ∙ l .byLoad) in
       let z : _≡_ {A = ℕ} 0 1 = cc in
       absurd (omega arith))

@@ -12,6 +12,7 @@ use lib.Ieee.{Float}
 use Rattle.rows.specs.declared.joint_constraint_builder.Warmstart.{Warmstart}
 use Rattle.multibody.specs.Rules.{Rule, refusal, all}
 use Rattle.multibody.specs.Model.{Model, withWords}
+use Rattle.multibody.specs.Store.{Store}
 use Rattle.multibody.specs.System.{System}
 use Rattle.multibody.specs.JointRows.{State, state, jointIds, rowCount, builtRows, buildJoint, writeBackJoint}
 use Rattle.multibody.specs.Counts.{jointCount, rowsBefore, totalRows, storeFirsts}
@@ -46,48 +47,50 @@ module _ {A : Type 0} where
 -- ---- words that differ in first rows at most
 
 module _ {sys : System} (laws : Laws sys) {w w′ : List ℕ} (s : SameWords laws w w′) where
-  count-kept : (j : ℕ) → rowCount sys w′ j ≡ rowCount sys w j
+  open System sys using (store)
+
+  count-kept : (j : ℕ) → rowCount store w′ j ≡ rowCount store w j
   unfolding rowCount
   count-kept j = rw (ids-kept laws s j)
 
-  warm-kept : (rows : List Float) (j : ℕ) (b : List Float) → warmstartOne sys w′ rows j b ≡ warmstartOne sys w rows j b
+  warm-kept : (rows : List Float) (j : ℕ) (b : List Float) → warmstartOne store w′ rows j b ≡ warmstartOne store w rows j b
   unfolding warmstartOne
   warm-kept rows j b = rw (rows-kept laws s j, count-kept j, s .reworded .body1 j, s .reworded .body2 j)
 
-  sweep-kept : (j : ℕ) (st : State) → sweepOne sys w′ j st ≡ sweepOne sys w j st
+  sweep-kept : (j : ℕ) (st : State) → sweepOne store w′ j st ≡ sweepOne store w j st
   unfolding sweepOne
   sweep-kept j st = rw (rows-kept laws s j, count-kept j, s .reworded .body1 j, s .reworded .body2 j)
 
-  bias-kept : (j : ℕ) (rows : List Float) → removeBiasOne sys w′ j rows ≡ removeBiasOne sys w j rows
+  bias-kept : (j : ℕ) (rows : List Float) → removeBiasOne store w′ j rows ≡ removeBiasOne store w j rows
   unfolding removeBiasOne
   bias-kept j rows = rw (rows-kept laws s j, count-kept j)
 
-  back-kept : (rows : List Float) (j : ℕ) (n : List Float) → writeBackOne sys rows w′ j n ≡ writeBackOne sys rows w j n
+  back-kept : (rows : List Float) (j : ℕ) (n : List Float) → writeBackOne store rows w′ j n ≡ writeBackOne store rows w j n
   unfolding writeBackOne writeBackJoint
   back-kept rows j n = rw (rows-kept laws s j, ids-kept laws s j)
 
-  of-kept : (rows : List Float) (j : ℕ) → rowsOf sys w′ rows j ≡ rowsOf sys w rows j
+  of-kept : (rows : List Float) (j : ℕ) → rowsOf store w′ rows j ≡ rowsOf store w rows j
   unfolding rowsOf
   of-kept rows j = rw (rows-kept laws s j, count-kept j)
 
   -- a round of a sweep, and its counts
-  round-kept : (joints : ℕ) (st : State) → sweepRound sys w′ joints st ≡ sweepRound sys w joints st
+  round-kept : (joints : ℕ) (st : State) → sweepRound store w′ joints st ≡ sweepRound store w joints st
   unfolding sweepRound
-  round-kept joints st = each-same (sweepOne sys w′) (sweepOne sys w) sweep-kept joints 0 st
+  round-kept joints st = each-same (sweepOne store w′) (sweepOne store w) sweep-kept joints 0 st
 
-  motors-kept : (j : ℕ) (st : State) → countOne sys w′ j st ≡ countOne sys w j st
+  motors-kept : (j : ℕ) (st : State) → countOne store w′ j st ≡ countOne store w j st
   unfolding countOne
   motors-kept j st = rw (ids-kept laws s j, rows-kept laws s j, s .reworded .body1 j, s .reworded .body2 j)
 
-  motors-round : (n j : ℕ) (st : State) → countRound sys w′ j n st ≡ countRound sys w j n st
+  motors-round : (n j : ℕ) (st : State) → countRound store w′ j n st ≡ countRound store w j n st
   unfolding countRound
   motors-round zero j st = refl
-  motors-round (suc n) j st = rw (motors-kept j st, sweep-kept j st, motors-round n (j + 1) (sweepOne sys w j st))
+  motors-round (suc n) j st = rw (motors-kept j st, sweep-kept j st, motors-round n (j + 1) (sweepOne store w j st))
 
-  counts-kept : (joints n : ℕ) (st : State) → sweepCounts sys w′ joints n st ≡ sweepCounts sys w joints n st
+  counts-kept : (joints n : ℕ) (st : State) → sweepCounts store w′ joints n st ≡ sweepCounts store w joints n st
   unfolding sweepCounts
   counts-kept joints zero st = refl
-  counts-kept joints (suc n) st = rw (rounds-same (sweepRound sys w′ joints) (sweepRound sys w joints) (round-kept joints) n st) (motors-round joints 0 _)
+  counts-kept joints (suc n) st = rw (rounds-same (sweepRound store w′ joints) (sweepRound store w joints) (round-kept joints) n st) (motors-round joints 0 _)
 
 -- ---- what a kind shows of its words
 
@@ -95,13 +98,12 @@ pub record Unread {sys : System} (laws : Laws sys) : Type 1 where
   pub Same : List ℕ → List ℕ → Type 0
   pub words : {a b : List ℕ} → Same a b → SameWords laws a b
   pub masks : {a b : List ℕ} (j : ℕ) (ms : sys .NewMasks) → Same a b → Same (sys .putMasks a j ms) (sys .putMasks b j ms)
-  pub firsts : {a b : List ℕ} (n : ℕ) → Same a b → Same (storeFirsts sys 0 n a) (storeFirsts sys 0 n b)
-  -- further calls look at no words
-  pub rules : (f : sys .Further) (m : Model) (mark : Bool) (w : List ℕ) (joints : ℕ) → sys .furtherRules f (withWords m mark w) joints ≡ sys .furtherRules f m joints
-  pub numbers : (f : sys .Further) (m : Model) (mark : Bool) (w : List ℕ) (joints : ℕ) → sys .furtherNumbers f (withWords m mark w) joints ≡ sys .furtherNumbers f m joints
+  pub firsts : {a b : List ℕ} (n : ℕ) → Same a b → Same (storeFirsts (sys .store) 0 n a) (storeFirsts (sys .store) 0 n b)
+  pub rules : (f : sys .Further) (m : Model) (mark : Bool) {w : List ℕ} → Same (m .words) w → sys .furtherRules f (withWords m mark w) ≡ sys .furtherRules f m
+  pub numbers : (f : sys .Further) (m : Model) (mark : Bool) {w : List ℕ} → Same (m .words) w → sys .furtherNumbers f (withWords m mark w) ≡ sys .furtherNumbers f m
 
 -- two outcomes that differ in first rows alone
-pub record SameButFirsts {sys : System} (Same : List ℕ → List ℕ → Type 0) (o o′ : Outcome sys) : Type 0 where
+pub record SameButFirsts {store : Store} (Same : List ℕ → List ℕ → Type 0) (o o′ : Outcome store) : Type 0 where
   pub answer : o′ .answer ≡ o .answer
   pub params : o′ .after .params ≡ o .after .params
   pub mark : o′ .after .built ≡ o .after .built
@@ -111,19 +113,19 @@ pub record SameButFirsts {sys : System} (Same : List ℕ → List ℕ → Type 0
   pub rows : o′ .rows ≡ o .rows
 
 module _ {sys : System} {laws : Laws sys} (u : Unread laws) (m : Model) {w : List ℕ} (same : u .Same (m .words) w) (rows : List Float) where
-  open System sys using (maskRules, contentRules, finiteJoint)
+  open System sys using (store, maskRules, contentRules, finiteJoint)
 
   -- the other model
   abbrev other : Model
   other = withWords m (m .built) w
 
   abbrev joints : ℕ
-  joints = jointCount sys (m .words) (m .numbers)
+  joints = jointCount store (m .words) (m .numbers)
 
   s : SameWords laws (m .words) w
   s = u .words same
 
-  joints-same : jointCount sys w (m .numbers) ≡ joints
+  joints-same : jointCount store w (m .numbers) ≡ joints
   joints-same = same-count laws (s .reworded) (m .numbers)
 
   -- ---- the rules
@@ -133,8 +135,8 @@ module _ {sys : System} {laws : Laws sys} (u : Unread laws) (m : Model) {w : Lis
   unfolding modelRulesWith bodiesPresent bodiesApart
   model-same arguments =
       let r = s .reworded in
-      let present : all 0 joints (bodiesPresent sys (m .bodies) w) ≡ all 0 joints (bodiesPresent sys (m .bodies) (m .words)) = all-cong _ _ 0 joints (λ j _ _. rw (r .body1 j, r .body2 j)) in
-      let apart : all 0 joints (bodiesApart sys w) ≡ all 0 joints (bodiesApart sys (m .words)) = all-cong _ _ 0 joints (λ j _ _. rw (r .body1 j, r .body2 j)) in
+      let present : all 0 joints (bodiesPresent store (m .bodies) w) ≡ all 0 joints (bodiesPresent store (m .bodies) (m .words)) = all-cong _ _ 0 joints (λ j _ _. rw (r .body1 j, r .body2 j)) in
+      let apart : all 0 joints (bodiesApart store w) ≡ all 0 joints (bodiesApart store (m .words)) = all-cong _ _ 0 joints (λ j _ _. rw (r .body1 j, r .body2 j)) in
       let finite : all 0 joints (finiteJoint w (m .numbers)) ≡ all 0 joints (finiteJoint (m .words) (m .numbers)) = all-cong _ _ 0 joints (λ j _ _. r .finite (m .numbers) j) in
       rw (joints-same, s .mask-rules joints, present, apart, finite, r .contents (m .numbers) joints)
 
@@ -146,17 +148,17 @@ module _ {sys : System} {laws : Laws sys} (u : Unread laws) (m : Model) {w : Lis
       λ words rest. refused-append (maskRules words joints false) rest (λ z. omega (arith, sym (laws .own-masks words joints) ∙ z)) ∙ laws .own-masks words joints in
       rw joints-same (append-same (_ ∷ _ ∷ []) _ _ (three w _ ∙ sym (three (m .words) _)))
 
-  total-same : totalRows sys w (m .numbers) ≡ totalRows sys (m .words) (m .numbers)
+  total-same : totalRows store w (m .numbers) ≡ totalRows store (m .words) (m .numbers)
   total-same = rw (joints-same, rows-kept laws s joints)
 
   -- rule 8, of the model as it is or with new masks
-  storage-same : (change : Change sys) → storageRule sys (changed {sys = sys} other change) rows ≡ storageRule sys (changed {sys = sys} m change) rows
+  storage-same : (change : Change sys) → storageRule store (changed {sys = sys} other change) rows ≡ storageRule store (changed {sys = sys} m change) rows
   unfolding storageRule
   storage-same none = rw total-same
   storage-same (given j ms) =
       let t = u .words (u .masks j ms same) in
       let e = same-count laws (t .reworded) (m .numbers) in
-      rw (e, rows-kept laws t (jointCount sys (sys .putMasks (m .words) j ms) (m .numbers)))
+      rw (e, rows-kept laws t (jointCount store (sys .putMasks (m .words) j ms) (m .numbers)))
 
   own-same : (o : Own) → ownRule other o ≡ ownRule m o
   unfolding builtRule seedsRule
@@ -173,7 +175,7 @@ module _ {sys : System} {laws : Laws sys} (u : Unread laws) (m : Model) {w : Lis
   asked-same nothing = refl
   asked-same (body i) = refl
   asked-same (joint j) = rw joints-same
-  asked-same (named f) = u .rules f m (m .built) w _ ∙ ap (sys .furtherRules f m) joints-same
+  asked-same (named f) = u .rules f m (m .built) same
 
   rest-same : (c : Call sys) → ownRules sys c other ≡ ownRules sys c m
   rest-same c = rw (owns-same (callTable sys c .own), asked-same (callTable sys c .asked))
@@ -201,14 +203,14 @@ module _ {sys : System} {laws : Laws sys} (u : Unread laws) (m : Model) {w : Lis
 
   -- ---- what is granted
 
-  build-kept : (warm : Warmstart) (substep j : ℕ) (t : List Float) → buildOne sys other warm substep j t ≡ buildOne sys m warm substep j t
+  build-kept : (warm : Warmstart) (substep j : ℕ) (t : List Float) → buildOne store other warm substep j t ≡ buildOne store m warm substep j t
   unfolding buildOne buildJoint builtRows
   build-kept warm substep j t =
       let r = s .reworded in
       rw (rows-kept laws s j, count-kept laws s j, r .enabled j, r .body1 j, r .body2 j, s .joint (m .numbers) j)
 
-  swept-same : (n : ℕ) → rounds (sweepRound sys w (jointCount sys w (m .numbers))) n (state rows (m .bodies)) ≡ rounds (sweepRound sys (m .words) joints) n (state rows (m .bodies))
-  swept-same n = rw joints-same (rounds-same (sweepRound sys w joints) (sweepRound sys (m .words) joints) (round-kept laws s joints) n (state rows (m .bodies)))
+  swept-same : (n : ℕ) → rounds (sweepRound store w (jointCount store w (m .numbers))) n (state rows (m .bodies)) ≡ rounds (sweepRound store (m .words) joints) n (state rows (m .bodies))
+  swept-same n = rw joints-same (rounds-same (sweepRound store w joints) (sweepRound store (m .words) joints) (round-kept laws s joints) n (state rows (m .bodies)))
 
   granted-same : (c : Call sys) → SameButFirsts (u .Same) (grantedOf sys c m rows) (grantedOf sys c other rows)
   unfolding grantedOf
@@ -221,13 +223,13 @@ module _ {sys : System} {laws : Laws sys} (u : Unread laws) (m : Model) {w : Lis
     bodies = refl;
     words = same;
     numbers = refl;
-    rows = rw joints-same (each-same (buildOne sys other warm substep) (buildOne sys m warm substep) (build-kept warm substep) joints 0 rows);
+    rows = rw joints-same (each-same (buildOne store other warm substep) (buildOne store m warm substep) (build-kept warm substep) joints 0 rows);
   }
   granted-same warmStart = record {
     answer = refl;
     params = refl;
     mark = refl;
-    bodies = rw joints-same (each-same (warmstartOne sys w rows) (warmstartOne sys (m .words) rows) (warm-kept laws s rows) joints 0 (m .bodies));
+    bodies = rw joints-same (each-same (warmstartOne store w rows) (warmstartOne store (m .words) rows) (warm-kept laws s rows) joints 0 (m .bodies));
     words = same;
     numbers = refl;
     rows = refl;
@@ -248,7 +250,7 @@ module _ {sys : System} {laws : Laws sys} (u : Unread laws) (m : Model) {w : Lis
     bodies = refl;
     words = same;
     numbers = refl;
-    rows = rw joints-same (each-same (removeBiasOne sys w) (removeBiasOne sys (m .words)) (bias-kept laws s) joints 0 rows);
+    rows = rw joints-same (each-same (removeBiasOne store w) (removeBiasOne store (m .words)) (bias-kept laws s) joints 0 rows);
   }
   granted-same writeBack = record {
     answer = refl;
@@ -256,7 +258,7 @@ module _ {sys : System} {laws : Laws sys} (u : Unread laws) (m : Model) {w : Lis
     mark = refl;
     bodies = refl;
     words = same;
-    numbers = rw joints-same (each-same (writeBackOne sys rows w) (writeBackOne sys rows (m .words)) (back-kept laws s rows) joints 0 (m .numbers));
+    numbers = rw joints-same (each-same (writeBackOne store rows w) (writeBackOne store rows (m .words)) (back-kept laws s rows) joints 0 (m .numbers));
     rows = refl;
   }
   granted-same (readRows j) = record {
@@ -276,7 +278,7 @@ module _ {sys : System} {laws : Laws sys} (u : Unread laws) (m : Model) {w : Lis
     mark = refl;
     bodies = refl;
     words = same;
-    numbers = u .numbers f m (m .built) w _ ∙ ap (sys .furtherNumbers f m) joints-same;
+    numbers = u .numbers f m (m .built) same;
     rows = refl;
   }
 
@@ -292,5 +294,5 @@ module _ {sys : System} {laws : Laws sys} (u : Unread laws) (m : Model) {w : Lis
       let n = eqb-false k 0 t in
       rw (← run-refused c m rows refl n, ← run-refused c other rows (sym (refused-same c)) n) both-refused)
     where
-      both-refused : {k : ℕ} → SameButFirsts {sys = sys} (u .Same) (outcome (refused k) m rows) (outcome (refused k) other rows)
+      both-refused : {k : ℕ} → SameButFirsts {store = store} (u .Same) (outcome (refused k) m rows) (outcome (refused k) other rows)
       both-refused = record { answer = refl; params = refl; mark = refl; bodies = refl; words = same; numbers = refl; rows = refl }

@@ -11,6 +11,7 @@ use Rattle.rows.specs.declared.integration_parameters.IntegrationParameters.{In
 use Rattle.rows.specs.declared.joint_constraint_builder.Warmstart.{Warmstart}
 use Rattle.rows.specs.declared.joint_velocity_constraint.WritebackId.{WritebackId}
 use Rattle.multibody.specs.Model.{Model}
+use Rattle.multibody.specs.Store.{Store}
 use Rattle.multibody.specs.System.{System}
 use Rattle.multibody.specs.JointRows.{State, rowMasksAt, jointIds, rowCount, builtRows, sweepSide, warmstartRow, writeBackIds}
 use Rattle.multibody.specs.Refusals.{readsRows}
@@ -18,31 +19,32 @@ use Rattle.multibody.proofs.Tests.{by-cases}
 use Rattle.multibody.proofs.Laws.{SameJoint, Laws}
 
 module _ {sys : System} (laws : Laws sys) where
-  open System sys using (mostRows, SolverPose, ImpulseJoint, rowAt, velAt, solverPoseAt, jointAt, masksAt, enabledAt, body1At, body2At, builderUpdateOf, putVel, warmstartOf, putSeed, impulseOf)
+  open System sys using (store)
+  open Store store using (mostRows, SolverPose, ImpulseJoint, rowAt, velAt, solverPoseAt, jointAt, masksAt, enabledAt, body1At, body2At, builderUpdateOf, putVel, warmstartOf, putSeed, impulseOf)
 
   -- a joint that is enabled has the rows that its own masks give it
-  pub masks-enabled : (words : List ℕ) (j : ℕ) → isEnabled (enabledAt words j) ≡ true → rowMasksAt sys words j ≡ masksAt words j
+  pub masks-enabled : (words : List ℕ) (j : ℕ) → isEnabled (enabledAt words j) ≡ true → rowMasksAt store words j ≡ masksAt words j
   unfolding rowMasksAt
   masks-enabled words j on = rw on
 
   -- and one that is not has none
-  pub ids-disabled : (words : List ℕ) (j : ℕ) → isEnabled (enabledAt words j) ≡ false → jointIds sys words j ≡ []
+  pub ids-disabled : (words : List ℕ) (j : ℕ) → isEnabled (enabledAt words j) ≡ false → jointIds store words j ≡ []
   unfolding jointIds rowMasksAt
   ids-disabled words j off = rw off (laws .no-ids)
 
-  pub count-disabled : (words : List ℕ) (j : ℕ) → isEnabled (enabledAt words j) ≡ false → rowCount sys words j ≡ 0
+  pub count-disabled : (words : List ℕ) (j : ℕ) → isEnabled (enabledAt words j) ≡ false → rowCount store words j ≡ 0
   unfolding rowCount
   count-disabled words j off = rw (ids-disabled words j off)
 
   -- joints of equal contents have the same ids
-  pub same-ids : {named : WritebackId → Type 0} (m m′ : Model) (j : ℕ) → SameJoint sys named (m .words) (m .numbers) (m′ .words) (m′ .numbers) j
-      → jointIds sys (m .words) j ≡ jointIds sys (m′ .words) j
+  pub same-ids : {named : WritebackId → Type 0} (m m′ : Model) (j : ℕ) → SameJoint store named (m .words) (m .numbers) (m′ .words) (m′ .numbers) j
+      → jointIds store (m .words) j ≡ jointIds store (m′ .words) j
   unfolding jointIds rowMasksAt
   same-ids m m′ j s = rw (laws .same-masks (m .words) (m′ .words) (m .numbers) (m′ .numbers) j s, laws .same-enabled (m .words) (m′ .words) (m .numbers) (m′ .numbers) j s)
 
   -- as many rows are made as the joint has ids
   pub length-builtRows : (params : IntegrationParameters) (substep : ℕ) (warm : Warmstart) (bodies : List Float) (words : List ℕ) (numbers : List Float) (j : ℕ) (last : List Float)
-      → length last ≡ mostRows → length (builtRows sys params bodies words numbers j warm substep last) ≡ rowCount sys words j
+      → length last ≡ mostRows → length (builtRows store params bodies words numbers j warm substep last) ≡ rowCount store words j
   unfolding builtRows rowCount jointIds
   length-builtRows params substep warm bodies words numbers j last most =
       by-cases (isEnabled (enabledAt words j))
@@ -57,17 +59,17 @@ module _ {sys : System} (laws : Laws sys) where
 
   -- a row's warm start gives its two bodies their velocities, whatever its impulse is
   pub warm-each : (rows : List Float) (k b1 b2 : ℕ) (bodies : List Float) → let t = warmstartOf (rowAt rows k) (velAt bodies b1) (velAt bodies b2) in
-      warmstartRow sys rows k b1 b2 bodies ≡ putVel (putVel bodies b1 (t .vel1)) b2 (t .vel2)
+      warmstartRow store rows k b1 b2 bodies ≡ putVel (putVel bodies b1 (t .vel1)) b2 (t .vel2)
   unfolding warmstartRow
   warm-each rows k b1 b2 bodies = refl
 
   -- of a write-back's rows each in turn: its impulse is stored, whatever it is
   pub back-each : (rows : List Float) (k j : ℕ) (id : WritebackId) (ids : List WritebackId) (numbers : List Float)
-      → writeBackIds sys rows k j (id ∷ ids) numbers ≡ writeBackIds sys rows (k + 1) j ids (putSeed numbers j id (impulseOf (rowAt rows k)))
+      → writeBackIds store rows k j (id ∷ ids) numbers ≡ writeBackIds store rows (k + 1) j ids (putSeed numbers j id (impulseOf (rowAt rows k)))
   unfolding writeBackIds
   back-each rows k j id ids numbers = refl
 
   pub sides-same : (st st′ : State) (k k′ b1 b2 : ℕ) → rowAt (st .rows) k ≡ rowAt (st′ .rows) k′ → velAt (st .bodies) b1 ≡ velAt (st′ .bodies) b1
-      → velAt (st .bodies) b2 ≡ velAt (st′ .bodies) b2 → sweepSide sys k b1 b2 st ≡ sweepSide sys k′ b1 b2 st′
+      → velAt (st .bodies) b2 ≡ velAt (st′ .bodies) b2 → sweepSide store k b1 b2 st ≡ sweepSide store k′ b1 b2 st′
   unfolding sweepSide
   sides-same st st′ k k′ b1 b2 r u v = cc

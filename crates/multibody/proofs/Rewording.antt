@@ -12,6 +12,7 @@ use lib.ListN.{length}
 use lib.Ieee.{Float}
 use Rattle.rows.specs.declared.joint_velocity_constraint.WritebackId.{WritebackId}
 use Rattle.multibody.specs.Model.{Model, withWords}
+use Rattle.multibody.specs.Store.{Store}
 use Rattle.multibody.specs.System.{System}
 use Rattle.multibody.specs.JointRows.{rowMasksAt, jointIds, rowCount}
 use Rattle.multibody.specs.Counts.{jointCount, rowsBefore, totalRows, storeFirsts}
@@ -24,19 +25,20 @@ use Rattle.multibody.proofs.CountLaws.{joint-words}
 use Rattle.multibody.proofs.RefusalLaws.{RulesHold}
 
 module _ {sys : System} (laws : Laws sys) where
-  open System sys using (jointAt, masksAt, enabledAt, body1At, body2At, maskRules, finiteJoint, contentRules, SameNamed, putFirst, NewMasks, fitMasks, putMasks)
+  open System sys using (store, maskRules, finiteJoint, contentRules, NewMasks, fitMasks, putMasks)
+  open Store store using (jointAt, masksAt, enabledAt, body1At, body2At, SameNamed, putFirst)
 
   -- ---- counts and rules
 
-  pub same-count : {w w′ : List ℕ} → Reworded sys w w′ → (n : List Float) → jointCount sys w′ n ≡ jointCount sys w n
+  pub same-count : {w w′ : List ℕ} → Reworded sys w w′ → (n : List Float) → jointCount store w′ n ≡ jointCount store w n
   unfolding jointCount
   same-count r n = rw (r .size)
 
-  pub held-reworded : (m : Model) {w : List ℕ} → Reworded sys (m .words) w → RulesHold laws m → Hold (maskRules w (jointCount sys (m .words) (m .numbers)) true) → (mark : Bool)
+  pub held-reworded : (m : Model) {w : List ℕ} → Reworded sys (m .words) w → RulesHold laws m → Hold (maskRules w (jointCount store (m .words) (m .numbers)) true) → (mark : Bool)
       → RulesHold laws (withWords m mark w)
   unfolding bodiesPresent bodiesApart
   held-reworded m {w} r h fit mark =
-      let n : ℕ = jointCount sys (m .words) (m .numbers) in
+      let n : ℕ = jointCount store (m .words) (m .numbers) in
       let e = same-count r (m .numbers) in
       record {
         bodies = h .bodies;
@@ -54,17 +56,17 @@ module _ {sys : System} (laws : Laws sys) where
   -- ---- two studies
 
   module _ (set : ℕ → Bool) (m : Model) {w : List ℕ} (r : Reworded sys (m .words) w) (mark : Bool) (j : ℕ) where
-    of-set-now : OfSet sys set m j → OfSet sys set (withWords m mark w) j
+    of-set-now : OfSet store set m j → OfSet store set (withWords m mark w) j
     of-set-now o = record { there = rw (same-count r (m .numbers)) (o .there); inside1 = rw (r .body1 j) (o .inside1); inside2 = rw (r .body2 j) (o .inside2) }
 
-    of-set-then : OfSet sys set (withWords m mark w) j → OfSet sys set m j
+    of-set-then : OfSet store set (withWords m mark w) j → OfSet store set m j
     of-set-then o = record {
       there = rw (same-count r (m .numbers)) at (o .there);
       inside1 = rw (r .body1 j) at (o .inside1);
       inside2 = rw (r .body2 j) at (o .inside2);
     }
 
-    ties-then : Ties sys (withWords m mark w) j → Ties sys m j
+    ties-then : Ties store (withWords m mark w) j → Ties store m j
     ties-then t = record {
       there = rw (same-count r (m .numbers)) at (t .there);
       enabled = rw (r .enabled j) at (t .enabled);
@@ -73,8 +75,8 @@ module _ {sys : System} (laws : Laws sys) where
     }
 
   module _ (set : ℕ → Bool) {named : ℕ → WritebackId → Type 0} (m m′ : Model) {w w′ : List ℕ} (r : Reworded sys (m .words) w) (r′ : Reworded sys (m′ .words) w′) (mark mark′ : Bool) where
-    pub agree-reworded : Agree sys set named m m′ → ((j : ℕ) → OfSet sys set m j → SameNamed (named j) (jointAt w (m .numbers) j) (jointAt w′ (m′ .numbers) j))
-        → Agree sys set named (withWords m mark w) (withWords m′ mark′ w′)
+    pub agree-reworded : Agree store set named m m′ → ((j : ℕ) → OfSet store set m j → SameNamed (named j) (jointAt w (m .numbers) j) (jointAt w′ (m′ .numbers) j))
+        → Agree store set named (withWords m mark w) (withWords m′ mark′ w′)
     agree-reworded a same = record {
       params = a .params;
       closed = λ j t. ap set (r .body1 j) ∙ a .closed j (ties-then set m r mark j t) ∙ sym (ap set (r .body2 j));
@@ -124,12 +126,12 @@ module _ {sys : System} (laws : Laws sys) where
     mask-rules = λ joints. refl;
   }
 
-  pub firsts-same : (n j : ℕ) (w : List ℕ) → SameWords w (storeFirsts sys j n w)
+  pub firsts-same : (n j : ℕ) (w : List ℕ) → SameWords w (storeFirsts store j n w)
   unfolding storeFirsts
   firsts-same zero j w = no-change w
   firsts-same (suc n) j w =
-      let s = first-same w j (rowsBefore sys w j) in
-      let t = firsts-same n (j + 1) (putFirst w j (rowsBefore sys w j)) in
+      let s = first-same w j (rowsBefore store w j) in
+      let t = firsts-same n (j + 1) (putFirst w j (rowsBefore store w j)) in
       record {
         reworded = then-reworded (s .reworded) (t .reworded);
         masks = λ i. t .masks i ∙ s .masks i;
@@ -139,21 +141,21 @@ module _ {sys : System} (laws : Laws sys) where
 
   -- they have the same ids, and as many rows before each joint
   module _ {w w′ : List ℕ} (s : SameWords w w′) where
-    pub ids-kept : (i : ℕ) → jointIds sys w′ i ≡ jointIds sys w i
+    pub ids-kept : (i : ℕ) → jointIds store w′ i ≡ jointIds store w i
     unfolding jointIds rowMasksAt
     ids-kept i = rw (s .masks i, s .reworded .enabled i)
 
-    pub rows-kept : (j : ℕ) → rowsBefore sys w′ j ≡ rowsBefore sys w j
+    pub rows-kept : (j : ℕ) → rowsBefore store w′ j ≡ rowsBefore store w j
     unfolding rowsBefore rowCount
     rows-kept zero = refl
     rows-kept (suc j) = rw (rows-kept j, ids-kept j)
 
-  pub first-rows-kept : (w : List ℕ) (j k i : ℕ) → rowsBefore sys (putFirst w j k) i ≡ rowsBefore sys w i
+  pub first-rows-kept : (w : List ℕ) (j k i : ℕ) → rowsBefore store (putFirst w j k) i ≡ rowsBefore store w i
   first-rows-kept w j k i = rows-kept (first-same w j k) i
 
   -- load, on two studies that agree
-  pub agree-firsts : (set : ℕ → Bool) {named : ℕ → WritebackId → Type 0} (m m′ : Model) (n n′ : ℕ) (mark mark′ : Bool) → Agree sys set named m m′
-      → Agree sys set named (withWords m mark (storeFirsts sys 0 n (m .words))) (withWords m′ mark′ (storeFirsts sys 0 n′ (m′ .words)))
+  pub agree-firsts : (set : ℕ → Bool) {named : ℕ → WritebackId → Type 0} (m m′ : Model) (n n′ : ℕ) (mark mark′ : Bool) → Agree store set named m m′
+      → Agree store set named (withWords m mark (storeFirsts store 0 n (m .words))) (withWords m′ mark′ (storeFirsts store 0 n′ (m′ .words)))
   agree-firsts set m m′ n n′ mark mark′ a =
       let s = firsts-same n 0 (m .words) in
       let s′ = firsts-same n′ 0 (m′ .words) in
@@ -163,48 +165,48 @@ module _ {sys : System} (laws : Laws sys) where
 
   -- the words that a granted change of masks leaves
   abbrev pub masked : Model → ℕ → NewMasks → List ℕ
-  masked m j ms = storeFirsts sys 0 (jointCount sys (m .words) (m .numbers)) (putMasks (m .words) j ms)
+  masked m j ms = storeFirsts store 0 (jointCount store (m .words) (m .numbers)) (putMasks (m .words) j ms)
 
   module _ (m : Model) (j : ℕ) (ms : NewMasks) where
     masked-firsts : SameWords (putMasks (m .words) j ms) (masked m j ms)
-    masked-firsts = firsts-same (jointCount sys (m .words) (m .numbers)) 0 (putMasks (m .words) j ms)
+    masked-firsts = firsts-same (jointCount store (m .words) (m .numbers)) 0 (putMasks (m .words) j ms)
 
     pub masks-reworded : Reworded sys (m .words) (masked m j ms)
     masks-reworded = then-reworded (laws .putMasks-reworded (m .words) j ms) (masked-firsts .reworded)
 
     -- where the masks fit and the joint is there, the rules hold after it
-    pub masks-held : RulesHold laws m → fitMasks ms ≡ true → j < jointCount sys (m .words) (m .numbers) → (mark : Bool) → RulesHold laws (withWords m mark (masked m j ms))
+    pub masks-held : RulesHold laws m → fitMasks ms ≡ true → j < jointCount store (m .words) (m .numbers) → (mark : Bool) → RulesHold laws (withWords m mark (masked m j ms))
     masks-held h fit there mark =
         held-reworded m masks-reworded h
-        (rw (masked-firsts .mask-rules (jointCount sys (m .words) (m .numbers)))
-        (laws .maskRules-putMasks (m .words) j (jointCount sys (m .words) (m .numbers)) ms fit (joint-words sys (m .words) (m .numbers) j there) (h .masks))) mark
+        (rw (masked-firsts .mask-rules (jointCount store (m .words) (m .numbers)))
+        (laws .maskRules-putMasks (m .words) j (jointCount store (m .words) (m .numbers)) ms fit (joint-words store (m .words) (m .numbers) j there) (h .masks))) mark
 
     -- masks of a missing joint are counted nowhere
-    rows-below : (k : ℕ) → k ≤ j → rowsBefore sys (putMasks (m .words) j ms) k ≡ rowsBefore sys (m .words) k
+    rows-below : (k : ℕ) → k ≤ j → rowsBefore store (putMasks (m .words) j ms) k ≡ rowsBefore store (m .words) k
     unfolding rowsBefore rowCount jointIds rowMasksAt
     rows-below zero l = refl
     rows-below (suc k) l =
         rw (rows-below k (omega (arith, l)), laws .masksAt-putMasks-other (m .words) j k ms (λ e. omega (arith, e, l)), laws .putMasks-reworded (m .words) j ms .enabled k)
 
-    pub missing-total : jointCount sys (m .words) (m .numbers) ≤ j → totalRows sys (putMasks (m .words) j ms) (m .numbers) ≡ totalRows sys (m .words) (m .numbers)
+    pub missing-total : jointCount store (m .words) (m .numbers) ≤ j → totalRows store (putMasks (m .words) j ms) (m .numbers) ≡ totalRows store (m .words) (m .numbers)
     missing-total l =
         let e = same-count (laws .putMasks-reworded (m .words) j ms) (m .numbers) in
-        rw e (rows-below (jointCount sys (m .words) (m .numbers)) l)
+        rw e (rows-below (jointCount store (m .words) (m .numbers)) l)
 
   -- two studies given the same masks of one joint still agree
-  module _ (set : ℕ → Bool) {named : ℕ → WritebackId → Type 0} (m m′ : Model) (j : ℕ) (ms : NewMasks) (a : Agree sys set named m m′) where
-    masked-contents : (i : ℕ) → OfSet sys set m i → SameNamed (named i) (jointAt (putMasks (m .words) j ms) (m .numbers) i) (jointAt (putMasks (m′ .words) j ms) (m′ .numbers) i)
+  module _ (set : ℕ → Bool) {named : ℕ → WritebackId → Type 0} (m m′ : Model) (j : ℕ) (ms : NewMasks) (a : Agree store set named m m′) where
+    masked-contents : (i : ℕ) → OfSet store set m i → SameNamed (named i) (jointAt (putMasks (m .words) j ms) (m .numbers) i) (jointAt (putMasks (m′ .words) j ms) (m′ .numbers) i)
     masked-contents i o = by-cases (eqb i j)
         (λ t.
         let e = eqb-true i j t in
         rw (← e)
-        (laws .named-putMasks (m .words) (m′ .words) (m .numbers) (m′ .numbers) i ms (joint-words sys (m .words) (m .numbers) i (o .there))
-        (joint-words sys (m′ .words) (m′ .numbers) i (a .joints i o .there)) (a .contents i o)))
+        (laws .named-putMasks (m .words) (m′ .words) (m .numbers) (m′ .numbers) i ms (joint-words store (m .words) (m .numbers) i (o .there))
+        (joint-words store (m′ .words) (m′ .numbers) i (a .joints i o .there)) (a .contents i o)))
         (λ t.
         let n = eqb-false i j t in
         rw (laws .jointAt-putMasks-other (m .words) (m .numbers) j i ms n, laws .jointAt-putMasks-other (m′ .words) (m′ .numbers) j i ms n) (a .contents i o))
 
-    pub agree-masked : (mark mark′ : Bool) → Agree sys set named (withWords m mark (masked m j ms)) (withWords m′ mark′ (masked m′ j ms))
+    pub agree-masked : (mark mark′ : Bool) → Agree store set named (withWords m mark (masked m j ms)) (withWords m′ mark′ (masked m′ j ms))
     agree-masked mark mark′ =
         agree-reworded set m m′ (masks-reworded m j ms) (masks-reworded m′ j ms) mark mark′ a
         (λ i o. rw (masked-firsts m j ms .joint (m .numbers) i, masked-firsts m′ j ms .joint (m′ .numbers) i) (masked-contents i o))

@@ -17,7 +17,7 @@ use Rattle.multibody.specs.Model.{Model}
 use Rattle.multibody.specs.Counts.{bodyCount, jointCount}
 use Rattle.multibody.specs.Rules.{all}
 use Rattle.multibody.specs.Refusals.{presentOrWorld, bodiesPresent}
-use Rattle.model.specs.Planar.{planar}
+use Rattle.model.specs.Planar.{plane}
 use Rattle.model.specs.Refusals.{masksFit}
 use Rattle.study_reader.specs.Storage.{mostItems, settingsWidth, jointsPlace, numbersSize, wordsSize, namesSize, jointBase}
 use Rattle.study_reader.specs.Draft.{Draft, draft, withState, start, puts, settingsDefaults}
@@ -183,7 +183,7 @@ module _ (text : List ℕ) (m : Model) (s low high done nb nj cs : ℕ) (d : Dra
 
 -- ---- what rules 3 and 4 say of a joint's words
 
-fine : (m : Model) (j : ℕ) → masksFit (m .words) j ≡ true → bodiesPresent planar (m .bodies) (m .words) j ≡ true → Fine m (bodyCount planar (m .bodies)) j
+fine : (m : Model) (j : ℕ) → masksFit (m .words) j ≡ true → bodiesPresent plane (m .bodies) (m .words) j ≡ true → Fine m (bodyCount plane (m .bodies)) j
 unfolding masksFit all bodiesPresent presentOrWorld body1At body2At
 fine m j h p =
     let w : ℕ → ℕ = word wordsWidth (m .words) j in
@@ -191,7 +191,7 @@ fine m j h p =
     let b = both (not (ltb 7 (w (masksPlace + 1)))) (not (ltb 7 (w (masksPlace + 2))) && (not (ltb 7 (w (masksPlace + 3))) && true)) (a .1) in
     let c = both (not (ltb 7 (w (masksPlace + 2)))) (not (ltb 7 (w (masksPlace + 3))) && true) (b .1) in
     let d = both (not (ltb 7 (w (masksPlace + 3)))) true (c .1) in
-    let e = both (eqb (w body1Place) world || ltb (w body1Place) (bodyCount planar (m .bodies))) (eqb (w body2Place) world || ltb (w body2Place) (bodyCount planar (m .bodies))) p in
+    let e = both (eqb (w body1Place) world || ltb (w body1Place) (bodyCount plane (m .bodies))) (eqb (w body2Place) world || ltb (w body2Place) (bodyCount plane (m .bodies))) p in
     record {
       first = e .0;
       second = e .1;
@@ -254,10 +254,10 @@ module _ (m : Model) (p : Printable m) (numbers : List Float) (origins words nam
   text = studyText m
 
   abbrev nb : ℕ
-  nb = bodyCount planar (m .bodies)
+  nb = bodyCount plane (m .bodies)
 
   abbrev nj : ℕ
-  nj = jointCount planar (m .words) (m .numbers)
+  nj = jointCount plane (m .words) (m .numbers)
 
   abbrev first : Draft
   first = draft start (puts 0 settingsDefaults numbers) origins words names

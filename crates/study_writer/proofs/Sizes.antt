@@ -16,7 +16,7 @@ use Rattle.model.specs.Records.{num, word}
 use Rattle.model.specs.Store.{world}
 use Rattle.multibody.specs.Model.{Model}
 use Rattle.multibody.specs.Counts.{bodyCount, jointCount}
-use Rattle.model.specs.Planar.{planar}
+use Rattle.model.specs.Planar.{plane}
 use Rattle.texts.specs.Ascii.{ascii}
 use Rattle.study_writer.specs.Text.{Line, wordsOnto, lineOnto, linesText, numberWord, two, one, settingsLines, bodyWord, bodyLines, bodiesFrom, jointWord, endWord, modelWord, enabledWord, centerLine, jointLines, jointsFrom, studyLines, studyText}
 use Rattle.study_writer.proofs.Lexical.{both}
@@ -229,13 +229,13 @@ module _ (m : Model) where
       )
 
 -- the whole text
-pub study-size : (m : Model) → bodyCount planar (m .bodies) ≤ 128 → jointCount planar (m .words) (m .numbers) ≤ 128
-    → ((k : ℕ) → k < jointCount planar (m .words) (m .numbers) → Small m k)
+pub study-size : (m : Model) → bodyCount plane (m .bodies) ≤ 128 → jointCount plane (m .words) (m .numbers) ≤ 128
+    → ((k : ℕ) → k < jointCount plane (m .words) (m .numbers) → Small m k)
     → (length (studyText m) < 4294967295) × (length (studyLines m) ≤ length (studyText m))
 unfolding studyText studyLines settingsLines
 study-size m fb fj h =
-    let nb = bodyCount planar (m .bodies) in
-    let nj = jointCount planar (m .words) (m .numbers) in
+    let nb = bodyCount plane (m .bodies) in
+    let nj = jointCount plane (m .words) (m .numbers) in
     let b = bodies-short m nb 0 (omega arith) in
     let c = joints-short m nj 0 (omega arith) (λ k l. h k (omega arith)) in
     let bs = bodiesFrom (m .bodies) 0 nb in

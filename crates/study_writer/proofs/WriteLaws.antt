@@ -14,7 +14,7 @@ use Rattle.model.specs.Layout.{bodyWidth, wordsWidth, body1Place, body2Place, m
 use Rattle.model.specs.Model.{modelOf}
 use Rattle.multibody.specs.Model.{Model}
 use Rattle.multibody.specs.Counts.{bodyCount, jointCount}
-use Rattle.model.specs.Planar.{planar}
+use Rattle.model.specs.Planar.{plane}
 use Rattle.model.specs.declared.header.Header.{Header}
 use Rattle.study_writer.specs.Text.{linesText, settingsLines, bodiesFrom, jointsFrom, studyLines, studyText}
 use Rattle.study_writer.specs.Sink.{Sunk, printedText}
@@ -22,7 +22,7 @@ use Rattle.study_writer.proofs.Sizes.{Small, study-size}
 use Rattle.study_writer.proofs.SinkLaws.{put-there, end-there}
 
 -- whole records are there
-pub bodies-room : (bodies : List Float) (nb : ℕ) → nb ≡ bodyCount planar bodies → nb * bodyWidth ≤ length bodies
+pub bodies-room : (bodies : List Float) (nb : ℕ) → nb ≡ bodyCount plane bodies → nb * bodyWidth ≤ length bodies
 unfolding bodyCount
 bodies-room bodies nb e = omega arith
 
@@ -30,11 +30,11 @@ joint-cases : (t : Bool) (a b : ℕ) → ltb a b ≡ t → (cond t a b ≤ a) ×
 joint-cases true a b e = (omega arith, omega (arith, ltb-true a b e))
 joint-cases false a b e = (omega (arith, ltb-false a b e), omega arith)
 
-pub words-room : (words : List ℕ) (numbers : List Float) (nj : ℕ) → nj ≡ jointCount planar words numbers → nj * wordsWidth ≤ length words
+pub words-room : (words : List ℕ) (numbers : List Float) (nj : ℕ) → nj ≡ jointCount plane words numbers → nj * wordsWidth ≤ length words
 unfolding jointCount
 words-room words numbers nj e = let h = joint-cases (ltb (length words / wordsWidth) (length numbers / numbersWidth)) (length words / wordsWidth) (length numbers / numbersWidth) refl in omega (arith, h .0)
 
-pub numbers-room : (words : List ℕ) (numbers : List Float) (nj : ℕ) → nj ≡ jointCount planar words numbers → nj * numbersWidth ≤ length numbers
+pub numbers-room : (words : List ℕ) (numbers : List Float) (nj : ℕ) → nj ≡ jointCount plane words numbers → nj * numbersWidth ≤ length numbers
 unfolding jointCount
 numbers-room words numbers nj e = let h = joint-cases (ltb (length words / wordsWidth) (length numbers / numbersWidth)) (length words / wordsWidth) (length numbers / numbersWidth) refl in omega (arith, h .1)
 
@@ -43,21 +43,21 @@ module _ (h : Header) (bodies : List Float) (words : List ℕ) (numbers : List F
   m = modelOf h bodies words numbers
 
   -- too many bodies, or too many joints
-  pub no-bodies : (nb : ℕ) → nb ≡ bodyCount planar bodies → 128 < nb → printedText m ≡ []
+  pub no-bodies : (nb : ℕ) → nb ≡ bodyCount plane bodies → 128 < nb → printedText m ≡ []
   unfolding printedText
   no-bodies nb e l =
-      ap (λ (t : Bool). cond t (cond (leb (jointCount planar words numbers) 128) (studyText m) []) []) (lt-leb (bodyCount planar bodies) 128 (omega arith))
+      ap (λ (t : Bool). cond t (cond (leb (jointCount plane words numbers) 128) (studyText m) []) []) (lt-leb (bodyCount plane bodies) 128 (omega arith))
 
-  pub no-joints : (nb nj : ℕ) → nb ≡ bodyCount planar bodies → nb ≤ 128 → nj ≡ jointCount planar words numbers → 128 < nj → printedText m ≡ []
+  pub no-joints : (nb nj : ℕ) → nb ≡ bodyCount plane bodies → nb ≤ 128 → nj ≡ jointCount plane words numbers → 128 < nj → printedText m ≡ []
   unfolding printedText
   no-joints nb nj e k f l =
-      ap (λ (t : Bool). cond t (cond (leb (jointCount planar words numbers) 128) (studyText m) []) []) (le-leb (bodyCount planar bodies) 128 (omega arith))
-      ∙ ap (λ (t : Bool). cond t (studyText m) []) (lt-leb (jointCount planar words numbers) 128 (omega arith))
+      ap (λ (t : Bool). cond t (cond (leb (jointCount plane words numbers) 128) (studyText m) []) []) (le-leb (bodyCount plane bodies) 128 (omega arith))
+      ∙ ap (λ (t : Bool). cond t (studyText m) []) (lt-leb (jointCount plane words numbers) 128 (omega arith))
 
   pub none-left : (out : List ℕ) → printedText m ≡ [] → (0 ≡ length (printedText m)) × (out ≡ written out (printedText m))
   none-left out e = (sym (ap length e), empty-written out (printedText m) e)
 
-  module _ (nb nj : ℕ) (e : nb ≡ bodyCount planar bodies) (k : nb ≤ 128) (f : nj ≡ jointCount planar words numbers) (l : nj ≤ 128)
+  module _ (nb nj : ℕ) (e : nb ≡ bodyCount plane bodies) (k : nb ≤ 128) (f : nj ≡ jointCount plane words numbers) (l : nj ≤ 128)
       (small : (c : ℕ) → getD words c 0 < 4294967296) where
     abbrev whole : List ℕ
     whole = linesText (settingsLines (h .params) ++ (bodiesFrom bodies 0 nb ++ jointsFrom words numbers 0 nj))
@@ -66,14 +66,14 @@ module _ (h : Header) (bodies : List Float) (words : List ℕ) (numbers : List F
     unfolding studyText studyLines
     whole-is =
         ap (λ (n : ℕ). linesText (settingsLines (h .params) ++ (bodiesFrom bodies 0 n ++ jointsFrom words numbers 0 nj))) e
-        ∙ ap (λ (n : ℕ). linesText (settingsLines (h .params) ++ (bodiesFrom bodies 0 (bodyCount planar bodies) ++ jointsFrom words numbers 0 n))) f
+        ∙ ap (λ (n : ℕ). linesText (settingsLines (h .params) ++ (bodiesFrom bodies 0 (bodyCount plane bodies) ++ jointsFrom words numbers 0 n))) f
 
     printed : whole ≡ printedText m
     unfolding printedText
     printed =
         whole-is
-        ∙ sym (ap (λ (t : Bool). cond t (cond (leb (jointCount planar words numbers) 128) (studyText m) []) []) (le-leb (bodyCount planar bodies) 128 (omega arith))
-        ∙ ap (λ (t : Bool). cond t (studyText m) []) (le-leb (jointCount planar words numbers) 128 (omega arith)))
+        ∙ sym (ap (λ (t : Bool). cond t (cond (leb (jointCount plane words numbers) 128) (studyText m) []) []) (le-leb (bodyCount plane bodies) 128 (omega arith))
+        ∙ ap (λ (t : Bool). cond t (studyText m) []) (le-leb (jointCount plane words numbers) 128 (omega arith)))
 
     joint-small : (j : ℕ) → Small m j
     joint-small j =

@@ -16,7 +16,7 @@ use Rattle.model.specs.Store.{jointAt, centerAt, body1At, body2At}
 use Rattle.multibody.specs.Model.{Model, mostBodies, mostJoints}
 use Rattle.multibody.specs.Counts.{bodyCount, jointCount}
 use Rattle.multibody.specs.Refusals.{bodiesPresent}
-use Rattle.model.specs.Planar.{planar}
+use Rattle.model.specs.Planar.{plane}
 use Rattle.model.specs.Refusals.{masksFit}
 use Rattle.study_reader.specs.Storage.{settingsWidth, jointsPlace, numbersSize, wordsSize, namesSize}
 use Rattle.study_reader.specs.Draft.{Draft}
@@ -37,10 +37,10 @@ pub record AllF32 (m : Model) : Type 0 where
 -- rules 1 to 4: few enough bodies and joints, masks of the three axes, and each joint's bodies present or the world
 pub record Printable (m : Model) : Type 0 where
   pub f32 : AllF32 m
-  pub few-bodies : bodyCount planar (m .bodies) ≤ mostBodies
-  pub few-joints : jointCount planar (m .words) (m .numbers) ≤ mostJoints
-  pub masks : (j : ℕ) → j < jointCount planar (m .words) (m .numbers) → masksFit (m .words) j ≡ true
-  pub present : (j : ℕ) → j < jointCount planar (m .words) (m .numbers) → bodiesPresent planar (m .bodies) (m .words) j ≡ true
+  pub few-bodies : bodyCount plane (m .bodies) ≤ mostBodies
+  pub few-joints : jointCount plane (m .words) (m .numbers) ≤ mostJoints
+  pub masks : (j : ℕ) → j < jointCount plane (m .words) (m .numbers) → masksFit (m .words) j ≡ true
+  pub present : (j : ℕ) → j < jointCount plane (m .words) (m .numbers) → bodiesPresent plane (m .bodies) (m .words) j ≡ true
 
 -- the storage that the reading is lent; what it holds does not matter
 pub record Room (numbers : List Float) (origins words names : List ℕ) : Type 0 where
@@ -66,14 +66,14 @@ settingsRead d = record {
 -- what was read is the model, and no fault
 pub record IsRead (m : Model) (d : Draft) : Type 0 where
   pub no-fault : d .state .fault ≡ 0
-  pub body-count : d .state .bodies ≡ bodyCount planar (m .bodies)
-  pub joint-count : d .state .joints ≡ jointCount planar (m .words) (m .numbers)
+  pub body-count : d .state .bodies ≡ bodyCount plane (m .bodies)
+  pub joint-count : d .state .joints ≡ jointCount plane (m .words) (m .numbers)
   pub settings : settingsRead d ≡ m .params
-  pub bodies : (i k : ℕ) → i < bodyCount planar (m .bodies) → k < bodyWidth → num bodyWidth (bodiesRead d) i k ≡ num bodyWidth (m .bodies) i k
-  pub joints : (j : ℕ) → j < jointCount planar (m .words) (m .numbers) → jointAt (d .words) (jointsRead d) j ≡ jointAt (m .words) (m .numbers) j
-  pub centers : (j : ℕ) → j < jointCount planar (m .words) (m .numbers) → centerAt (d .words) (jointsRead d) j ≡ centerAt (m .words) (m .numbers) j
-  pub bodies1 : (j : ℕ) → j < jointCount planar (m .words) (m .numbers) → body1At (d .words) j ≡ body1At (m .words) j
-  pub bodies2 : (j : ℕ) → j < jointCount planar (m .words) (m .numbers) → body2At (d .words) j ≡ body2At (m .words) j
+  pub bodies : (i k : ℕ) → i < bodyCount plane (m .bodies) → k < bodyWidth → num bodyWidth (bodiesRead d) i k ≡ num bodyWidth (m .bodies) i k
+  pub joints : (j : ℕ) → j < jointCount plane (m .words) (m .numbers) → jointAt (d .words) (jointsRead d) j ≡ jointAt (m .words) (m .numbers) j
+  pub centers : (j : ℕ) → j < jointCount plane (m .words) (m .numbers) → centerAt (d .words) (jointsRead d) j ≡ centerAt (m .words) (m .numbers) j
+  pub bodies1 : (j : ℕ) → j < jointCount plane (m .words) (m .numbers) → body1At (d .words) j ≡ body1At (m .words) j
+  pub bodies2 : (j : ℕ) → j < jointCount plane (m .words) (m .numbers) → body2At (d .words) j ≡ body2At (m .words) j
 
 -- The theorem, proved in proofs/ReadBackLaws.antt: `read-back`, into any storage that is large enough; `study-back`, as the study that the text describes.
 abbrev pub ReadsBack : Type 0

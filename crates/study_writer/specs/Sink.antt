@@ -8,7 +8,7 @@ use lib.Dec.{ltb, leb}
 use lib.ListN.{set}
 use Rattle.multibody.specs.Model.{Model, mostBodies, mostJoints}
 use Rattle.multibody.specs.Counts.{bodyCount, jointCount}
-use Rattle.model.specs.Planar.{planar}
+use Rattle.model.specs.Planar.{plane}
 use Rattle.study_writer.specs.Text.{studyText}
 
 abbrev pub largestPlace : ℕ
@@ -32,4 +32,4 @@ pub record Sunk (out : List ℕ) (at : ℕ) (text : List ℕ) (out′ : List ℕ
 
 -- What is written of a model: its text; nothing where it has more bodies or joints than rules 1 and 2 let through.
 unfoldable pub printedText : Model → List ℕ
-printedText m = cond (leb (bodyCount planar (m .bodies)) mostBodies) (cond (leb (jointCount planar (m .words) (m .numbers)) mostJoints) (studyText m) []) []
+printedText m = cond (leb (bodyCount plane (m .bodies)) mostBodies) (cond (leb (jointCount plane (m .words) (m .numbers)) mostJoints) (studyText m) []) []

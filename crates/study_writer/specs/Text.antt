@@ -15,7 +15,7 @@ use Rattle.model.specs.Records.{num, word}
 use Rattle.model.specs.Store.{world}
 use Rattle.multibody.specs.Model.{Model}
 use Rattle.multibody.specs.Counts.{bodyCount, jointCount}
-use Rattle.model.specs.Planar.{planar}
+use Rattle.model.specs.Planar.{plane}
 
 -- ---- lines of words
 
@@ -178,7 +178,7 @@ jointsFrom words numbers j (suc n) = jointLines j (word wordsWidth words j) (num
 unfoldable pub studyLines : Model → List Line
 studyLines m =
     settingsLines (m .params)
-    ++ (bodiesFrom (m .bodies) 0 (bodyCount planar (m .bodies)) ++ jointsFrom (m .words) (m .numbers) 0 (jointCount planar (m .words) (m .numbers)))
+    ++ (bodiesFrom (m .bodies) 0 (bodyCount plane (m .bodies)) ++ jointsFrom (m .words) (m .numbers) 0 (jointCount plane (m .words) (m .numbers)))
 
 unfoldable pub studyText : Model → List ℕ
 studyText m = linesText (studyLines m)

@@ -9,7 +9,7 @@ ghost use Rattle.model.specs.Layout.{bodyWidth, wordsWidth, masksPlace, modelsP
 ghost use Rattle.model.specs.Records.{num, word};
 ghost use Rattle.model.specs.Model.{modelOf};
 ghost use Rattle.multibody.specs.Counts.{bodyCount, jointCount};
-ghost use Rattle.model.specs.Planar.{planar};
+ghost use Rattle.model.specs.Planar.{plane};
 ghost use Rattle.texts.specs.Digits.{decimal};
 ghost use Rattle.texts.specs.Ascii.{ascii};
 ghost use Rattle.study_writer.specs.Text.{linesText, numberWord, modelWord, settingsLines, bodyLines, bodiesFrom, jointHead, frameLines, allLimitsLines, allMotorsLines, softnessLines, jointLines, jointsFrom};
@@ -280,13 +280,13 @@ fn put_joints(out: &mut [u8], at: usize, n: u32, words: &[u32], s: &[f32]) -> us
 // ---- the whole text
 
 fn body_count(bodies: &[f32]) -> usize
-    ensures { λ r. ⌜ r ≡ bodyCount planar (now (bodies .entry)) ⌝ }
+    ensures { λ r. ⌜ r ≡ bodyCount plane (now (bodies .entry)) ⌝ }
 {
     bodies.len() / BODY_WIDTH
 }
 
 fn joint_count(words: &[u32], numbers: &[f32]) -> usize
-    ensures { λ r. ⌜ r ≡ jointCount planar (now (words .entry)) (now (numbers .entry)) ⌝ }
+    ensures { λ r. ⌜ r ≡ jointCount plane (now (words .entry)) (now (numbers .entry)) ⌝ }
 {
     let a = words.len() / WORDS_WIDTH;
     let b = numbers.len() / NUMBERS_WIDTH;

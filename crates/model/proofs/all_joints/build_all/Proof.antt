@@ -6,7 +6,7 @@ use native.Mathlib.Omega.{arith}
 use lib.ListN.{length}
 use Rattle.multibody.specs.Model.{model}
 use Rattle.multibody.specs.Calls.{buildOne}
-use Rattle.model.specs.Planar.{planar}
+use Rattle.model.specs.Planar.{plane}
 use Rattle.model.proofs.CountLaws.{joint-words, joint-numbers}
 use Rattle.model.proofs.AllJointsLaws.{Turn, first-turn, next-turn, no-turn, all-rows, rows-within}
 use borrow.Author.Needs.{needs}
@@ -15,7 +15,7 @@ use Rattle.model.proofs.all_joints.build_all.Tie as tie
 
 abbrev Inv-loop : tie.InvT-loop
 Inv-loop bodies words numbers rows₀ warmstart substep-id n params j₀ first₀ rows j first =
-    Turn (buildOne planar (model params true bodies words numbers) warmstart substep-id) words n rows₀ j first rows × (length rows ≡ length rows₀)
+    Turn (buildOne plane (model params true bodies words numbers) warmstart substep-id) words n rows₀ j first rows × (length rows ≡ length rows₀)
 
 abbrev μ-loop : tie.MeasureT-loop
 μ-loop bodies words numbers rows₀ warmstart substep-id n params j₀ first₀ rows j first = n - j

@@ -4,7 +4,7 @@ use mathlib.Core.Path.{_≡_, refl, _∙_}
 use native.Mathlib.Omega.{arith}
 use lib.ListN.{length}
 use Rattle.multibody.specs.Calls.{removeBiasOne}
-use Rattle.model.specs.Planar.{planar}
+use Rattle.model.specs.Planar.{plane}
 use Rattle.model.proofs.CountLaws.{joint-words}
 use Rattle.model.proofs.AllJointsLaws.{Turn, first-turn, next-turn, no-turn, rows-within}
 use borrow.Author.Needs.{needs}
@@ -12,7 +12,7 @@ use Rattle.model.proofs.all_joints.remove_bias_all.Statement.{statement
 use Rattle.model.proofs.all_joints.remove_bias_all.Tie as tie
 
 abbrev Inv-loop : tie.InvT-loop
-Inv-loop bodies words numbers rows₀ n j₀ first₀ rows j first = Turn (removeBiasOne planar words) words n rows₀ j first rows × (length rows ≡ length rows₀)
+Inv-loop bodies words numbers rows₀ n j₀ first₀ rows j first = Turn (removeBiasOne plane words) words n rows₀ j first rows × (length rows ≡ length rows₀)
 
 abbrev μ-loop : tie.MeasureT-loop
 μ-loop bodies words numbers rows₀ n j₀ first₀ rows j first = n - j

@@ -6,14 +6,14 @@ use lib.ListN.{length, length-set}
 use Rattle.rows.specs.RowIds.{filled}
 use Rattle.rows.specs.Update.{blankRow}
 use Rattle.multibody.specs.Calls.{rowsFrom}
-use Rattle.model.specs.Planar.{planar}
+use Rattle.model.specs.Planar.{plane}
 use Rattle.model.proofs.AllJointsLaws.{row-turn, no-rows, rows-array}
 use borrow.Author.Needs.{needs}
 use Rattle.model.proofs.all_joints.rows_from.Statement.{statement}
 use Rattle.model.proofs.all_joints.rows_from.Tie as tie
 
 abbrev Inv-loop : tie.InvT-loop
-Inv-loop rows k n out₀ i₀ out i = (i ≤ n) × (length out ≡ 6) × (out ≡ filled 6 blankRow (rowsFrom planar rows k i))
+Inv-loop rows k n out₀ i₀ out i = (i ≤ n) × (length out ≡ 6) × (out ≡ filled 6 blankRow (rowsFrom plane rows k i))
 
 abbrev μ-loop : tie.MeasureT-loop
 μ-loop rows k n out₀ i₀ out i = n - i

@@ -6,7 +6,7 @@ use lib.ListN.{length}
 use Rattle.multibody.specs.JointRows.{state}
 use Rattle.multibody.specs.Counts.{jointCount}
 use Rattle.multibody.specs.Calls.{rounds, counted, countedRound}
-use Rattle.model.specs.Planar.{planar}
+use Rattle.model.specs.Planar.{plane}
 use Rattle.model.proofs.AllJointsLaws.{next-round, no-round, still-sound, still-room}
 use borrow.Author.Needs.{needs}
 use Rattle.model.proofs.all_joints.sweep_all.Statement.{statement}
@@ -15,8 +15,8 @@ use Rattle.model.proofs.all_joints.sweep_all.Tie as tie
 abbrev Inv-loop : tie.InvT-loop
 Inv-loop header bodies₀ words numbers rows₀ counts₀ n i₀ bodies rows counts i =
     (i ≤ n) × (length bodies ≡ length bodies₀) × (length rows ≡ length rows₀) × (length counts ≡ length counts₀)
-    × (rounds (countedRound planar words (jointCount planar words numbers)) (n - i) (counted (state rows bodies) counts)
-    ≡ rounds (countedRound planar words (jointCount planar words numbers)) n (counted (state rows₀ bodies₀) counts₀))
+    × (rounds (countedRound plane words (jointCount plane words numbers)) (n - i) (counted (state rows bodies) counts)
+    ≡ rounds (countedRound plane words (jointCount plane words numbers)) n (counted (state rows₀ bodies₀) counts₀))
 
 abbrev μ-loop : tie.MeasureT-loop
 μ-loop header bodies₀ words numbers rows₀ counts₀ n i₀ bodies rows counts i = n - i

@@ -5,7 +5,7 @@ use native.Mathlib.Omega.{arith}
 use lib.ListN.{length, length-set}
 use Rattle.multibody.specs.JointRows.{state}
 use Rattle.multibody.specs.Calls.{counted, countedOne, countedRound}
-use Rattle.model.specs.Planar.{planar}
+use Rattle.model.specs.Planar.{plane, planar}
 use Rattle.model.proofs.JointRowsLaws.{few-rows}
 use Rattle.multibody.proofs.MotorCounts.{counted-turn}
 use Rattle.model.proofs.CountLaws.{joint-words}
@@ -16,7 +16,7 @@ use Rattle.model.proofs.all_joints.sweep_round.Tie as tie
 
 abbrev Inv-loop : tie.InvT-loop
 Inv-loop bodies₀ words numbers rows₀ counts₀ n j₀ first₀ bodies rows counts j first =
-    Turn (countedOne planar words) words n (counted (state rows₀ bodies₀) counts₀) j first (counted (state rows bodies) counts)
+    Turn (countedOne plane words) words n (counted (state rows₀ bodies₀) counts₀) j first (counted (state rows bodies) counts)
     × (length rows ≡ length rows₀) × (length bodies ≡ length bodies₀) × (length counts ≡ length counts₀)
 
 abbrev μ-loop : tie.MeasureT-loop
@@ -99,7 +99,7 @@ loop-again c =
     let lp = ca .before .before in
     let t = lp .loop .inv .0 in (
       next-turn _ _ _ t (ca .before .loop-test .taken) (ca .count-at .ensures)
-          (counted-turn planar _ (lp .loop .j) _ _ (t .begins) (ca .count-at .ensures) (ma .motors-at .ensures) (b1 .body1-at .ensures) (b2 .body2-at .ensures) (sj .sweep-joint .ensures .0)
+          (counted-turn plane _ (lp .loop .j) _ _ (t .begins) (ca .count-at .ensures) (ma .motors-at .ensures) (b1 .body1-at .ensures) (b2 .body2-at .ensures) (sj .sweep-joint .ensures .0)
           (sj .sweep-joint .ensures .1)),
       sj .sweep-joint .kept .0 ∙ lp .loop .inv .1,
       sj .sweep-joint .kept .1 .1 .1 .1 .0 ∙ lp .loop .inv .2,

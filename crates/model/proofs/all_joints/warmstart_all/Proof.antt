@@ -4,7 +4,7 @@ use mathlib.Core.Path.{_≡_, refl, _∙_}
 use native.Mathlib.Omega.{arith}
 use lib.ListN.{length}
 use Rattle.multibody.specs.Calls.{warmstartOne}
-use Rattle.model.specs.Planar.{planar}
+use Rattle.model.specs.Planar.{plane}
 use Rattle.model.proofs.CountLaws.{joint-words}
 use Rattle.model.proofs.AllJointsLaws.{Turn, first-turn, next-turn, no-turn, rows-within}
 use borrow.Author.Needs.{needs}
@@ -12,7 +12,7 @@ use Rattle.model.proofs.all_joints.warmstart_all.Statement.{statement}
 use Rattle.model.proofs.all_joints.warmstart_all.Tie as tie
 
 abbrev Inv-loop : tie.InvT-loop
-Inv-loop bodies₀ words numbers rows n j₀ first₀ bodies j first = Turn (warmstartOne planar words rows) words n bodies₀ j first bodies × (length bodies ≡ length bodies₀)
+Inv-loop bodies₀ words numbers rows n j₀ first₀ bodies j first = Turn (warmstartOne plane words rows) words n bodies₀ j first bodies × (length bodies ≡ length bodies₀)
 
 abbrev μ-loop : tie.MeasureT-loop
 μ-loop bodies₀ words numbers rows n j₀ first₀ bodies j first = n - j

@@ -4,7 +4,7 @@ use mathlib.Core.Path.{_≡_, refl, _∙_}
 use native.Mathlib.Omega.{arith}
 use lib.ListN.{length}
 use Rattle.multibody.specs.Calls.{writeBackOne}
-use Rattle.model.specs.Planar.{planar}
+use Rattle.model.specs.Planar.{plane}
 use Rattle.model.proofs.CountLaws.{joint-words, joint-numbers}
 use Rattle.model.proofs.AllJointsLaws.{Turn, first-turn, next-turn, no-turn, rows-within}
 use borrow.Author.Needs.{needs}
@@ -12,7 +12,7 @@ use Rattle.model.proofs.all_joints.write_back_all.Statement.{statement}
 use Rattle.model.proofs.all_joints.write_back_all.Tie as tie
 
 abbrev Inv-loop : tie.InvT-loop
-Inv-loop bodies words numbers₀ rows n j₀ first₀ numbers j first = Turn (writeBackOne planar rows words) words n numbers₀ j first numbers × (length numbers ≡ length numbers₀)
+Inv-loop bodies words numbers₀ rows n j₀ first₀ numbers j first = Turn (writeBackOne plane rows words) words n numbers₀ j first numbers × (length numbers ≡ length numbers₀)
 
 abbrev μ-loop : tie.MeasureT-loop
 μ-loop bodies words numbers₀ rows n j₀ first₀ numbers j first = n - j

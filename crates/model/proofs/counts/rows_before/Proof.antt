@@ -4,14 +4,14 @@ use mathlib.Core.Path.{_≡_, sym, _∙_}
 use native.Mathlib.Omega.{arith}
 use borrow.Author.Needs.{needs}
 use Rattle.multibody.specs.Counts.{rowsBefore}
-use Rattle.model.specs.Planar.{planar}
+use Rattle.model.specs.Planar.{plane}
 use Rattle.model.proofs.JointRowsLaws.{few-rows}
 use Rattle.model.proofs.CountLaws.{rowsBefore-none, rowsBefore-next, rowsBefore-le}
 use Rattle.model.proofs.counts.rows_before.Statement.{statement}
 use Rattle.model.proofs.counts.rows_before.Tie as tie
 
 abbrev Inv-loop : tie.InvT-loop
-Inv-loop words j i₀ first₀ i first = (i ≤ j) × (first ≡ rowsBefore planar words i)
+Inv-loop words j i₀ first₀ i first = (i ≤ j) × (first ≡ rowsBefore plane words i)
 
 abbrev μ-loop : tie.MeasureT-loop
 μ-loop words j i₀ first₀ i first = j - i

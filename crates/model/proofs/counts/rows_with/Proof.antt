@@ -5,14 +5,14 @@ use native.Mathlib.Omega.{arith}
 use borrow.Author.Needs.{needs}
 use Rattle.multibody.specs.Counts.{rowsBefore}
 use Rattle.model.specs.Store.{putMasks}
-use Rattle.model.specs.Planar.{planar}
+use Rattle.model.specs.Planar.{plane}
 use Rattle.model.proofs.JointRowsLaws.{few-rows}
 use Rattle.model.proofs.CountLaws.{rowsBefore-none, rowsBefore-next, rowsBefore-le}
 use Rattle.model.proofs.counts.rows_with.Statement.{statement}
 use Rattle.model.proofs.counts.rows_with.Tie as tie
 
 abbrev Inv-loop : tie.InvT-loop
-Inv-loop words n j masks i₀ first₀ i first = (i ≤ n) × (first ≡ rowsBefore planar (putMasks words j masks) i)
+Inv-loop words n j masks i₀ first₀ i first = (i ≤ n) × (first ≡ rowsBefore plane (putMasks words j masks) i)
 
 abbrev μ-loop : tie.MeasureT-loop
 μ-loop words n j masks i₀ first₀ i first = n - i

@@ -7,7 +7,7 @@ use borrow.Author.Needs.{needs}
 use lib.ListN.{length, length-set}
 use Rattle.model.specs.Store.{putFirst}
 use Rattle.multibody.specs.Counts.{rowsBefore, storeFirsts}
-use Rattle.model.specs.Planar.{planar}
+use Rattle.model.specs.Planar.{plane}
 use Rattle.model.proofs.JointRowsLaws.{few-rows}
 use Rattle.model.proofs.CountLaws.{rowsBefore-none}
 use Rattle.model.proofs.StoredFirsts.{no-first, next-first, first-next, first-small}
@@ -16,7 +16,7 @@ use Rattle.model.proofs.counts.store_firsts.Tie as tie
 
 abbrev Inv-loop : tie.InvT-loop
 Inv-loop words₀ n j₀ first₀ words j first =
-    (j ≤ n) × (length words ≡ length words₀) × (first ≡ rowsBefore planar words j) × (storeFirsts planar j (n - j) words ≡ storeFirsts planar 0 n words₀)
+    (j ≤ n) × (length words ≡ length words₀) × (first ≡ rowsBefore plane words j) × (storeFirsts plane j (n - j) words ≡ storeFirsts plane 0 n words₀)
 
 abbrev μ-loop : tie.MeasureT-loop
 μ-loop words₀ n j₀ first₀ words j first = n - j

@@ -6,14 +6,14 @@ use lib.ListN.{length, length-set}
 use Rattle.floats.specs.Operators.{bits}
 use Rattle.rows.specs.RowIds.{filled}
 use Rattle.multibody.specs.JointRows.{impulsesAt}
-use Rattle.model.specs.Planar.{planar}
+use Rattle.model.specs.Planar.{plane}
 use Rattle.model.proofs.JointRowsLaws.{impulse-turn, no-impulses}
 use borrow.Author.Needs.{needs}
 use Rattle.model.proofs.joint_rows.impulses_at.Statement.{statement}
 use Rattle.model.proofs.joint_rows.impulses_at.Tie as tie
 
 abbrev Inv-loop : tie.InvT-loop
-Inv-loop rows k n out₀ i₀ out i = (i ≤ n) × (length out ≡ 6) × (out ≡ filled 6 (bits 0) (impulsesAt planar rows k i))
+Inv-loop rows k n out₀ i₀ out i = (i ≤ n) × (length out ≡ 6) × (out ≡ filled 6 (bits 0) (impulsesAt plane rows k i))
 
 abbrev μ-loop : tie.MeasureT-loop
 μ-loop rows k n out₀ i₀ out i = n - i

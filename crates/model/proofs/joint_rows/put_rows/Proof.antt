@@ -5,14 +5,14 @@ use native.Mathlib.Nat.{add-zero}
 use native.Mathlib.Omega.{arith}
 use lib.ListN.{length, take, drop, length-map}
 use Rattle.multibody.specs.JointRows.{putRows}
-use Rattle.model.specs.Planar.{planar}
+use Rattle.model.specs.Planar.{plane}
 use Rattle.model.proofs.JointRowsLaws.{put-turn, put-done}
 use borrow.Author.Needs.{needs}
 use Rattle.model.proofs.joint_rows.put_rows.Statement.{statement}
 use Rattle.model.proofs.joint_rows.put_rows.Tie as tie
 
 abbrev Inv-loop : tie.InvT-loop
-Inv-loop rows₀ k made n i₀ rows i = (i ≤ n) × (n ≤ length (made .rows)) × (length rows ≡ length rows₀) × (putRows planar rows (k + i) (drop i (take n (made .rows))) ≡ putRows planar rows₀ k (take n (made .rows)))
+Inv-loop rows₀ k made n i₀ rows i = (i ≤ n) × (n ≤ length (made .rows)) × (length rows ≡ length rows₀) × (putRows plane rows (k + i) (drop i (take n (made .rows))) ≡ putRows plane rows₀ k (take n (made .rows)))
 
 abbrev μ-loop : tie.MeasureT-loop
 μ-loop rows₀ k made n i₀ rows i = n - i

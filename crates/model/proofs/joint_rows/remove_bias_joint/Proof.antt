@@ -5,7 +5,7 @@ use native.Mathlib.Nat.{add-zero, sub-zero}
 use native.Mathlib.Omega.{arith}
 use lib.ListN.{length}
 use Rattle.multibody.specs.JointRows.{removeBiasJoint}
-use Rattle.model.specs.Planar.{planar}
+use Rattle.model.specs.Planar.{plane}
 use Rattle.model.proofs.JointRowsLaws.{bias-turn, bias-done}
 use borrow.Author.Needs.{needs}
 use Rattle.model.proofs.joint_rows.remove_bias_joint.Statement.{statement}
@@ -13,7 +13,7 @@ use Rattle.model.proofs.joint_rows.remove_bias_joint.Tie as tie
 
 abbrev Inv-loop : tie.InvT-loop
 Inv-loop rows₀ k n i₀ rows i =
-    (i ≤ n) × (length rows ≡ length rows₀) × (removeBiasJoint planar (k + i) (n - i) rows ≡ removeBiasJoint planar k n rows₀)
+    (i ≤ n) × (length rows ≡ length rows₀) × (removeBiasJoint plane (k + i) (n - i) rows ≡ removeBiasJoint plane k n rows₀)
 
 abbrev μ-loop : tie.MeasureT-loop
 μ-loop rows₀ k n i₀ rows i = n - i

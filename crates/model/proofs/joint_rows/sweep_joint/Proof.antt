@@ -6,7 +6,7 @@ use native.Mathlib.Nat.{add-assoc, add-zero, zero-add, sub-zero}
 use native.Mathlib.Omega.{arith}
 use lib.ListN.{length}
 use Rattle.multibody.specs.JointRows.{state, sweepJoint, countRows}
-use Rattle.model.specs.Planar.{planar}
+use Rattle.model.specs.Planar.{plane, planar}
 use Rattle.model.proofs.JointRowsLaws.{sweep-turn, sweep-done}
 use Rattle.multibody.proofs.MotorCounts.{count-turn, count-done}
 use borrow.Author.Needs.{needs}
@@ -15,8 +15,8 @@ use Rattle.model.proofs.joint_rows.sweep_joint.Tie as tie
 
 abbrev Inv-loop : tie.InvT-loop
 Inv-loop rows₀ k n motors bodies₀ b1 b2 count₀ i₀ rows bodies count i =
-    (i ≤ n) × (length rows ≡ length rows₀) × (length bodies ≡ length bodies₀) × (sweepJoint planar (k + i) (n - i) b1 b2 (state rows bodies) ≡ sweepJoint planar k n b1 b2 (state rows₀ bodies₀))
-    × (count ≤ i) × (count + countRows planar (motors - i) (k + i) (n - i) b1 b2 (state rows bodies) ≡ countRows planar motors k n b1 b2 (state rows₀ bodies₀))
+    (i ≤ n) × (length rows ≡ length rows₀) × (length bodies ≡ length bodies₀) × (sweepJoint plane (k + i) (n - i) b1 b2 (state rows bodies) ≡ sweepJoint plane k n b1 b2 (state rows₀ bodies₀))
+    × (count ≤ i) × (count + countRows plane (motors - i) (k + i) (n - i) b1 b2 (state rows bodies) ≡ countRows plane motors k n b1 b2 (state rows₀ bodies₀))
 
 abbrev μ-loop : tie.MeasureT-loop
 μ-loop rows₀ k n motors bodies₀ b1 b2 count₀ i₀ rows bodies count i = n - i
@@ -58,7 +58,7 @@ loop-again c =
     let st = lp .before .before .before in
     let now = state (lp .loop .rows) (lp .loop .bodies) in
     let h = sweep-turn (st .args .n) (lp .loop .i) (st .args .k) (st .args .b1) (st .args .b2) now (lt .loop-test .taken) in
-    let g = count-turn planar (st .args .n) (lp .loop .i) (st .args .k) (st .args .motors) (st .args .b1) (st .args .b2) now (lt .loop-test .taken) in (
+    let g = count-turn plane (st .args .n) (lp .loop .i) (st .args .k) (st .args .motors) (st .args .b1) (st .args .b2) now (lt .loop-test .taken) in (
       omega (arith, lt .loop-test .taken),
       sr .sweep-row .kept .0 ∙ lp .loop .inv .1,
       sr .sweep-row .kept .1 .1 .0 ∙ lp .loop .inv .2,
@@ -81,7 +81,7 @@ returns c =
       omega (
         arith,
         lp .loop .inv .5,
-        count-done planar (st .args .n) (lp .loop .i) (st .args .k + lp .loop .i) (st .args .motors - lp .loop .i) (st .args .b1) (st .args .b2) now (c .loop-test .left),
+        count-done plane (st .args .n) (lp .loop .i) (st .args .k + lp .loop .i) (st .args .motors - lp .loop .i) (st .args .b1) (st .args .b2) now (c .loop-test .left),
       ),
       sym (sweep-done (st .args .n) (lp .loop .i) (st .args .k) (st .args .b1) (st .args .b2) now (c .loop-test .left)) ∙ lp .loop .inv .3,
     )

@@ -5,7 +5,7 @@ use native.Mathlib.Nat.{add-zero, sub-zero}
 use native.Mathlib.Omega.{arith}
 use lib.ListN.{length}
 use Rattle.multibody.specs.JointRows.{warmstartJoint}
-use Rattle.model.specs.Planar.{planar}
+use Rattle.model.specs.Planar.{plane}
 use Rattle.model.proofs.JointRowsLaws.{warmstart-turn, warmstart-done}
 use borrow.Author.Needs.{needs}
 use Rattle.model.proofs.joint_rows.warmstart_joint.Statement.{statement}
@@ -13,7 +13,7 @@ use Rattle.model.proofs.joint_rows.warmstart_joint.Tie as tie
 
 abbrev Inv-loop : tie.InvT-loop
 Inv-loop rows k n bodies₀ b1 b2 i₀ bodies i =
-    (i ≤ n) × (length bodies ≡ length bodies₀) × (warmstartJoint planar rows (k + i) (n - i) b1 b2 bodies ≡ warmstartJoint planar rows k n b1 b2 bodies₀)
+    (i ≤ n) × (length bodies ≡ length bodies₀) × (warmstartJoint plane rows (k + i) (n - i) b1 b2 bodies ≡ warmstartJoint plane rows k n b1 b2 bodies₀)
 
 abbrev μ-loop : tie.MeasureT-loop
 μ-loop rows k n bodies₀ b1 b2 i₀ bodies i = n - i

@@ -7,7 +7,7 @@ use lib.ListN.{length, drop}
 use Rattle.rows.specs.RowIds.{rowIdsArray}
 use Rattle.model.specs.Layout.{rowWidth}
 use Rattle.multibody.specs.JointRows.{jointIds, rowCount, writeBackIds, writeBackJoint, rowMasksAt}
-use Rattle.model.specs.Planar.{planar}
+use Rattle.model.specs.Planar.{plane}
 use Rattle.model.proofs.JointRowsLaws.{ids-len, few-rows, back-turn, back-done}
 use borrow.Author.Needs.{needs}
 use Rattle.model.proofs.joint_rows.write_back_joint.Statement.{statement}
@@ -15,8 +15,8 @@ use Rattle.model.proofs.joint_rows.write_back_joint.Tie as tie
 
 abbrev Inv-loop : tie.InvT-loop
 Inv-loop rows words k j numbers₀ ids n i₀ numbers i =
-    (i ≤ n) × (n ≤ 6) × (n ≡ rowCount planar words j) × ((k + n) * rowWidth ≤ length rows) × (length numbers ≡ length numbers₀) × (ids ≡ rowIdsArray (rowMasksAt planar words j))
-    × (writeBackIds planar rows (k + i) j (drop i (jointIds planar words j)) numbers ≡ writeBackIds planar rows k j (jointIds planar words j) numbers₀)
+    (i ≤ n) × (n ≤ 6) × (n ≡ rowCount plane words j) × ((k + n) * rowWidth ≤ length rows) × (length numbers ≡ length numbers₀) × (ids ≡ rowIdsArray (rowMasksAt plane words j))
+    × (writeBackIds plane rows (k + i) j (drop i (jointIds plane words j)) numbers ≡ writeBackIds plane rows k j (jointIds plane words j) numbers₀)
 
 abbrev μ-loop : tie.MeasureT-loop
 μ-loop rows words k j numbers₀ ids n i₀ numbers i = n - i

@@ -5,13 +5,13 @@ use mathlib.Core.Path.{sym, ap, _∙_}
 use borrow.Author.Tests.{eq-eqb, ne-eqb}
 use borrow.Author.Needs.{needs}
 use Rattle.multibody.specs.Refusals.{bodiesApart}
-use Rattle.model.specs.Planar.{planar}
+use Rattle.model.specs.Planar.{plane}
 use Rattle.model.proofs.RefusalLaws.{Undecided, undecided, still-undecided, one-fails, all-pass}
 use Rattle.model.proofs.refusals.all_bodies_apart.Statement.{statement}
 use Rattle.model.proofs.refusals.all_bodies_apart.Tie as tie
 
 abbrev Inv-loop : tie.InvT-loop
-Inv-loop words n j₀ j = Undecided (bodiesApart planar words) n j
+Inv-loop words n j₀ j = Undecided (bodiesApart plane words) n j
 
 abbrev μ-loop : tie.MeasureT-loop
 μ-loop words n j₀ j = n - j

@@ -2,13 +2,13 @@
 use Prim.Native.Nat.{_-_}
 use borrow.Author.Needs.{needs}
 use Rattle.multibody.specs.Refusals.{bodiesPresent}
-use Rattle.model.specs.Planar.{planar}
+use Rattle.model.specs.Planar.{plane}
 use Rattle.model.proofs.RefusalLaws.{holds, fails, Undecided, undecided, still-undecided, one-fails, all-pass}
 use Rattle.model.proofs.refusals.all_bodies_present.Statement.{statement}
 use Rattle.model.proofs.refusals.all_bodies_present.Tie as tie
 
 abbrev Inv-loop : tie.InvT-loop
-Inv-loop bodies words n j₀ j = Undecided (bodiesPresent planar bodies words) n j
+Inv-loop bodies words n j₀ j = Undecided (bodiesPresent plane bodies words) n j
 
 abbrev μ-loop : tie.MeasureT-loop
 μ-loop bodies words n j₀ j = n - j

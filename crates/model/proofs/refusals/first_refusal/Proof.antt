@@ -14,7 +14,7 @@ use Rattle.multibody.specs.Model.{mostBodies, mostJoints, Model}
 use Rattle.multibody.specs.Counts.{bodyCount, jointCount, rowsBefore, totalRows}
 use Rattle.multibody.specs.Rules.{Rule, rule, refusal, all, atMost}
 use Rattle.multibody.specs.Refusals.{finiteParams, allFinite, modelRules, modelRulesWith}
-use Rattle.model.specs.Planar.{jointRules, planar}
+use Rattle.model.specs.Planar.{jointRules, plane, planar}
 use Rattle.model.specs.Refusals.{finiteBody, finiteJoint, centerFits}
 use Rattle.model.proofs.CountLaws.{bodies-fit, joints-words, joints-numbers}
 use Rattle.model.proofs.RefusalLaws.{holds, fails, no-rules, rule-holds, rule-fails, granted-append, refused-append}
@@ -32,9 +32,9 @@ together true false true false = refl
 together true false false j = refl
 
 -- the rules in turn, from the counts that the code has
-module _ (m : Model) (arguments handed : Bool) (room : ℕ) {n joints : ℕ} (b : n ≡ bodyCount planar (m .bodies)) (j : joints ≡ jointCount planar (m .words) (m .numbers)) where
+module _ (m : Model) (arguments handed : Bool) (room : ℕ) {n joints : ℕ} (b : n ≡ bodyCount plane (m .bodies)) (j : joints ≡ jointCount plane (m .words) (m .numbers)) where
   abbrev eighth : Rule
-  eighth = rule 8 (not handed || atMost room (totalRows planar (m .words) (m .numbers)))
+  eighth = rule 8 (not handed || atMost room (totalRows plane (m .words) (m .numbers)))
 
   abbrev rules : List Rule
   rules = modelRules planar m arguments ++ (eighth ∷ [])
@@ -91,7 +91,7 @@ module _ (m : Model) (arguments handed : Bool) (room : ℕ) {n joints : ℕ} (b 
             not-handed : handed ≡ false → 0 ≡ refusal rules
             not-handed y = sym (positive l ∙ rule-holds _ _ (rw y) ∙ no-rules)
 
-            module _ (y : handed ≡ true) {total : ℕ} (w : total ≡ rowsBefore planar (m .words) joints) where
+            module _ (y : handed ≡ true) {total : ℕ} (w : total ≡ rowsBefore plane (m .words) joints) where
               no-room : room < total → 8 ≡ refusal rules
               no-room s = sym (positive l ∙ rule-fails _ _ (rw y (ap not (lt-ltb _ _ (rw (w, j) at s)))))
 

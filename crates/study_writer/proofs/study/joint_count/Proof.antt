@@ -1,7 +1,6 @@
 -- `joint_count` meets its contract.
 use borrow.Author.Tests.{lt-ltb, le-ltb}
 use Rattle.multibody.specs.Counts.{jointCount}
-use Rattle.model.specs.Planar.{planar}
 use Rattle.study_writer.proofs.study.joint_count.Statement.{statement}
 use Rattle.study_writer.proofs.study.joint_count.Tie as tie
 
