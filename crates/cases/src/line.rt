@@ -18,7 +18,7 @@ pub struct Line {
 }
 
 // What a word runs: a leaf whose answer is a number (1 to 10), a vector (11 to 19) or another (to 22); what a model is given (30 to 34); a call (40
-// to 50), or what calls left (51 to 54).
+// to 50, and 55), or what calls left (51 to 54, and 56).
 fn op_of(text: &[u8], w: Word) -> u32 {
     word_number(
         b"\
@@ -64,6 +64,8 @@ fn op_of(text: &[u8], w: Word) -> u32 {
         target 52\n\
         count 53\n\
         unchanged 54\n\
+        masks 55\n\
+        stored_word 56\n\
         ",
         0,
         text,

@@ -47,7 +47,7 @@ fn run_line(
                     text,
                     s,
                     &mut bodies[..b],
-                    &words[..w],
+                    &mut words[..w],
                     numbers,
                     &mut rows[..r],
                     l,
@@ -75,7 +75,7 @@ fn run(text: &[u8], bodies: &mut [f32], words: &mut [u32], numbers: &mut [f32], 
 fn main() {
     let mut text = [0u8; 8192];
     let mut bodies = [0.0f32; 1290];
-    let mut words = [0u32; 1419];
+    let mut words = [0u32; 1548];
     let mut numbers = [0.0f32; 5418];
     let mut rows = [0.0f32; 54];
     let n = io::read_full(STDIN_FILENO, &mut text);

@@ -21,11 +21,13 @@ use model::calls::place;
 use model::calls::read_rows;
 use model::calls::read_velocity;
 use model::calls::remove_bias;
+use model::calls::set_masks;
 use model::calls::set_targets;
 use model::calls::sweep;
 use model::calls::warm_start;
 use model::calls::write_back;
 use model::header::Header;
+use rows::generic_joint::Masks;
 use rows::integration_parameters::IntegrationParameters;
 use rows::joint_constraint_builder::Warmstart;
 use study_reader::words::Word;
@@ -84,9 +86,9 @@ fn set_word(s: &mut [u32], at: usize, x: u32) {
 // Every joint is between bodies 0 and 1.
 pub fn draw_words(words: &mut [u32]) {
     let mut i = 1usize;
-    while i < 1419 {
+    while i < 1548 {
         set_word(words, i, 1);
-        i += 11;
+        i += 12;
     }
 }
 
@@ -283,11 +285,37 @@ fn target(numbers: &[f32], at: usize) {
     }
 }
 
+// ---- masks that change (request R-10)
+
+// A joint that locks y and the angle, with other limits and motors.
+fn masks(text: &[u8], l: Line) -> Masks {
+    Masks {
+        locked_axes: 6,
+        limit_axes: whole_at(text, l.b),
+        motor_axes: whole_at(text, l.c),
+        coupled_axes: 0,
+    }
+}
+
+// Whether the model is still built.
+fn changed(answer: LoadAnswer) {
+    match answer {
+        LoadAnswer::Loaded(after) => show_truth(after.built),
+        LoadAnswer::Refused(k) => ended(k),
+    }
+}
+
+fn stored_word(words: &[u32], at: usize) {
+    if at < words.len() {
+        show_number(words[at]);
+    }
+}
+
 fn working(
     text: &[u8],
     s: State,
     bodies: &mut [f32],
-    words: &[u32],
+    words: &mut [u32],
     numbers: &mut [f32],
     rows: &mut [f32],
     l: Line,
@@ -306,6 +334,8 @@ fn working(
         52 => target(numbers, n as usize),
         53 => show_number(s.count),
         54 => show_truth(s.unchanged),
+        55 => changed(set_masks(h, bodies, words, numbers, rows, n, masks(text, l))),
+        56 => stored_word(words, n as usize),
         _ => built(build(h, bodies, words, numbers, rows, warmth(text, l), n)),
     }
 }
@@ -315,7 +345,7 @@ pub fn run_named(
     text: &[u8],
     s: State,
     bodies: &mut [f32],
-    words: &[u32],
+    words: &mut [u32],
     numbers: &mut [f32],
     rows: &mut [f32],
     l: Line,

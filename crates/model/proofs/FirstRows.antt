@@ -13,7 +13,7 @@ use Rattle.multibody.proofs.RuleLaws.{all-cong}
 use Rattle.multibody.proofs.Laws.{Reworded}
 use Rattle.model.specs.Layout.{wordsWidth, masksPlace, firstRowPlace}
 use Rattle.model.specs.Records.{word}
-use Rattle.model.specs.Store.{putFirst, jointAt, centerAt, masksAt, enabledAt, body1At, body2At}
+use Rattle.model.specs.Store.{putFirst, jointAt, centerAt, masksAt, enabledAt, enabledOf, body1At, body2At}
 use Rattle.model.specs.Refusals.{masksFit, finiteJoint, centerFits}
 use Rattle.model.specs.Planar.{planar}
 use Rattle.model.specs.FirstRows.{FirstRowsAlone}
@@ -35,7 +35,7 @@ module _ {w w′ : List ℕ} (a : FirstRowsAlone w w′) where
 
   enabled-alone : (i : ℕ) → enabledAt w′ i ≡ enabledAt w i
   unfolding enabledAt
-  enabled-alone i = rw (a .other i 9 (omega arith))
+  enabled-alone i = ap enabledOf (a .other i 9 (omega arith))
 
   finite-alone : (n : List Float) (i : ℕ) → finiteJoint w′ n i ≡ finiteJoint w n i
   unfolding finiteJoint

@@ -10,7 +10,7 @@ pub fn help() {
   study check FILE...  reads and loads, runs nothing
   study draw FILE      prints a picture of bodies, joints and row ids, in SVG
   study print FILE     prints the model as a study, every number as its bits
-  study example NAME   prints an example: knee, finger, finger_cut, wing, pendulum, leg
+  study example NAME   prints an example: knee, finger, finger_cut, wing, pendulum, leg, gait
   study --help, study --version
 
 Ends with 0 where all calls are granted, 1 where one is refused, 2 where something cannot be read or written.
@@ -31,8 +31,9 @@ A study is plain text: a line an item, # starts a comment.
 Then the calls, in order:
 
   load; place BODY X Y ANGLE (or COS SIN); build [warm C] [substep N]; warm_start; sweep N;
-  settle TOLERANCE [ROUNDS]; remove_bias; write_back; read_rows JOINT; read_velocity BODY; set_targets FILE (motor targets, RFC 4180); table;
-  table csv; repeat N .. end
+  settle TOLERANCE [ROUNDS]; remove_bias; write_back; read_rows JOINT; read_velocity BODY;
+  set_targets FILE (motor targets, RFC 4180); masks JOINT [lock AXES] [limit AXES] [motor AXES] [couple AXES];
+  table; table csv; repeat N .. end
 
 What is left out has the Rust's default. Numbers are decimals, f32 bits as 0x3F800000, inf and -inf.
 docs/STUDY.md has all of it, with units and signs; docs/RULES.md the rules that a table cites.

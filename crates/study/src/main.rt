@@ -19,6 +19,10 @@ use libc::STDERR_FILENO;
 use libc::STDIN_FILENO;
 use libc::STDOUT_FILENO;
 use model::header::Header;
+use model::layout::BODY_WIDTH;
+use model::layout::NUMBERS_WIDTH;
+use model::layout::ROW_WIDTH;
+use model::layout::WORDS_WIDTH;
 use out::err;
 use out::err_number;
 use out::err_part;
@@ -34,6 +38,10 @@ use study_reader::read::read_study;
 use study_reader::storage::BODIES;
 use study_reader::storage::JOINTS;
 use study_reader::storage::MOST;
+use study_reader::storage::NAMES;
+use study_reader::storage::NUMBERS;
+use study_reader::storage::ORIGINS;
+use study_reader::storage::WORDS;
 use study_reader::storage::number_at;
 use study_reader::tables::number_in;
 use study_reader::words::Word;
@@ -41,6 +49,13 @@ use study_reader::words::column_of;
 use study_reader::words::line_of;
 use study_writer::study::write_study;
 use warnings::warnings;
+
+// The numbers of all bodies that are read, of all joints, and of six rows a joint.
+const BODY_NUMBERS: usize = MOST as usize * BODY_WIDTH;
+
+const JOINT_NUMBERS: usize = MOST as usize * NUMBERS_WIDTH;
+
+const ROW_NUMBERS: usize = MOST as usize * 6 * ROW_WIDTH;
 
 // How a study ended: 0 granted, 1 refused, 2 not read.
 fn worse(a: u32, b: u32) -> u32 {
@@ -108,7 +123,7 @@ fn run_calls(
     text: &[u8],
     draft: &[f32],
     origins: &[u32],
-    words: &[u32],
+    words: &mut [u32],
     names: &[u32],
     bodies: &mut [f32],
     numbers: &mut [f32],
@@ -119,7 +134,7 @@ fn run_calls(
     if mode == PRINT {
         return print_model(header, bodies, words, numbers);
     }
-    let mut rows = [0.0f32; 13932];
+    let mut rows = [0.0f32; ROW_NUMBERS];
     if mode == CHECK {
         return check_study(
             text,
@@ -153,7 +168,7 @@ fn run_words(
     text: &[u8],
     draft: &[f32],
     origins: &[u32],
-    words: &[u32],
+    words: &mut [u32],
     names: &[u32],
     bodies: &mut [f32],
     numbers: &mut [f32],
@@ -164,7 +179,7 @@ fn run_words(
     if MOST < j {
         return NO_FILE;
     }
-    let w = 11 * j as usize;
+    let w = WORDS_WIDTH * j as usize;
     if words.len() < w {
         return NO_FILE;
     }
@@ -172,7 +187,7 @@ fn run_words(
         text,
         draft,
         origins,
-        &words[0..w],
+        &mut words[0..w],
         names,
         bodies,
         numbers,
@@ -186,7 +201,7 @@ fn run_numbers(
     text: &[u8],
     draft: &[f32],
     origins: &[u32],
-    words: &[u32],
+    words: &mut [u32],
     names: &[u32],
     bodies: &mut [f32],
     numbers: &mut [f32],
@@ -197,7 +212,7 @@ fn run_numbers(
     if MOST < j {
         return NO_FILE;
     }
-    let n = 42 * j as usize;
+    let n = NUMBERS_WIDTH * j as usize;
     if numbers.len() < n {
         return NO_FILE;
     }
@@ -220,7 +235,7 @@ fn run_bodies(
     text: &[u8],
     draft: &[f32],
     origins: &[u32],
-    words: &[u32],
+    words: &mut [u32],
     names: &[u32],
     bodies: &mut [f32],
     numbers: &mut [f32],
@@ -231,7 +246,7 @@ fn run_bodies(
     if MOST < i {
         return NO_FILE;
     }
-    let b = 10 * i as usize;
+    let b = BODY_WIDTH * i as usize;
     if bodies.len() < b {
         return NO_FILE;
     }
@@ -254,13 +269,13 @@ fn run_read(
     text: &[u8],
     draft: &[f32],
     origins: &[u32],
-    words: &[u32],
+    words: &mut [u32],
     names: &[u32],
     st: State,
     mode: u32,
 ) -> u32 {
-    let mut bodies = [0.0f32; 1290];
-    let mut numbers = [0.0f32; 5418];
+    let mut bodies = [0.0f32; BODY_NUMBERS];
+    let mut numbers = [0.0f32; JOINT_NUMBERS];
     run_bodies(
         text,
         draft,
@@ -287,10 +302,10 @@ fn status_of(refused: u32) -> u32 {
 
 // A study's text: read, run, and its end told.
 fn study(name: &[u8], text: &[u8], mode: u32) -> u32 {
-    let mut draft = [0.0f32; 6711];
-    let mut origins = [0u32; 8130];
-    let mut words = [0u32; 1419];
-    let mut names = [0u32; 516];
+    let mut draft = [0.0f32; NUMBERS];
+    let mut origins = [0u32; ORIGINS];
+    let mut words = [0u32; WORDS];
+    let mut names = [0u32; NAMES];
     let st = read_study(text, &mut draft, &mut origins, &mut words, &mut names);
     if st.fault != 0 {
         say_fault(name, text, st);
@@ -301,7 +316,7 @@ fn study(name: &[u8], text: &[u8], mode: u32) -> u32 {
         draw(text, &draft, &words, &names, st.bodies, st.joints);
         return 0;
     }
-    status_of(run_read(text, &draft, &origins, &words, &names, st, mode))
+    status_of(run_read(text, &draft, &origins, &mut words, &names, st, mode))
 }
 
 // ---- files and arguments

@@ -104,14 +104,15 @@ fn say_mask(text: &[u8], names: &[u32], origins: &[u32], words: &[u32], j: u32) 
     true
 }
 
-fn say_masks(text: &[u8], names: &[u32], origins: &[u32], words: &[u32], joints: u32) {
+fn say_masks(text: &[u8], names: &[u32], origins: &[u32], words: &[u32], joints: u32) -> bool {
     let mut j: u32 = 0;
     while j < joints {
         if say_mask(text, names, origins, words, j) {
-            return;
+            return true;
         }
         j += 1;
     }
+    false
 }
 
 fn say_twice(text: &[u8], names: &[u32], origins: &[u32], words: &[u32], j: u32) -> bool {
@@ -393,6 +394,14 @@ fn say_call(text: &[u8], c: Counts) {
     err_number(line_of(text, c.call));
 }
 
+// A joint's mask above 7, or one that a call brings.
+fn say_wide(text: &[u8], names: &[u32], origins: &[u32], words: &[u32], c: Counts) {
+    if say_masks(text, names, origins, words, c.joints) {
+        return;
+    }
+    say_call(text, c);
+}
+
 fn say_not_finite(
     text: &[u8],
     names: &[u32],
@@ -435,7 +444,7 @@ pub fn say_where(
     match k {
         1 => say_last_body(text, names),
         2 => say_last_joint(text, names),
-        3 => say_masks(text, names, origins, words, c.joints),
+        3 => say_wide(text, names, origins, words, c),
         5 => say_first_twice(text, names, origins, words, c.joints),
         6 => say_not_finite(text, names, origins, settings, bodies, words, numbers, c),
         7 => say_dt(text, origins),

@@ -33,6 +33,7 @@ use model::calls::load;
 use model::calls::place;
 use model::calls::read_velocity;
 use model::calls::remove_bias;
+use model::calls::set_masks;
 use model::calls::set_targets;
 use model::calls::sweep;
 use model::calls::warm_start;
@@ -46,6 +47,7 @@ use study_reader::draft::State;
 use study_reader::keywords::BUILD;
 use study_reader::keywords::END;
 use study_reader::keywords::LOAD;
+use study_reader::keywords::MASKS;
 use study_reader::keywords::PLACE;
 use study_reader::keywords::READ_ROWS;
 use study_reader::keywords::READ_VELOCITY;
@@ -81,14 +83,40 @@ fn plain(header: Header, answer: Plain) -> Done {
     }
 }
 
-fn run_load(header: Header, bodies: &[f32], words: &[u32], numbers: &[f32], rows: &[f32]) -> Done {
-    match load(header, bodies, words, numbers, rows) {
+// The header after a load, and after new masks.
+fn loaded(header: Header, answer: LoadAnswer) -> Done {
+    match answer {
         LoadAnswer::Loaded(after) => Done {
             header: after,
             refused: 0,
         },
         LoadAnswer::Refused(k) => Done { header, refused: k },
     }
+}
+
+fn run_load(
+    header: Header,
+    bodies: &[f32],
+    words: &mut [u32],
+    numbers: &[f32],
+    rows: &[f32],
+) -> Done {
+    loaded(header, load(header, bodies, words, numbers, rows))
+}
+
+// A joint's new masks.
+fn run_masks(
+    header: Header,
+    bodies: &[f32],
+    words: &mut [u32],
+    numbers: &[f32],
+    rows: &[f32],
+    l: Line,
+) -> Done {
+    loaded(
+        header,
+        set_masks(header, bodies, words, numbers, rows, l.number, l.masks),
+    )
 }
 
 fn warmstart_of(l: Line) -> Warmstart {
@@ -430,7 +458,7 @@ fn run_call(
     names: &[u32],
     header: Header,
     bodies: &mut [f32],
-    words: &[u32],
+    words: &mut [u32],
     numbers: &mut [f32],
     rows: &mut [f32],
     joints: u32,
@@ -438,6 +466,9 @@ fn run_call(
 ) -> Done {
     if l.keyword == LOAD {
         return run_load(header, bodies, words, numbers, rows);
+    }
+    if l.keyword == MASKS {
+        return run_masks(header, bodies, words, numbers, rows, l);
     }
     if l.keyword == PLACE {
         return run_place(header, bodies, words, numbers, l);
@@ -584,7 +615,7 @@ pub fn check_study(
     settings: &[f32],
     header: Header,
     bodies: &[f32],
-    words: &[u32],
+    words: &mut [u32],
     numbers: &[f32],
     rows: &[f32],
     read: State,
@@ -633,7 +664,7 @@ fn turn_call(
     origins: &[u32],
     settings: &[f32],
     bodies: &mut [f32],
-    words: &[u32],
+    words: &mut [u32],
     numbers: &mut [f32],
     rows: &mut [f32],
     st: State,
@@ -682,7 +713,7 @@ fn turn(
     origins: &[u32],
     settings: &[f32],
     bodies: &mut [f32],
-    words: &[u32],
+    words: &mut [u32],
     numbers: &mut [f32],
     rows: &mut [f32],
     st: State,
@@ -718,7 +749,7 @@ pub fn run_study(
     settings: &[f32],
     header: Header,
     bodies: &mut [f32],
-    words: &[u32],
+    words: &mut [u32],
     numbers: &mut [f32],
     rows: &mut [f32],
     st: State,

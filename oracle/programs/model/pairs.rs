@@ -208,6 +208,13 @@ impl Pair {
         if one.built != two.built {
             return Some("the mark".into());
         }
+        let wide = |s: &Study| {
+            let joints = s.words.chunks_exact(WORDS).take(s.joint_count());
+            joints.flat_map(|w| &w[2..6]).any(|mask| *mask > 7)
+        };
+        if wide(one) || wide(two) {
+            return Some("a mask above 7".into());
+        }
         if self.is_about(call) {
             if a.code != b.code || a.ids != b.ids || !same(&a.out, &b.out) {
                 return Some("the answer about the set".into());

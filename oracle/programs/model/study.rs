@@ -57,7 +57,9 @@ const FIELDS: [(char, &str, usize, usize); 17] = [
     ('j', "center_angle", 40, 1),
 ];
 const MASKS: [&str; 4] = ["lock", "limit", "motor", "couple"];
-const CALLS: [&str; 14] = [
+/// A line of new masks ends before this word: the call, its joint, four masks' words and three axes of each.
+const MASKS_END: usize = 18;
+const CALLS: [&str; 15] = [
     "load",
     "place",
     "build",
@@ -72,6 +74,7 @@ const CALLS: [&str; 14] = [
     "end",
     "table",
     "settle",
+    "masks",
 ];
 
 /// A number of the text; none where the word is no number or has more than 19 significant digits.
@@ -179,6 +182,22 @@ impl Line {
     }
     fn axis(&self, i: usize) -> Result<usize, usize> {
         AXES.iter().position(|a| self.is(i, a)).ok_or(self.column(i))
+    }
+    /// New masks after a joint's name: words that name one, and after each its axes, or its bits as a whole number.
+    fn masks(&self) -> Result<[u32; 4], usize> {
+        let (mut masks, mut named) = ([0; 4], None);
+        for i in 2..self.words.len().min(MASKS_END) {
+            if let Some(m) = MASKS.iter().position(|m| self.is(i, m)) {
+                named = Some(m);
+                continue;
+            }
+            let m: usize = named.ok_or(self.column(i))?;
+            masks[m] |= match self.axis(i) {
+                Ok(axis) => 1 << axis,
+                Err(at) => whole(self.word(i)).ok_or(at)?,
+            };
+        }
+        Ok(masks)
     }
 }
 
@@ -401,6 +420,11 @@ impl Draft {
             "end" => {
                 self.repeat.take().ok_or(l.column(0))?;
                 1
+            }
+            "masks" => {
+                self.joint(l.word(1)).ok_or(l.column(1))?;
+                l.masks()?;
+                l.words.len().min(MASKS_END)
             }
             "table" => match l.words.len() {
                 1 => 1,
@@ -750,6 +774,10 @@ fn run_call(d: &mut Draft, l: &Line, out: &mut String) -> u64 {
         "set_targets" => match std::fs::read(std::ffi::OsStr::from_bytes(l.word(1))) {
             Ok(bytes) if bytes.len() < 262144 => Call::SetTargets(bytes.leak()),
             _ => return NO_FILE,
+        },
+        "masks" => Call::SetMasks {
+            joint: d.joint(l.word(1)).unwrap(),
+            masks: l.masks().unwrap(),
         },
         "table" => return table(d, l.is(1, "csv"), out),
         "settle" => return settle(d, n(1), whole(l.word(2)).unwrap_or(4096), out),

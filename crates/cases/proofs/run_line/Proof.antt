@@ -35,14 +35,14 @@ slice-relend-prefix-run-named c = search needs
 slice-aggregate-run-named : tie.Need-slice-aggregate-run-named
 slice-aggregate-run-named c = sym (length-take-le _ _ (search needs))
 
-slice-reshare-prefix-run-named : tie.Need-slice-reshare-prefix-run-named
-slice-reshare-prefix-run-named c = search needs
+slice-relend-prefix-run-named-2 : tie.Need-slice-relend-prefix-run-named-2
+slice-relend-prefix-run-named-2 c = search needs
 
 slice-aggregate-run-named-2 : tie.Need-slice-aggregate-run-named-2
 slice-aggregate-run-named-2 c = sym (length-take-le _ _ (search needs))
 
-slice-relend-prefix-run-named-2 : tie.Need-slice-relend-prefix-run-named-2
-slice-relend-prefix-run-named-2 c = search needs
+slice-relend-prefix-run-named-3 : tie.Need-slice-relend-prefix-run-named-3
+slice-relend-prefix-run-named-3 c = search needs
 
 slice-aggregate-run-named-3 : tie.Need-slice-aggregate-run-named-3
 slice-aggregate-run-named-3 c = sym (length-take-le _ _ (search needs))
@@ -61,6 +61,9 @@ same-length-6 c = search needs
 
 same-length-7 : tie.Need-same-length-7
 same-length-7 c = search needs
+
+same-length-8 : tie.Need-same-length-8
+same-length-8 c = search needs
 
 returns-3 : tie.Need-returns-3
 returns-3 c = search needs
@@ -88,15 +91,16 @@ run-line-spec =
     name-requires
     slice-relend-prefix-run-named
     slice-aggregate-run-named
-    slice-reshare-prefix-run-named
-    slice-aggregate-run-named-2
     slice-relend-prefix-run-named-2
+    slice-aggregate-run-named-2
+    slice-relend-prefix-run-named-3
     slice-aggregate-run-named-3
     run-named-requires
     same-length-4
     same-length-5
     same-length-6
     same-length-7
+    same-length-8
     returns-3
     returns-4
     returns-5

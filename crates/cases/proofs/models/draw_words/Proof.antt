@@ -7,10 +7,10 @@ use Rattle.cases.proofs.models.draw_words.Statement.{statement}
 use Rattle.cases.proofs.models.draw_words.Tie as tie
 
 abbrev Inv-loop : tie.InvT-loop
-Inv-loop words₀ i₀ words i = (i ≤ 1430) × (length words ≡ length words₀)
+Inv-loop words₀ i₀ words i = (i ≤ 1560) × (length words ≡ length words₀)
 
 abbrev μ-loop : tie.MeasureT-loop
-μ-loop words₀ i₀ words i = 1430 - i
+μ-loop words₀ i₀ words i = 1560 - i
 
 loop-holds : tie.Need-loop-holds Inv-loop μ-loop
 loop-holds c = search needs

@@ -7,10 +7,10 @@ use Rattle.study.proofs.run.run_study.Statement.{statement}
 use Rattle.study.proofs.run.run_study.Tie as tie
 
 abbrev Inv-loop : tie.InvT-loop
-Inv-loop text names origins settings bodies₀ words numbers₀ rows₀ st r₀ calls₀ bodies numbers rows r calls = (length bodies ≡ length bodies₀) × ((length numbers ≡ length numbers₀) × (length rows ≡ length rows₀))
+Inv-loop text names origins settings bodies₀ words₀ numbers₀ rows₀ st r₀ calls₀ bodies words numbers rows r calls = (length bodies ≡ length bodies₀) × ((length words ≡ length words₀) × ((length numbers ≡ length numbers₀) × (length rows ≡ length rows₀)))
 
 abbrev μ-loop : tie.MeasureT-loop
-μ-loop text names origins settings bodies₀ words numbers₀ rows₀ st r₀ calls₀ bodies numbers rows r calls = 1000000000000000 - calls
+μ-loop text names origins settings bodies₀ words₀ numbers₀ rows₀ st r₀ calls₀ bodies words numbers rows r calls = 1000000000000000 - calls
 
 begun-requires : tie.Need-begun-requires Inv-loop μ-loop
 begun-requires c κs = search needs
@@ -54,6 +54,12 @@ same-length-5 c = search needs
 same-length-6 : tie.Need-same-length-6 Inv-loop μ-loop
 same-length-6 c = search needs
 
+same-length-7 : tie.Need-same-length-7 Inv-loop μ-loop
+same-length-7 c = search needs
+
+same-length-8 : tie.Need-same-length-8 Inv-loop μ-loop
+same-length-8 c = search needs
+
 returns-2 : tie.Need-returns-2 Inv-loop μ-loop
 returns-2 c = search needs
 
@@ -68,13 +74,15 @@ run-study-spec =
     same-length
     same-length-2
     same-length-3
+    same-length-4
     returns
     turn-requires
     add-calls
     say-progress-requires
     loop-less
     loop-again
-    same-length-4
     same-length-5
     same-length-6
+    same-length-7
+    same-length-8
     returns-2)
