@@ -62,9 +62,6 @@ same-length-6 c = search needs
 same-length-7 : tie.Need-same-length-7
 same-length-7 c = search needs
 
-same-length-8 : tie.Need-same-length-8
-same-length-8 c = search needs
-
 returns-3 : tie.Need-returns-3
 returns-3 c = search needs
 
@@ -100,7 +97,6 @@ run-line-spec =
     same-length-5
     same-length-6
     same-length-7
-    same-length-8
     returns-3
     returns-4
     returns-5
