@@ -201,7 +201,7 @@ mod exported {
     }
 
     /// The words of a joint between bodies 0 and 1.
-    const TIED: [u32; 11] = [0, 1, 0, 0, 0, 0, 0, 0, 0, 0, 0];
+    const TIED: [u32; 12] = [0, 1, 0, 0, 0, 0, 0, 0, 0, 0, 0, 0];
 
     pub fn run(call: &mut Call) {
         let n = &call.numbers;

@@ -72,7 +72,7 @@ fn study(d: &mut Draw, k: u64) -> Study {
         s.words.extend([(j % bodies) as u32, two]);
         s.words.extend(masks);
         s.words.extend(models);
-        s.words.extend([0, 0]);
+        s.words.extend([0, 0, 0]);
         s.numbers.extend(joint(d));
     }
     s.rows = vec![0.0; s.total() * ROW];
