@@ -14,7 +14,8 @@ use lib.Ieee.Fits.{round-is}
 use lib.Ieee.Nearest.{closest}
 use lib.Ieee.Scale.{round-same}
 use Rattle.decimals.specs.Rounding.{decimalOf, unitsRounded}
-use Rattle.decimals.proofs.RoundingLaws.{pow-lt-back, nearest-below, kept-reaches, full-digits}
+use Rattle.floats.proofs.Pattern.{pow-lt-back}
+use Rattle.decimals.proofs.RoundingLaws.{nearest-below, kept-reaches, full-digits}
 use Rattle.decimals.proofs.PatternLaws.{units-over}
 
 units-round : (num den : ℕ) → unitsRounded (num * 2 ^ 149) den ≡ round binary32 false num den

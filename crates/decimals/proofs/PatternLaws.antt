@@ -13,7 +13,7 @@ use lib.Ieee.Digits.{size-lt, size-le}
 use lib.Ieee.Exact.{HasValue, units-val}
 use lib.Ieee.Fits.{down-pos, odd-fits, cond-fits, inf-fits}
 use lib.Ieee.Bits.{ofBits-toBits}
-use Rattle.decimals.proofs.RoundingLaws.{pow-lt-back}
+use Rattle.floats.proofs.Pattern.{size-shifted, toBits-at}
 
 pub side : (a b : ℕ) → (a < b) ⊎ (b ≤ a)
 side a b = go (ltb a b) refl
@@ -21,30 +21,6 @@ side a b = go (ltb a b) refl
     go : (t : Bool) → ltb a b ≡ t → (a < b) ⊎ (b ≤ a)
     go true e = inl (ltb-true a b e)
     go false e = inr (ltb-false a b e)
-
--- the number of digits, from the powers of two around a number
-size-is : (n j : ℕ) → 2 ^ j ≤ n → n < 2 ^ (j + 1) → size n ≡ j + 1
-size-is n j lo hi = omega (arith, size-le n (j + 1) hi, pow-lt-back j (size n) (lt-of-le-of-lt lo (size-lt n)))
-
--- a q of 24 digits, moved up by k
-size-shifted : (q k : ℕ) → 2 ^ 23 ≤ q → q < 2 ^ 24 → size (q * 2 ^ k) ≡ 24 + k
-size-shifted q k lo hi =
-    size-is (q * 2 ^ k) (23 + k) (rw pow-add (mul-le-mul-right (2 ^ k) lo)) (subst (λ (x : ℕ). q * 2 ^ k < 2 ^ x) (one-more k) (shl-lt 24 k hi)) ∙ sym (one-more k)
-  where
-    one-more : (k : ℕ) → 24 + k ≡ 23 + k + 1
-    one-more k = omega arith
-
-toBits-at : (x : Float) (a : ℕ) → HasValue x false a (2 ^ 149) → toBits binary32 x ≡ (size a - 24) * 2 ^ 23 + a / 2 ^ (size a - 24)
-unfolding toBits
-toBits-at nan a h = absurd h
-toBits-at (inf s) a h = absurd h
-toBits-at (fin s m e) a h =
-    ap (λ (t : Bool). cond t (2 ^ 31) 0 + (size n - 24) * 2 ^ 23 + n / 2 ^ (size n - 24)) (h .0)
-    ∙ ap (λ (x : ℕ). 0 + (size x - 24) * 2 ^ 23 + x / 2 ^ (size x - 24)) (ap (λ (x : ℕ). x / down e) (h .1) ∙ mul-div-cancel a (down-pos e))
-    ∙ ap (λ (x : ℕ). x + a / 2 ^ (size a - 24)) (zero-add ((size a - 24) * 2 ^ 23))
-  where
-    n : ℕ
-    n = m * up e * 2 ^ 149 / down e
 
 -- how the magnitude's digits make the pattern, in the three cases
 low-bits : (q : ℕ) → q < 2 ^ 23 → (size (q * 2 ^ 0) - 24) * 2 ^ 23 + q * 2 ^ 0 / 2 ^ (size (q * 2 ^ 0) - 24) ≡ q

@@ -11,6 +11,8 @@ use lib.Ieee.{nearest, size}
 use lib.Ieee.Digits.{size-lt, size-le, size-reaches}
 use lib.Ieee.Fits.{nearest-le}
 use lib.Ieee.Nearest.{closest, nearest-ge}
+use Rattle.floats.proofs.HalfEven.{cases}
+use Rattle.floats.proofs.Pattern.{pow-lt-back}
 
 -- ---- the quotient
 pub product-room : (d k m b : ℕ) → k ≤ b → d * b < m → d * k < m
@@ -25,48 +27,14 @@ quotient-is n d low high e lo hi =
     sym (div-eq-of-lt-le d (subst (λ (x : ℕ). x ≤ n) (mul-comm d low) lo) (subst (λ (x : ℕ). n < x) (mul-comm d (low + 1)) (rw e at hi)))
 
 -- ---- the nearest whole number
-abbrev Compared : Ordering → ℕ → ℕ → Type 0
-Compared Ordering·lt a b = a < b
-Compared Ordering·eq a b = a ≡ b
-Compared Ordering·gt a b = b < a
-
-compared : (a b : ℕ) → Compared (compare a b) a b
-compared a b = go (compare a b) (leb→le a b) (nleb→lt a b) (eqb→eq a b) (λ (e : a ≡ b). subst (λ (x : ℕ). T (eqb a x)) e (eqb-refl a))
-  where
-    apart : a ≤ b → (a ≡ b → ⊥) → a < b
-    apart h n = omega arith
-
-    go : (o : Ordering) → (T (isLe o) → a ≤ b) → (T (not (isLe o)) → b < a) → (T (isEq o) → a ≡ b) → (a ≡ b → T (isEq o)) → Compared o a b
-    go Ordering·lt h k e n = apart (h tt) n
-    go Ordering·eq h k e n = e tt
-    go Ordering·gt h k e n = k tt
-
 pub below : (q a b : ℕ) → a < b → q ≡ nearest q (compare a b)
-below q a b h = go (compare a b) (compared a b)
-  where
-    go : (o : Ordering) → Compared o a b → q ≡ nearest q o
-    go Ordering·lt l = refl
-    go Ordering·eq l = absurd (omega arith)
-    go Ordering·gt l = absurd (omega arith)
+below q a b h = cases (λ (x : ℕ). q ≡ x) q a b (λ _. refl) (λ e. absurd (omega arith)) (λ l. absurd (omega arith))
 
 pub tied : (q a b : ℕ) → a ≡ b → q + q % 2 ≡ nearest q (compare a b)
-tied q a b h = go (compare a b) (compared a b)
-  where
-    go : (o : Ordering) → Compared o a b → q + q % 2 ≡ nearest q o
-    go Ordering·lt l = absurd (omega arith)
-    go Ordering·eq l = refl
-    go Ordering·gt l = absurd (omega arith)
+tied q a b h = cases (λ (x : ℕ). q + q % 2 ≡ x) q a b (λ l. absurd (omega arith)) (λ _. refl) (λ l. absurd (omega arith))
 
 pub above : (q a b : ℕ) → b < a → q + 1 ≡ nearest q (compare a b)
-above q a b h = go (compare a b) (compared a b)
-  where
-    up-by-one : q + 1 ≡ suc q
-    up-by-one = omega arith
-
-    go : (o : Ordering) → Compared o a b → q + 1 ≡ nearest q o
-    go Ordering·lt l = absurd (omega arith)
-    go Ordering·eq l = absurd (omega arith)
-    go Ordering·gt l = up-by-one
+above q a b h = cases (λ (x : ℕ). q + 1 ≡ x) q a b (λ l. absurd (omega arith)) (λ e. absurd (omega arith)) (λ _. refl)
 
 -- the program compares 2n with (2q + 1)d, where q = n / d
 module _ (n d q : ℕ) (e : q ≡ n / d) where
@@ -86,9 +54,6 @@ module _ (n d q : ℕ) (e : q ≡ n / d) where
   nearest-above h = above q (n % d * 2) d (omega (arith, whole, middle)) ∙ ap (λ (x : ℕ). nearest x (compare (n % d * 2) d)) e
 
 -- ---- the digits that are dropped
-pub pow-lt-back : (i j : ℕ) → 2 ^ i < 2 ^ j → i < j
-pow-lt-back i j h = lt-of-not-le (λ (g : j ≤ i). lt-irrefl (2 ^ i) (lt-of-lt-of-le h (pow-mono g)))
-
 -- den · 2^i is at most n only while 2^i is small
 pub digits-bounded : (n den i m : ℕ) → 0 < den → den * 2 ^ i ≤ n → n < 2 ^ m → i < m
 digits-bounded n den i m pos h l =

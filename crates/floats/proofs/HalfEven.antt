@@ -33,7 +33,7 @@ compared a b = go (compare a b) (leb→le a b) (nleb→lt a b) (eqb→eq a b) (�
     go Ordering·gt h k e n = k tt
 
 -- what holds in each case holds of the result
-cases : (P : ℕ → Type 0) (q a b : ℕ) → (a < b → P q) → (a ≡ b → P (q + q % 2)) → (b < a → P (q + 1)) → P (nearest q (compare a b))
+pub cases : (P : ℕ → Type 0) (q a b : ℕ) → (a < b → P q) → (a ≡ b → P (q + q % 2)) → (b < a → P (q + 1)) → P (nearest q (compare a b))
 cases P q a b below tie above = go (compare a b) (compared a b)
   where
     up-by-one : suc q ≡ q + 1

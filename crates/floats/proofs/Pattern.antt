@@ -27,7 +27,7 @@ size-shifted q k lo hi =
     one-more : (k : ℕ) → 24 + k ≡ 23 + k + 1
     one-more k = omega arith
 
-toBits-at : (x : Float) (a : ℕ) → HasValue x false a (2 ^ 149) → toBits binary32 x ≡ (size a - 24) * 2 ^ 23 + a / 2 ^ (size a - 24)
+pub toBits-at : (x : Float) (a : ℕ) → HasValue x false a (2 ^ 149) → toBits binary32 x ≡ (size a - 24) * 2 ^ 23 + a / 2 ^ (size a - 24)
 unfolding toBits
 toBits-at nan a h = absurd h
 toBits-at (inf s) a h = absurd h

@@ -1,18 +1,20 @@
 -- Two studies that differ and meet every premise of demand 3 (`compared`): bodies 0 and 1 are the set, with a joint between them that locks both linear axes;
 -- body 2 hangs on the world by a joint that locks two axes in the one study and three in the other, and stands elsewhere in each. The set's joint has another
 -- target velocity of its first motor in each (`motors-differ`), and its centre is typed as cosine and sine in the one and as an angle in the other
--- (`centers-differ`): it names neither. The list is a build, granted in both (`builds`). All of it is computed.
+-- (`centers-differ`): it names neither. The list builds cold, which is granted in both (`builds`), warm starts, sweeps, writes back, sets motor targets from a table, and builds again with a coefficient.
+-- The studies before it are computed; what they come to later is not, since no call of the list changes a joint's words (`WordsKept`).
 use Prim.Native.Nat.{ℕ, zero, suc}
 use mathlib.Core.Path.{_≡_, refl, sym, ap, _∙_}
 use mathlib.Core.Logic.{_≢_, inl, ⊎-elim}
 use mathlib.Core.Bool.{Bool, true, false, true≢false}
-use mathlib.Core.List.{List, [], _∷_, _++_, List·Memᴰ·not-nil, List·Memᴰ·cases-cons}
+use mathlib.Core.List.{List, [], _∷_, _++_, map, List·Memᴰ·not-nil, List·Memᴰ·cases-cons}
 use native.Mathlib.Omega.{arith}
 use borrow.Author.Tests.{ltb-true}
 use lib.Dec.{ltb, lit≤}
 use lib.IntN.{pos}
 use lib.ListN.{replicate}
 use lib.Ieee.{Float, fin, lt, eq, isNan, ofBits}
+use Rattle.texts.specs.Ascii.{ascii}
 use Rattle.floats.specs.Scalar.{isFinite}
 use Rattle.floats.specs.Sign.{absOf}
 use Rattle.floats.specs.SinCos.{angleTooLarge}
@@ -20,7 +22,7 @@ use Rattle.rows.specs.Named.{SameNamed}
 use Rattle.rows.specs.RowIds.{hasAxis, rowIds}
 use Rattle.rows.specs.GenericJoint.{motorAt}
 use Rattle.rows.specs.declared.integration_parameters.IntegrationParameters.{IntegrationParameters}
-use Rattle.rows.specs.declared.joint_constraint_builder.Warmstart.the-variants.{Cold}
+use Rattle.rows.specs.declared.joint_constraint_builder.Warmstart.the-variants.{Cold, Warm}
 use Rattle.rows.specs.declared.joint_velocity_constraint.WritebackId.{WritebackId}
 use Rattle.rows.specs.declared.joint_velocity_constraint.WritebackId.the-variants.{Dof, Limit, Motor}
 use Rattle.model.specs.declared.store.LimitCenter.{LimitCenter}
@@ -29,15 +31,16 @@ use Rattle.model.specs.Store.{putFirst, world, solverPoseAt, velAt, join
 use Rattle.multibody.specs.Rules.{refusal, all}
 use Rattle.multibody.specs.Model.{Model, model}
 use Rattle.multibody.specs.JointRows.{jointIds, rowCount, rowMasksAt}
-use Rattle.multibody.specs.Counts.{bodyCount, jointCount, rowCapacity, rowsBefore, storeFirsts}
+use Rattle.multibody.specs.Counts.{bodyCount, jointCount, rowCapacity, rowsBefore, storeFirsts, Room}
 use Rattle.multibody.specs.Refusals.{presentOrWorld, bodiesPresent, bodiesApart, finiteParams, finiteWarm, modelRulesWith, storageRule, seedsRule, readsRows}
-use Rattle.multibody.specs.Calls.{rulesOf, grantedOf}
-use Rattle.multibody.specs.Calls.Call.{load, build}
-use Rattle.multibody.specs.Traces.{Study, AtEach, AtSome}
-use Rattle.multibody.specs.Studies.{machine, Loaded, Enough, Closed, OfSet, Agree, MakesRows, HasRow, Names, Compared, GrantedAlike, SameNumbers, Noninterference}
+use Rattle.multibody.specs.Calls.{Call, rulesOf, grantedOf, run}
+use Rattle.multibody.specs.Calls.Call.{load, build, warmStart, sweep, writeBack, further}
+use Rattle.multibody.specs.Traces.{Study, AtEach}
+use Rattle.multibody.specs.Studies.{machine, Loaded, Enough, Closed, OfSet, Agree, MakesRows, HasRow, Names, Compared, SameNumbers, Noninterference}
 use Rattle.multibody.proofs.CallLaws.{run-granted}
 use Rattle.multibody.proofs.RefusedExactly.{told}
 use Rattle.multibody.proofs.Premises.{Turn, recorded, recorded-returns}
+use Rattle.multibody.proofs.WordsKept.{AllKeepWords, AllLend, named-before, enough-before, no-alike}
 use Rattle.model.specs.Refusals.{masksFit, finiteFrom, noNanFrom, finiteBody, finiteMotor, finiteCenter, finiteJoint, angleFits, centerFits}
 use Rattle.model.specs.Planar.{plane, planar}
 use Rattle.model.specs.Studies.{planarCalls}
@@ -90,8 +93,12 @@ s = record { model = m; rows = storage }
 abbrev pub s′ : Study (machine planarCalls)
 s′ = record { model = m′; rows = storage }
 
+-- a call that is lent the same row storage in both
+abbrev lending : Call planar → Turn planarCalls
+lending c = record { call = c; lent = storage; lent′ = storage }
+
 abbrev pub ts : List (Turn planarCalls)
-ts = record { call = build Cold 0; lent = storage; lent′ = storage } ∷ []
+ts = map lending (build Cold 0 ∷ warmStart ∷ sweep 4 ∷ writeBack ∷ further (ascii "1,0,1500" ++ (0x0d ∷ 0x0a ∷ [])) ∷ build (Warm one) 0 ∷ sweep 1 ∷ [])
 
 abbrev pub set : ℕ → Bool
 set i = ltb i 2
@@ -120,9 +127,21 @@ pub loaded′ : Loaded planarCalls s′
 unfolding grantedOf storeFirsts putFirst jointCount rowsBefore rowCount jointIds rowMasksAt enabledAt masksAt hasAxis rowIds
 loaded′ = record { handedOver = m′; byLoad = sym (run-granted load m′ storage (granted′ .0)) }
 
+-- no call of the list changes a joint's words
+kept : AllKeepWords planar-laws ts
+unfolding AllKeepWords
+kept = (tt, (tt, (tt, (tt, (tt, (tt, (tt, tt)))))))
+
+rooms : Room plane m storage × Room plane m′ storage
+unfolding jointCount rowCapacity rowsBefore rowCount jointIds rowMasksAt enabledAt masksAt hasAxis rowIds
+rooms = (lit≤ tt, lit≤ tt)
+
+lends : AllLend planar-laws ts m m′
+unfolding AllLend
+lends = (rooms, (rooms, (rooms, (rooms, (rooms, (rooms, (rooms, tt)))))))
+
 enough : AtEach (Enough planarCalls) (recorded planarCalls ts s s′) s s′
-unfolding AtEach recorded jointCount rowCapacity rowsBefore rowCount jointIds rowMasksAt enabledAt masksAt hasAxis rowIds
-enough = (λ e. (lit≤ tt, lit≤ tt), tt)
+enough = enough-before planar-laws ts kept s s′ (rooms .0) (rooms .1) lends
 
 -- ---- they agree
 
@@ -180,8 +199,7 @@ module _ (x v : Float) (axes choice : ℕ) where
       other r = true≢false (sym (ap isDof r) ∙ e)
 
 unnamed : (id : WritebackId) → isDof id ≡ false → Names planarCalls (recorded planarCalls ts s s′) s s′ 0 id → ⊥
-unfolding AtSome recorded
-unnamed id e h = ⊎-elim (λ n. ⊎-elim (λ k. locks-alone two one 7 0 id e (k .1)) (λ k. locks-alone o two 3 1 id e (k .1)) n) (λ e. e) h
+unnamed id e h = ⊎-elim (locks-alone two one 7 0 id e) (locks-alone o two 3 1 id e) (named-before planar-laws ts kept s s′ 0 id h)
 
 contents : SameNamed (Names planarCalls (recorded planarCalls ts s s′) s s′ 0) (jointAt (m .words) (m .numbers) 0) (jointAt (m′ .words) (m′ .numbers) 0)
 unfolding jointAt
@@ -215,13 +233,8 @@ agree = record {
 
 -- ---- what is shown
 
--- the list has no call that must be granted or refused alike
-no-alike : AtEach (GrantedAlike planarCalls) (recorded planarCalls ts s s′) s s′
-unfolding AtEach recorded
-no-alike = (tt, tt)
-
 pub compared : Compared planarCalls set (recorded planarCalls ts s s′) s s′
-compared = record { loaded = loaded; loaded′ = loaded′; agree = agree; storage = enough; alike = no-alike; traces = recorded-returns planarCalls ts s s′ }
+compared = record { loaded = loaded; loaded′ = loaded′; agree = agree; storage = enough; alike = no-alike planar-laws ts kept s s′; traces = recorded-returns planarCalls ts s s′ }
 
 pub same-numbers : SameNumbers plane m m′
 same-numbers = record { bodies = three-bodies two one 7 0 ∙ sym (three-bodies o two 3 1); joints = two-joints two one 7 0 ∙ sym (two-joints o two 3 1) }
@@ -229,10 +242,9 @@ same-numbers = record { bodies = three-bodies two one 7 0 ∙ sym (three-bodies 
 pub shared : Noninterference planarCalls set (recorded planarCalls ts s s′) s s′
 shared = planar-two-studies set (recorded planarCalls ts s s′) s s′ same-numbers compared
 
--- rows are made
-pub builds : AtEach (λ p s s′. MakesRows planarCalls (p .call) (p .outcome) × MakesRows planarCalls (p .call) (p .outcome′)) (recorded planarCalls ts s s′) s s′
-unfolding AtEach recorded
-builds = (((refl, told planar-laws (build Cold 0) m storage ∙ granted .1), (refl, told planar-laws (build Cold 0) m′ storage ∙ granted′ .1)), tt)
+-- rows are made in both, by the first call
+pub builds : MakesRows planarCalls (build Cold 0) (run planar (build Cold 0) m storage) × MakesRows planarCalls (build Cold 0) (run planar (build Cold 0) m′ storage)
+builds = ((refl, told planar-laws (build Cold 0) m storage ∙ granted .1), (refl, told planar-laws (build Cold 0) m′ storage ∙ granted′ .1))
 
 -- and the set's joint differs in a motor
 pub motors-differ : motorAt (jointAt (m .words) (m .numbers) 0 .«data») 0 .«target_vel» ≢ motorAt (jointAt (m′ .words) (m′ .numbers) 0 .«data») 0 .«target_vel»

@@ -159,6 +159,11 @@ digits-back (suc s) n text h = go (ltb n 10) refl (λ l. digits-back s (n / 10) 
         ∙ one-digit (n / 10) (n % 10) text (mod-lt n (omega arith))
         ∙ ap (λ (m : ℕ). digitsAfter m text) (tenth n)
 
+-- the digits of a number read as it
+pub decimal-back : (n : ℕ) → digitsAfter 0 (decimal n) ≡ some n
+unfolding decimal digitsAfter
+decimal-back n = digits-back n n [] (omega arith)
+
 -- ---- numbers
 
 -- −0 is spelled nowhere
@@ -177,12 +182,12 @@ minus-whole (b ∷ bs) h = refl
 
 number-back : (m : Bool) (n : ℕ) → (m ≡ true → 0 < n)
     → wholeNumber (cond m (MINUS ∷ decimal n) (decimal n)) ≡ cond (leb n largestSize) (some (record { negative = m; size = n })) none
-unfolding decimal sized digitsAfter
+unfolding decimal sized
 number-back true n h =
     minus-whole (decimal n) (onto-leading n n [] (omega arith))
-    ∙ ap (sized true) (digits-back n n [] (omega arith))
+    ∙ ap (sized true) (decimal-back n)
     ∙ ap (λ (t : Bool). cond (leb n largestSize) (some (record { negative = t; size = n })) none) (lt-ltb 0 n (h refl))
-number-back false n h = plain-whole (decimal n) (onto-leading n n [] (omega arith)) ∙ ap (sized false) (digits-back n n [] (omega arith))
+number-back false n h = plain-whole (decimal n) (onto-leading n n [] (omega arith)) ∙ ap (sized false) (decimal-back n)
 
 text-back : (n : Number) → Plain n → wholeNumber (numberText n) ≡ cond (leb (n .size) largestSize) (some n) none
 unfolding numberText

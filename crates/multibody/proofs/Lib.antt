@@ -24,3 +24,4 @@ pub mod FirstRowsUnread
 pub mod CallTurns
 pub mod TwoStudies
 pub mod Premises
+pub mod WordsKept

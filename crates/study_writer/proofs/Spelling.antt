@@ -18,6 +18,7 @@ use Rattle.decimals.specs.declared.number.Reading.the-variants.{Number}
 use Rattle.decimals.proofs.TextLaws.{number-read-back}
 use Rattle.texts.specs.Digits.{isDigit}
 use Rattle.motor_table.specs.WholeNumber.{digitsAfter}
+use Rattle.motor_table.proofs.RoundTrip.{decimal-back}
 use Rattle.texts.specs.Digits.{digit, decimalOnto, decimal}
 use Rattle.texts.specs.Ascii.{ascii}
 use Rattle.study_reader.specs.Words.{has, sameBytes, bytesOf, wholeNumber, wholeUpTo}
@@ -75,34 +76,6 @@ onto-short (suc s) n text = go (ltb n 10) refl (onto-short s (n / 10) (digit (n 
 pub decimal-short : (n : ℕ) → length (decimal n) ≤ 1 + n / 10
 unfolding decimal
 decimal-short n = onto-short n n []
-
-digit-digit : (d : ℕ) → d < 10 → isDigit (digit d) ≡ true
-unfolding isDigit
-digit-digit d h = simp (le-leb 0x30 (0x30 + d) (omega arith), le-leb (0x30 + d) 0x39 (omega arith))
-
-one-digit : (v d : ℕ) (text : List ℕ) → d < 10 → digitsAfter v (digit d ∷ text) ≡ digitsAfter (v * 10 + d) text
-unfolding digitsAfter
-one-digit v d text h =
-    let e : v * 10 + (digit d - 0x30) ≡ v * 10 + d = omega arith in
-    ap (λ (t : Bool). cond t (digitsAfter (v * 10 + (digit d - 0x30)) text) none) (digit-digit d h) ∙ ap (λ (n : ℕ). digitsAfter n text) e
-
-digits-back : (steps n : ℕ) (text : List ℕ) → n ≤ steps → digitsAfter 0 (decimalOnto steps n text) ≡ digitsAfter n text
-unfolding decimalOnto
-digits-back zero n text h = one-digit 0 n text (omega arith) ∙ ap (λ (m : ℕ). digitsAfter m text) (let e : 0 * 10 + n ≡ n = omega arith in e)
-digits-back (suc s) n text h = go (ltb n 10) refl (λ l. digits-back s (n / 10) (digit (n % 10) ∷ text) (omega arith))
-  where
-    go : (t : Bool) → ltb n 10 ≡ t → (10 ≤ n → digitsAfter 0 (decimalOnto s (n / 10) (digit (n % 10) ∷ text)) ≡ digitsAfter (n / 10) (digit (n % 10) ∷ text))
-        → digitsAfter 0 (elim t [ true ↦ digit n ∷ text | false ↦ decimalOnto s (n / 10) (digit (n % 10) ∷ text) ]) ≡ digitsAfter n text
-    go true e ih =
-        one-digit 0 n text (ltb-true n 10 e) ∙ ap (λ (m : ℕ). digitsAfter m text) (let z : 0 * 10 + n ≡ n = omega arith in z)
-    go false e ih =
-        ih (ltb-false n 10 e)
-        ∙ one-digit (n / 10) (n % 10) text (mod-lt n (omega arith))
-        ∙ ap (λ (m : ℕ). digitsAfter m text) (div-add-mod' n 10)
-
-pub decimal-back : (n : ℕ) → digitsAfter 0 (decimal n) ≡ some n
-unfolding decimal digitsAfter
-decimal-back n = digits-back n n [] (omega arith)
 
 whole-back : (bs : List ℕ) (n : ℕ) → proper bs ≡ true → digitsAfter 0 bs ≡ some n → n ≤ 4294967289 → wholeNumber bs ≡ Whole.Number n
 unfolding wholeNumber wholeUpTo
