@@ -7,7 +7,7 @@ use lib.ListN.{length, getD, set, take, drop}
 use lib.Ieee.{Float, nan}
 use Rattle.comparison.specs.Exports.{at, vectorAt, putTwo}
 use Rattle.rows.specs.Step.{stepOf, warmstartOf, removeBiasOf}
-use Rattle.rows.specs.Finalize.{finalizeFirst}
+use Rattle.rows.specs.Finalize.{finalizeGroups}
 use Rattle.rows.specs.MotorModel.{combineCoefficientsOf}
 use Rattle.rows.specs.IntegrationParameters.{erpInvDtOf, cfmCoeffOf}
 use Rattle.rows.specs.Helper.{angularLimitParamsOf}
@@ -91,9 +91,12 @@ rowsAt s = rowAt s 0 ∷ rowAt s 1 ∷ rowAt s 2 ∷ rowAt s 3 ∷ rowAt s 4 ∷
 abbrev pub putSix : List Float → List JointConstraint → List Float
 putSix s cs = putRow (putRow (putRow (putRow (putRow (putRow s 0 (ofSix cs 0)) 1 (ofSix cs 1)) 2 (ofSix cs 2)) 3 (ofSix cs 3)) 4 (ofSix cs 4)) 5 (ofSix cs 5)
 
--- the first n of six rows orthogonalised as one group
+unfoldable pub atMostSix : ℕ → ℕ
+atMostSix n = cond (ltb n 6) n 6
+
+-- the first n of six rows, or all six, orthogonalised as group two of a joint that has no group one
 unfoldable pub finalize : ℕ → List Float → List Float
-finalize n rows = cond (leb 108 (length rows)) (putSix rows (finalizeFirst n (rowsAt rows))) rows
+finalize n rows = cond (leb 108 (length rows)) (putSix rows (finalizeGroups 0 (atMostSix n) (rowsAt rows))) rows
 
 -- ---- single numbers
 

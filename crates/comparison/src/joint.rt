@@ -5,7 +5,7 @@
 ghost use mathlib.Core.Path.{_≡_};
 ghost use Prim.Native.Nat.{_+_, _*_, _≤_, _<_};
 ghost use lib.ListN.{length};
-ghost use Rattle.comparison.specs.JointExports.{velAt, putVels, stepRow, stepVels, stepSide, warmstart, removeBias, idOf, writeback, rowsAt, putSix, finalize, combineCoefficients, spring, angularLimit, bodyAt, jointFrom, warmFrom, impulsesFrom, madeFrom, masksFrom, buildRows, buildIds, buildCount, roomyRows, roomyIds, roomyCount};
+ghost use Rattle.comparison.specs.JointExports.{velAt, putVels, stepRow, stepVels, stepSide, warmstart, removeBias, idOf, writeback, rowsAt, putSix, atMostSix, finalize, combineCoefficients, spring, angularLimit, bodyAt, jointFrom, warmFrom, impulsesFrom, madeFrom, masksFrom, buildRows, buildIds, buildCount, roomyRows, roomyIds, roomyCount};
 ghost use Rattle.capi.specs.CallExports.{paramsOf};
 ghost use Rattle.model.specs.Layout.{rowWidth};
 ghost use Rattle.model.specs.Store.{rowAt, motorModelOf};
@@ -36,7 +36,7 @@ use rows::joint_constraint_builder::SolverPose;
 use rows::joint_constraint_builder::Warmstart;
 use rows::joint_constraint_builder::update;
 use rows::joint_constraint_helper::AngularLimitParams;
-use rows::joint_constraint_helper::finalize_group;
+use rows::joint_constraint_helper::finalize_groups;
 use rows::joint_velocity_constraint::JointConstraint;
 use rows::joint_velocity_constraint::Rows;
 use rows::joint_velocity_constraint::SolverVel;
@@ -184,7 +184,16 @@ fn put_six(rows: &mut [f32], made: [JointConstraint; 6])
     put_row(rows, 5, made[5]);
 }
 
-// The first n of six rows as one group.
+fn at_most_six(n: usize) -> usize
+    ensures { λ r. ⌜ (r ≡ atMostSix n) × (r ≤ 6) ⌝ }
+{
+    if n < 6 {
+        return n;
+    }
+    6
+}
+
+// The first n of six rows as one group, or all six.
 #[no_mangle]
 pub extern "C" fn katydidzinc_rows_finalize(n: usize, rows: &mut [f32])
     ensures { λ _. ⌜ now (rows .exit) ≡ finalize n (now (rows .entry)) ⌝ }
@@ -193,7 +202,8 @@ pub extern "C" fn katydidzinc_rows_finalize(n: usize, rows: &mut [f32])
         return;
     }
     let group = rows_at(rows);
-    let made = finalize_group(group, n);
+    let len = at_most_six(n);
+    let made = finalize_groups(group, 0, len);
     put_six(rows, made);
 }
 

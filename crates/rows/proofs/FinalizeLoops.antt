@@ -12,7 +12,7 @@ use lib.Ieee.{Float}
 use Rattle.floats.specs.Operators.{_⊗_}
 use Rattle.floats.specs.Utils.{simdInvOf}
 use Rattle.floats.specs.declared.vector.Vector.{Vector}
-use Rattle.rows.specs.Finalize.{orthogonalise, imSumOf, headOf, isLock, invDotOf, pairOf, reduceOf, finalizeOf, finalizeFirst}
+use Rattle.rows.specs.Finalize.{orthogonalise, imSumOf, headOf, isLock, invDotOf, pairOf, reduceOf, finalizeOf}
 use Rattle.rows.specs.declared.joint_velocity_constraint.JointConstraint.{JointConstraint}
 use Rattle.rows.proofs.Orthogonalise.{between, rest, lock-turn}
 
@@ -44,8 +44,3 @@ pub none : (cs : List JointConstraint) → length cs ≤ 0 → cs ≡ finalizeOf
 unfolding finalizeOf
 none [] l = refl
 none (c ∷ cs) l = absurd (not-suc-le-zero l)
-
--- a count above the number of rows
-pub above : (m n : ℕ) (cs : List JointConstraint) → length cs ≤ m → length cs ≤ n → finalizeFirst m cs ≡ finalizeFirst n cs
-unfolding finalizeFirst
-above m n cs h k = rw (take-all m cs h, drop-of-length-le cs h, take-all n cs k, drop-of-length-le cs k)

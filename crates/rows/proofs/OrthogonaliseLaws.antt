@@ -6,8 +6,7 @@ use native.Mathlib.Nat.{suc-inj, suc-ne-zero}
 use mathlib.Core.Bool.{Bool, true, false, cond}
 use mathlib.Core.List.{List, [], _∷_, map}
 use lib.ListN.{length, take, length-map}
-use lib.Seq.{length-front}
-use Rattle.rows.specs.Finalize.{orthogonaliseN, orthogonalise, imSumOf, headOf, isLock, reduceOf, finalizeOf, finalizeFirst}
+use Rattle.rows.specs.Finalize.{orthogonaliseN, orthogonalise, imSumOf, headOf, isLock, reduceOf, finalizeOf}
 use Rattle.rows.specs.declared.joint_velocity_constraint.JointConstraint.{JointConstraint}
 
 module _ {Row : Type 0} where
@@ -64,10 +63,6 @@ pub length-finalizeOf : (cs : List JointConstraint) → length (finalizeOf cs) �
 unfolding finalizeOf
 length-finalizeOf [] = refl
 length-finalizeOf (c ∷ cs) = length-orthogonalise (headOf (imSumOf c)) isLock (reduceOf (imSumOf c)) (c ∷ cs)
-
-pub length-finalizeFirst : (n : ℕ) (cs : List JointConstraint) → length (finalizeFirst n cs) ≡ length cs
-unfolding finalizeFirst
-length-finalizeFirst n cs = length-front cs (finalizeOf (take n cs)) n (length-finalizeOf (take n cs))
 
 pub first-of-group : (c : JointConstraint) (cs : List JointConstraint) → take 1 (finalizeOf (c ∷ cs)) ≡ headOf (imSumOf c) c ∷ []
 unfolding finalizeOf

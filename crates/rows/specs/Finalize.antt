@@ -81,10 +81,6 @@ unfoldable pub finalizeOf : List JointConstraint → List JointConstraint
 finalizeOf [] = []
 finalizeOf (c ∷ cs) = orthogonalise (headOf (imSumOf c)) isLock (reduceOf (imSumOf c)) (c ∷ cs)
 
--- the first n of a list of rows orthogonalised as one group; the rows after them stay
-unfoldable pub finalizeFirst : ℕ → List JointConstraint → List JointConstraint
-finalizeFirst n cs = finalizeOf (take n cs) ++ drop n cs
-
 -- the first len of a list of rows orthogonalised as two groups, of which the first has n rows; the rows after them stay
 unfoldable pub finalizeGroups : ℕ → ℕ → List JointConstraint → List JointConstraint
 finalizeGroups n len cs = finalizeOf (take n cs) ++ (finalizeOf (take (len - n) (drop n cs)) ++ drop len cs)

@@ -1,7 +1,7 @@
 // The Rust's dynamics/solver/joint_constraint/joint_constraint_helper.rs: one function a row kind.
 ghost use mathlib.Core.Path.{_≡_};
 ghost use Prim.Native.Nat.{_≤_};
-ghost use Rattle.rows.specs.Finalize.{imSumOf, rowDotOf, headOf, isLock, lessOf, invDotOf, pairOf, finalizeOf, finalizeFirst, finalizeGroups};
+ghost use Rattle.rows.specs.Finalize.{imSumOf, rowDotOf, headOf, isLock, lessOf, invDotOf, pairOf, finalizeOf, finalizeGroups};
 ghost use Rattle.rows.specs.Helper.{angularLimitParamsOf, snappedOf, newOf, coordOf, linearAxisOf, angularAxis, coupledStepOf, coupledAxisOf};
 ghost use Rattle.rows.specs.Makers.{twoBodies, erpCfm, assembleOf, lockBounds, limitBoundsOf, limitBiasOf, limitedTargetVelOf, motorRhsOf, motorBoundsOf, motorRowOf, limitLinearOf, limitLinearCoupledOf, motorLinearOf, motorLinearCoupledOf, lockLinearOf, recenteredAngleOf, limitAngularOf, motorAngularRhsOf, motorAngularOf, lockAngularOf};
 use crate::generic_joint::has_axis;
@@ -660,22 +660,9 @@ pub fn finalize_constraints(rows: &mut [JointConstraint])
     }
 }
 
-// `finalize_constraints` for the first n rows of an array, or all six, that are not lent but handed over.
-pub fn finalize_group(rows: [JointConstraint; 6], n: usize) -> [JointConstraint; 6]
-    ensures { λ r. ⌜ r ≡ finalizeFirst n rows ⌝ }
-{
-    let mut group = rows;
-    let mut len = 6;
-    if n < 6 {
-        len = n;
-    }
-    finalize_constraints(&mut group[..len]);
-    group
-}
-
 // `finalize_constraints` for two groups of an array that is handed over: the rows before row `first`, and those from there
 // to before row `len`.
-pub(crate) fn finalize_groups(
+pub fn finalize_groups(
     rows: [JointConstraint; 6],
     first: usize,
     len: usize,

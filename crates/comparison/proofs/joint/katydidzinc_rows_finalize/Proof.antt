@@ -12,8 +12,8 @@ returns c = simp (lt-leb _ _ (c .if1 .taken))
 rows-at-requires : tie.Need-rows-at-requires
 rows-at-requires c κs = search needs
 
-finalize-group-requires : tie.Need-finalize-group-requires
-finalize-group-requires c κs = search needs
+finalize-groups-requires : tie.Need-finalize-groups-requires
+finalize-groups-requires c κs = search needs
 
 put-six-requires : tie.Need-put-six-requires
 put-six-requires c κs = search needs
@@ -31,7 +31,7 @@ katydidzinc-rows-finalize-spec =
     (tie.spec
     returns
     rows-at-requires
-    finalize-group-requires
+    finalize-groups-requires
     put-six-requires
     same-length
     returns-2)
