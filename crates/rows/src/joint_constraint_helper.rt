@@ -662,11 +662,7 @@ pub fn finalize_constraints(rows: &mut [JointConstraint])
 
 // `finalize_constraints` for two groups of an array that is handed over: the rows before row `first`, and those from there
 // to before row `len`.
-pub fn finalize_groups(
-    rows: [JointConstraint; 6],
-    first: usize,
-    len: usize,
-) -> [JointConstraint; 6]
+pub fn finalize_groups(rows: [JointConstraint; 6], first: usize, len: usize) -> [JointConstraint; 6]
     requires { ⌜ (first ≤ len) × (len ≤ 6) ⌝ }
     ensures { λ r. ⌜ r ≡ finalizeGroups first len rows ⌝ }
 {
