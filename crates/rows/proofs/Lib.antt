@@ -7,13 +7,14 @@ pub mod OrthogonaliseLaws
 pub mod FinalizeLoops
 pub mod MaskBits
 pub mod RowIdsCount
-pub mod RowIdsPush
+pub mod CoupledIds
 pub mod RowIdsLaws
 pub mod RowSlotsLaws
 pub mod Filled
 pub mod UpdateRows
 pub mod WarmedFinalize
 pub mod WarmedRows
+pub mod ListedIds
 pub mod BuilderLaws
 pub mod RowArrays
 pub mod WritebackKinds

@@ -220,37 +220,6 @@ module _ (nl na : ℕ) (k : Masks) where
         length-axes 0 nl,
       )
 
-  -- the number of motors, by counts of axes
-  pub motor-count : length (groupOne nl na k) ≡ count (λ i. isMotor k i && not (isCoupled k i)) (inOrder nl na) + bit (sharesLinear nl k)
-  motor-count =
-      let motors : List ℕ = keep (λ i. isMotor k i && not (isCoupled k i)) (inOrder nl na) in
-      omega (
-        arith,
-        length-append (map Motor motors) (cond (sharesLinear nl k) (map Motor (firstCoupled nl k)) []),
-        length-map motors Motor,
-        once (sharesLinear nl k) (firstCoupled nl k) (some-first (isMotor k) (isCoupled k) (axes 0 nl)),
-      )
-
-  -- the number of rows likewise
-  pub row-count : length (rowIds nl na k)
-      ≡ count (λ i. isMotor k i && not (isCoupled k i)) (inOrder nl na)
-      + bit (sharesLinear nl k)
-      + count (isLocked k) (inOrder nl na)
-      + count (λ i. isLimit k i && not (isCoupled k i)) (inOrder nl na)
-      + bit (some (isLimit k) (firstCoupled nl k))
-  row-count =
-      let limits : List ℕ = keep (λ i. isLimit k i && not (isCoupled k i)) (inOrder nl na) in
-      omega (
-        arith,
-        length-groups,
-        motor-count,
-        length-map (keep (isLocked k) (inOrder nl na)) Dof,
-        length-append (map Limit limits) (map Limit (keep (isLimit k) (firstCoupled nl k))),
-        length-map limits Limit,
-        length-map (keep (isLimit k) (firstCoupled nl k)) Limit,
-        count-first (isLimit k) (keep (isCoupled k) (axes 0 nl)),
-      )
-
 -- a planar joint has at most six rows
 pub at-most-six : (k : Masks) → length (rowIds 2 1 k) ≤ 6
 at-most-six k = at-most 2 1 k

@@ -1,24 +1,24 @@
 -- The eleven slots: the bits of a number as a list of slots (`slotsFrom`), of which the lowest is found by trailing zeros (`lowest-slot`), and a joint's
--- slots, whose ids are `rowIds` (`slot-ids`). Assumes nothing.
+-- slots, whose ids are `rowIds` (`slot-ids`), as many as bits are set (`slots-count`). Assumes nothing.
 use Prim.Native.Nat.{ℕ, zero, suc, _+_, _-_, _*_, _/_, _%_, _^_, _≤_, _<_}
 use native.Mathlib.Nat.{not-suc-le-zero, le-of-suc-le-suc, pow-suc}
 use native.Mathlib.Omega.{arith}
-use mathlib.Core.Path.{_≡_, refl, ap, sym, _∙_}
+use mathlib.Core.Path.{_≡_, refl, ap, ap₂, sym, _∙_}
 use mathlib.Core.Bool.{Bool, true, false, not, cond, _&&_}
 use mathlib.Core.Logic.{_⊎_, inl, inr}
 use mathlib.Core.List.{List, [], _∷_, _++_, map, append-assoc, append-nil}
 use lib.Bits.{bitAnd, and-step, and-self, and-le-r}
-use lib.Count.{trailingZeros, under}
-use lib.Pow.{shr-lt}
+use lib.Count.{trailingZeros, ones, ones-step}
 use lib.Dec.{T, eqb, ltb, eqb→eq}
-use lib.ListN.{length}
+use lib.ListN.{length, take, length-map}
 use Rattle.rows.specs.declared.generic_joint.Masks.{Masks}
 use Rattle.rows.specs.declared.joint_velocity_constraint.WritebackId.{WritebackId}
 use Rattle.rows.specs.declared.joint_velocity_constraint.WritebackId.the-variants.{Dof, Limit, Motor}
-use Rattle.rows.specs.RowIds.{hasAxis, isLocked, isMotor, isLimit, isCoupled, keep, some, firstCoupled, inOrder, sharesLinear, groupOne, lockIds, limitIds, groupTwo, rowIds}
+use Rattle.rows.specs.RowIds.{hasAxis, isLocked, isMotor, isLimit, isCoupled, some, firstCoupled, sharesLinear, groupOne, limitIds, rowIds}
 use Rattle.rows.specs.RowSlots.{slotAxis, slotId, bitsOf, atAxes, slots, slotBits}
-use Rattle.rows.proofs.MaskBits.{below, at, low8-0, low8-1, low8-2, without}
-use Rattle.rows.proofs.RowIdsPush.{split, coupled-motor, coupled-limit}
+use Rattle.rows.proofs.MaskBits.{first-coupled, below, at, low8-0, low8-1, low8-2, without}
+use Rattle.rows.proofs.RowIdsCount.{bit}
+use Rattle.rows.proofs.CoupledIds.{split, coupled-motor, coupled-limit}
 
 -- ---- the slots of a number
 
@@ -129,7 +129,29 @@ grouped : {A : Type 0} (a b c d e f g h i j k : List A)
     ≡ ((a ++ (b ++ c)) ++ d) ++ ((e ++ (f ++ g)) ++ ((h ++ (i ++ j)) ++ k))
 grouped a b c d e f g h i j k = simp (append-assoc, append-nil)
 
+four : {A : Type 0} (a b c d : List A) → a ++ (b ++ (c ++ (d ++ []))) ≡ (a ++ (b ++ c)) ++ d
+four a b c d = simp (append-assoc, append-nil)
+
+-- how many places answer yes
+ones-places : (bs : List Bool) (s : ℕ) → ones (bitsOf bs) ≡ length (places s bs)
+unfolding ones
+ones-places [] s = refl
+ones-places (true ∷ bs) s =
+    let n : ℕ = 1 + 2 * bitsOf bs in
+    omega (arith, ones-step n, ap ones (high-bits true (bitsOf bs)), ones-places bs (suc s))
+ones-places (false ∷ bs) s =
+    let n : ℕ = 0 + 2 * bitsOf bs in
+    omega (arith, ones-step n, ap ones (high-bits false (bitsOf bs)), ones-places bs (suc s))
+
+-- the four lowest bits
+low-four : (a b c d : Bool) (v : ℕ) → (bit a + 2 * (bit b + 2 * (bit c + 2 * (bit d + 2 * v)))) % 16 ≡ bitsOf (a ∷ b ∷ c ∷ d ∷ [])
+low-four a b c d v = omega (arith, bits-lt (a ∷ b ∷ c ∷ d ∷ []))
+
 -- ---- a joint's slots
+
+-- those of motors
+abbrev motorSlots : Masks → List Bool
+motorSlots k = take 4 (slots k)
 
 pub slotBits-lt : (k : Masks) → slotBits k < 2048
 unfolding slotBits
@@ -139,25 +161,58 @@ abbrev one : (ℕ → WritebackId) → (ℕ → Bool) → ℕ → List Writeback
 one g p i = cond (p i) (g i ∷ []) []
 
 module _ (k : Masks) (f : ℕ) (e : firstCoupled 2 k ≡ cond (ltb f 2) (f ∷ []) []) where
+  abbrev m : ℕ → Bool
+  m i = isMotor k i && not (isCoupled k i)
+
+  abbrev t : ℕ → Bool
+  t i = isLimit k i && not (isCoupled k i)
+
+  abbrev l : ℕ → Bool
+  l = isLocked k
+
+  -- what the slots of each kind name
+  motors : (one Motor m 2 ++ (one Motor m 0 ++ one Motor m 1)) ++ cond (sharesLinear 2 k) (Motor f ∷ []) [] ≡ groupOne 2 1 k
+  motors = ap₂ _++_ (split Motor (m 2) (m 0) (m 1)) (coupled-motor k f e)
+
+  limits : (one Limit t 2 ++ (one Limit t 0 ++ one Limit t 1)) ++ cond (some (isLimit k) (firstCoupled 2 k)) (Limit f ∷ []) [] ≡ limitIds 2 1 k
+  limits = ap₂ _++_ (split Limit (t 2) (t 0) (t 1)) (coupled-limit k f e)
+
+  placed : map (λ s. slotId s f) (places 0 (slots k)) ≡ rowIds 2 1 k
+  unfolding rowIds slotId slotAxis
+  placed =
+      map-places (λ s. slotId s f) (slots k) 0
+      ∙ grouped (one Motor m 2) (one Motor m 0) (one Motor m 1) (cond (sharesLinear 2 k) (Motor f ∷ []) [])
+      (one Dof l 2) (one Dof l 0) (one Dof l 1)
+      (one Limit t 2) (one Limit t 0) (one Limit t 1) (cond (some (isLimit k) (firstCoupled 2 k)) (Limit f ∷ []) [])
+      ∙ ap₂ _++_ motors (ap₂ _++_ (split Dof (l 2) (l 0) (l 1)) limits)
+
+  motors-placed : map (λ s. slotId s f) (places 0 (motorSlots k)) ≡ groupOne 2 1 k
+  unfolding slotId slotAxis
+  motors-placed =
+      map-places (λ s. slotId s f) (motorSlots k) 0
+      ∙ four (one Motor m 2) (one Motor m 0) (one Motor m 1) (cond (sharesLinear 2 k) (Motor f ∷ []) [])
+      ∙ motors
+
   -- the ids of a joint's slots are its ids
   pub slot-ids : map (λ s. slotId s f) (slotsFrom 11 0 (slotBits k)) ≡ rowIds 2 1 k
-  unfolding slotBits rowIds slotId slotAxis
-  slot-ids =
-      let m : ℕ → Bool = λ i. isMotor k i && not (isCoupled k i) in
-      let t : ℕ → Bool = λ i. isLimit k i && not (isCoupled k i) in
-      let l : ℕ → Bool = isLocked k in
-      ap (map (λ s. slotId s f)) (places-slots (slots k) 0)
-      ∙ map-places (λ s. slotId s f) (slots k) 0
-      ∙ rw (
-        grouped (one Motor m 2) (one Motor m 0) (one Motor m 1) (cond (sharesLinear 2 k) (Motor f ∷ []) [])
-            (one Dof l 2) (one Dof l 0) (one Dof l 1)
-            (one Limit t 2) (one Limit t 0) (one Limit t 1) (cond (some (isLimit k) (firstCoupled 2 k)) (Limit f ∷ []) []),
-        split Motor (m 2) (m 0) (m 1),
-        coupled-motor k f e,
-        split Dof (l 2) (l 0) (l 1),
-        split Limit (t 2) (t 0) (t 1),
-        coupled-limit k f e,
-      )
+  unfolding slotBits
+  slot-ids = ap (map (λ s. slotId s f)) (places-slots (slots k) 0) ∙ placed
+
+-- there are as many as slots, and the motors are the four lowest slots'
+pub slots-count : (k : Masks) → ones (slotBits k) ≡ length (rowIds 2 1 k)
+unfolding slotBits
+slots-count k =
+    let f = trailingZeros 32 (bitAnd (k .«coupled_axes») 3) in
+    ones-places (slots k) 0 ∙ sym (length-map (places 0 (slots k)) (λ s. slotId s f)) ∙ ap length (placed k f (first-coupled (k .«coupled_axes»)))
+
+pub motors-count : (k : Masks) → ones (slotBits k % 16) ≡ length (groupOne 2 1 k)
+unfolding slotBits
+motors-count k =
+    let f = trailingZeros 32 (bitAnd (k .«coupled_axes») 3) in
+    ap ones (low-four (isMotor k 2 && not (isCoupled k 2)) (isMotor k 0 && not (isCoupled k 0)) (isMotor k 1 && not (isCoupled k 1)) (sharesLinear 2 k) _)
+    ∙ ones-places (motorSlots k) 0
+    ∙ sym (length-map (places 0 (motorSlots k)) (λ s. slotId s f))
+    ∙ ap length (motors-placed k f (first-coupled (k .«coupled_axes»)))
 
 -- ---- the functions of row_ids.rt
 

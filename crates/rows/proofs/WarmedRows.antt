@@ -76,7 +76,7 @@ pub record Starting (warm : Warmstart) (substep : ℕ) (joint : ImpulseJoint) (c
   pub so-far : rows ≡ take k (startedRows warm substep joint cx is prevs) ++ drop k blanks
 
 -- an id, and those after it, in a list from place k on
-next-id : {A : Type 0} (is : List A) (k : ℕ) (i : A) (l : List A) → i ∷ l ≡ drop k is → (k < length is) × (getD is k i ≡ i) × (drop (k + 1) is ≡ l)
+pub next-id : {A : Type 0} (is : List A) (k : ℕ) (i : A) (l : List A) → i ∷ l ≡ drop k is → (k < length is) × (getD is k i ≡ i) × (drop (k + 1) is ≡ l)
 next-id is k i l e =
     let at : k < length is = omega (arith, ap length e, length-drop k is) in
     let split : i ∷ l ≡ getD is k i ∷ drop (suc k) is = e ∙ drop-cons is k i at in

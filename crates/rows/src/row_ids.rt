@@ -5,7 +5,7 @@ ghost use mathlib.Core.List.{List, [], _∷_, _++_};
 ghost use Prim.Native.Nat.{ℕ, _+_, _*_, _/_, _%_, _≤_, _<_};
 ghost use lib.Dec.{ltb};
 ghost use lib.ListN.{length};
-ghost use Rattle.rows.specs.RowIds.{hasAxis, isLocked, isMotor, isLimit, isCoupled, some, keep, inOrder, firstCoupled, sharesLinear, groupOne, lockIds, idsArray, rowIds, rowIdsArray};
+ghost use Rattle.rows.specs.RowIds.{hasAxis, isLocked, isMotor, isLimit, isCoupled, some, firstCoupled, sharesLinear, groupOne, rowIds, rowIdsArray};
 ghost use Rattle.rows.specs.RowSlots.{slotAxis, slotId, bitsOf, atAxes, slotBits};
 ghost use Rattle.rows.specs.declared.joint_velocity_constraint.WritebackId.{WritebackId};
 use crate::generic_joint::Masks;
@@ -92,123 +92,7 @@ impl Masks {
     }
 }
 
-// The ids with one more at their end, if it is named.
-fn push_if(ids: RowIds, named: bool, id: WritebackId) -> RowIds
-    requires { ⌜ (named ≡ true → ids .len < 6) ⌝ }
-    ensures { λ r. ⌜ ((n : ℕ) (l : List WritebackId) → ids ≡ idsArray n l → r ≡ idsArray n (l ++ cond named (id ∷ []) [])) ⌝ }
-    ensures { λ r. ⌜ r .len ≤ ids .len + 1 ⌝ }
-{
-    if !named {
-        return ids;
-    }
-    let mut all = ids.ids;
-    let n = ids.len;
-    all[n] = RowId { id };
-    RowIds {
-        ids: all,
-        first: ids.first,
-        len: n + 1,
-    }
-}
-
-// Group one.
-fn motor_ids(masks: Masks) -> RowIds
-    ensures { λ r. ⌜ r ≡ idsArray 0 (groupOne 2 1 masks) ⌝ }
-{
-    let none = RowIds {
-        ids: [RowId {
-            id: WritebackId::Dof(0),
-        }; 6],
-        first: 0,
-        len: 0,
-    };
-    let angular = push_if(none, masks.is_motor_outside(2), WritebackId::Motor(2));
-    let linear0 = push_if(angular, masks.is_motor_outside(0), WritebackId::Motor(0));
-    let linear1 = push_if(linear0, masks.is_motor_outside(1), WritebackId::Motor(1));
-    let f = masks.first_coupled_lin_axis_id();
-    push_if(linear1, masks.shares_linear(), WritebackId::Motor(f))
-}
-
-// Group two's locks, after group one.
-fn lock_ids(ids: RowIds, masks: Masks) -> RowIds
-    requires { ⌜ ids ≡ idsArray (length (groupOne 2 1 masks)) (groupOne 2 1 masks) ⌝ }
-    ensures { λ r. ⌜ r ≡ idsArray (length (groupOne 2 1 masks)) (groupOne 2 1 masks ++ lockIds 2 1 masks) ⌝ }
-{
-    let angular = push_if(ids, masks.is_locked(2), WritebackId::Dof(2));
-    let linear0 = push_if(angular, masks.is_locked(0), WritebackId::Dof(0));
-    push_if(linear0, masks.is_locked(1), WritebackId::Dof(1))
-}
-
-// Group two's limits, after group one and the locks.
-fn limit_ids(ids: RowIds, masks: Masks) -> RowIds
-    requires { ⌜ ids ≡ idsArray (length (groupOne 2 1 masks)) (groupOne 2 1 masks ++ lockIds 2 1 masks) ⌝ }
-    ensures { λ r. ⌜ r ≡ rowIdsArray masks ⌝ }
-{
-    let angular = push_if(ids, masks.is_limit_outside(2), WritebackId::Limit(2));
-    let linear0 = push_if(angular, masks.is_limit_outside(0), WritebackId::Limit(0));
-    let linear1 = push_if(linear0, masks.is_limit_outside(1), WritebackId::Limit(1));
-    let f = masks.first_coupled_lin_axis_id();
-    push_if(linear1, masks.has_coupled_limit(), WritebackId::Limit(f))
-}
-
-// A joint's ids, in the order of its rows.
-pub fn row_ids(masks: Masks) -> RowIds
-    ensures { λ r. ⌜ r ≡ rowIdsArray masks ⌝ }
-{
-    let motors = motor_ids(masks);
-    let all = motors.ids;
-    let n = motors.len;
-    let locks = lock_ids(
-        RowIds {
-            ids: all,
-            first: n,
-            len: n,
-        },
-        masks,
-    );
-    limit_ids(locks, masks)
-}
-
-// How many axes of a mask are neither locked nor coupled.
-fn count_outside(mask: u32, locked: u32, coupled: u32) -> u32
-    ensures { λ r. ⌜ r ≡ length (keep (λ i. hasAxis mask i && not (hasAxis locked i) && not (hasAxis coupled i)) (inOrder 2 1)) ⌝ }
-    ensures { λ r. ⌜ r ≤ 3 ⌝ }
-{
-    u32::count_ones((mask % 8) & !(locked % 8) & !(coupled % 8))
-}
-
-// How many axes are locked.
-fn count_locked(locked: u32) -> u32
-    ensures { λ r. ⌜ r ≡ length (keep (λ i. hasAxis locked i) (inOrder 2 1)) ⌝ }
-    ensures { λ r. ⌜ r ≤ 3 ⌝ }
-{
-    u32::count_ones(locked % 8)
-}
-
-// The number of a joint's motor rows. They are its first ones.
-pub fn motor_count(masks: Masks) -> usize
-    ensures { λ r. ⌜ r ≡ length (groupOne 2 1 masks) ⌝ }
-{
-    let motors = count_outside(masks.motor_axes, masks.locked_axes, masks.coupled_axes);
-    let coupled_motor = masks.shares_linear() as u32;
-    (motors + coupled_motor) as usize
-}
-
-// The number of a joint's rows.
-pub fn row_count(masks: Masks) -> usize
-    ensures { λ r. ⌜ r ≡ length (rowIds 2 1 masks) ⌝ }
-{
-    let locked = masks.locked_axes;
-    let coupled = masks.coupled_axes;
-    let motors = count_outside(masks.motor_axes, locked, coupled);
-    let limits = count_outside(masks.limit_axes, locked, coupled);
-    let locks = count_locked(locked);
-    let coupled_motor = masks.shares_linear() as u32;
-    let coupled_limit = masks.has_coupled_limit() as u32;
-    (motors + coupled_motor + locks + limits + coupled_limit) as usize
-}
-
-// ---- the ids one by one, without an array of them: eleven slots in the order of rows, one bit for each that is named
+// ---- the ids one by one: eleven slots in the order of rows, one bit for each that is named
 
 // The axes of a mask below 8 as bits in the order of rows: the angular one is the lowest.
 fn in_order(mask: u32) -> u32
@@ -233,7 +117,7 @@ fn locks(locked: u32) -> u32
     in_order(locked % 8)
 }
 
-// A joint's slots. Their ids, from the lowest bit up, are those of `row_ids`.
+// A joint's slots. Their ids, from the lowest bit up, are the joint's.
 pub(crate) fn row_slots(masks: Masks) -> u32
     ensures { λ r. ⌜ r ≡ slotBits masks ⌝ }
 {
@@ -271,4 +155,38 @@ pub(crate) fn slot_id(s: u32, f: usize) -> WritebackId
         return WritebackId::Dof(slot_axis(s - 4, f));
     }
     WritebackId::Limit(slot_axis(s - 7, f))
+}
+
+// The number of a joint's motor rows. They are its first ones.
+pub fn motor_count(masks: Masks) -> usize
+    ensures { λ r. ⌜ r ≡ length (groupOne 2 1 masks) ⌝ }
+{
+    u32::count_ones(row_slots(masks) % 16) as usize
+}
+
+// The number of a joint's rows.
+pub fn row_count(masks: Masks) -> usize
+    ensures { λ r. ⌜ r ≡ length (rowIds 2 1 masks) ⌝ }
+{
+    u32::count_ones(row_slots(masks)) as usize
+}
+
+// A joint's ids, in the order of its rows.
+pub fn row_ids(masks: Masks) -> RowIds
+    ensures { λ r. ⌜ r ≡ rowIdsArray masks ⌝ }
+{
+    let f = masks.first_coupled_lin_axis_id();
+    let mut ids = [RowId {
+        id: WritebackId::Dof(0),
+    }; 6];
+    let mut left = row_slots(masks);
+    let mut k = 0usize;
+    while left > 0 {
+        let id = slot_id(u32::trailing_zeros(left), f);
+        ids[k] = RowId { id };
+        left = left & (left - 1);
+        k += 1;
+    }
+    let first = motor_count(masks);
+    RowIds { ids, first, len: k }
 }

@@ -1,36 +1,24 @@
--- `motor_count` meets its contract: the count of motor rows is the sum of the counts of axes.
+-- `motor_count` meets its contract: the motors' slots are the four lowest.
+use mathlib.Core.Path.{ap, _∙_}
+use Prim.Native.Nat.{_%_}
 use native.Mathlib.Omega.{arith}
-use mathlib.Core.Path.{ap}
 use borrow.Author.Needs.{needs}
-use Rattle.rows.proofs.RowIdsCount.{bit, byte-bit, byte-le, motor-count}
+use lib.Count.{ones}
+use Rattle.rows.proofs.RowSlotsLaws.{motors-count}
+use Rattle.rows.proofs.UpdateRows.{group-counts}
 use Rattle.rows.proofs.row_ids.motor_count.Statement.{statement}
 use Rattle.rows.proofs.row_ids.motor_count.Tie as tie
 
-count-outside-requires : tie.Need-count-outside-requires
-count-outside-requires c κs = search needs
-
-shares-linear-requires : tie.Need-shares-linear-requires
-shares-linear-requires c κs = search needs
-
-cast-coupled-motor : tie.Need-cast-coupled-motor
-cast-coupled-motor c = tt
-
-add-result : tie.Need-add-result
-add-result c = record { fits = omega (arith, byte-le (c .shares-linear .result)) }
-
-cast-result : tie.Need-cast-result
-cast-result c = record { fits = omega (arith, byte-le (c .shares-linear .result)) }
+row-slots-requires : tie.Need-row-slots-requires
+row-slots-requires c κs = search needs
 
 returns : tie.Need-returns
-returns c = omega (arith, motor-count 2 1 (c .before .before .args .masks), byte-bit (c .shares-linear .result), ap bit (c .shares-linear .ensures))
+returns c = ap (λ x. ones (x % 16)) (c .row-slots .ensures) ∙ motors-count (c .before .args .masks)
+
+cast-result : tie.Need-cast-result
+cast-result c =
+    let counts = group-counts (c .before .args .masks) in
+    record { fits = omega (arith, returns c, counts .0, counts .1) }
 
 pub motor-count-spec : {M : Type 1} → statement M
-motor-count-spec =
-    tie.close
-    (tie.spec
-    count-outside-requires
-    shares-linear-requires
-    cast-coupled-motor
-    add-result
-    cast-result
-    returns)
+motor-count-spec = tie.close (tie.spec row-slots-requires cast-result returns)

@@ -3,7 +3,7 @@ use mathlib.Core.Path.{sym, _∙_}
 use borrow.Author.Needs.{needs}
 use borrow.Author.Tests.{lt-ltb, le-ltb}
 use Rattle.rows.specs.RowIds.{isLimit}
-use Rattle.rows.proofs.RowIdsPush.{coupled-named, coupled-none}
+use Rattle.rows.proofs.CoupledIds.{coupled-named, coupled-none}
 use Rattle.rows.proofs.generic_joint.Masks.has_coupled_limit.Statement.{statement}
 use Rattle.rows.proofs.generic_joint.Masks.has_coupled_limit.Tie as tie
 
