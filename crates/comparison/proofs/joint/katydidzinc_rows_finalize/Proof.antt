@@ -12,6 +12,9 @@ returns c = simp (lt-leb _ _ (c .if1 .taken))
 rows-at-requires : tie.Need-rows-at-requires
 rows-at-requires c κs = search needs
 
+at-most-six-requires : tie.Need-at-most-six-requires
+at-most-six-requires c κs = search needs
+
 finalize-groups-requires : tie.Need-finalize-groups-requires
 finalize-groups-requires c κs = search needs
 
@@ -23,7 +26,7 @@ same-length c = search needs
 
 returns-2 : tie.Need-returns-2
 unfolding finalize
-returns-2 c = simp (le-leb _ _ (c .before .before .before .before .before .before .before .if1 .left)) (cc)
+returns-2 c = simp (le-leb _ _ (c .before .before .before .before .before .before .before .before .if1 .left)) (cc)
 
 pub katydidzinc-rows-finalize-spec : {M : Type 1} → statement M
 katydidzinc-rows-finalize-spec =
@@ -31,6 +34,7 @@ katydidzinc-rows-finalize-spec =
     (tie.spec
     returns
     rows-at-requires
+    at-most-six-requires
     finalize-groups-requires
     put-six-requires
     same-length
