@@ -4,15 +4,16 @@
 use Prim.Native.Nat.{ℕ, zero, suc, _+_, _*_, _-_, _≤_, _<_}
 use mathlib.Core.Path.{_≡_, refl, sym, ap, _∙_}
 use mathlib.Core.Logic.{_≢_, _⊎_, inl, inr, ⊎-elim}
-use mathlib.Core.Bool.{Bool, true, false, not, cond, _&&_, false≢true}
+use mathlib.Core.Bool.{Bool, true, false, not, cond, _&&_}
 use mathlib.Core.List.{List, [], _∷_, _++_}
 use native.Mathlib.Nat.{add-zero, add-assoc}
 use native.Mathlib.Omega.{arith}
 use borrow.Author.Tests.{eqb-true, eqb-false}
 use lib.Dec.{eqb, lit≤}
 use lib.ListN.{length, getD, drop}
-use lib.Ieee.{Float, nan, inf, fin, isNan}
+use lib.Ieee.{Float, nan, isNan}
 use Rattle.floats.specs.Scalar.{isFinite}
+use Rattle.floats.proofs.ScalarLaws.{not-nan}
 use Rattle.motor_table.specs.Records.{readAt}
 use Rattle.motor_table.specs.Tables.{Table, after, readFrom, tableAnswer}
 use Rattle.motor_table.specs.Tables.Table.{granted, refused}
@@ -20,7 +21,7 @@ use Rattle.motor_table.specs.Targets.{targetOf}
 use Rattle.motor_table.specs.declared.record.Entry.{Entry}
 use Rattle.motor_table.specs.declared.record.RecordRead.{RecordRead}
 use Rattle.motor_table.specs.declared.table.TableAnswer.{TableAnswer}
-use Rattle.motor_table.proofs.GrantedLaws.{Fits, AllFit, present-parts, is-there, next-record, next-answer}
+use Rattle.motor_table.proofs.GrantedLaws.{Fits, AllFit, present-parts, is-there, granted-after, granted-count, refused-never, next-record, next-answer}
 use Rattle.motor_table.proofs.TargetLaws.{target-finite}
 use Rattle.rows.specs.GenericJoint.{motorAt}
 use Rattle.rows.specs.Named.{SameNamed}
@@ -96,15 +97,15 @@ table-size s (refused k) = refl
 
 -- one record, and then the rest
 record-first : (e : Entry) (s : List Float) (k n : ℕ) (t : Table) → tableAnswer k t ≡ TableAnswer.Granted n → setTable s (after e t) ≡ setTable (setRecord s e) t
-unfolding setTable setRecords after tableAnswer
-record-first e s k n (granted es) h = refl
-record-first e s k n (refused r) h = let z : true ≡ false = cc in absurd (false≢true (sym z))
+unfolding setTable setRecords
+record-first e s k n (granted es) h = ap (setTable s) (granted-after e es)
+record-first e s k n (refused r) h = absurd (refused-never k n r h)
 
 -- no record is left
 pub no-record : (s : List Float) (k n : ℕ) (t : Table) → tableAnswer k t ≡ TableAnswer.Granted n → n ≤ k → setTable s t ≡ s
-unfolding setTable setRecords tableAnswer
+unfolding setTable setRecords
 no-record s k n (granted []) h l = refl
-no-record s k n (granted (e ∷ es)) h l = let z : k + suc (length es) ≡ n = cc in absurd (omega arith)
+no-record s k n (granted (e ∷ es)) h l = let z : k + suc (length es) ≡ n = granted-count k n (e ∷ es) h in absurd (omega arith)
 no-record s k n (refused r) h l = refl
 
 module _ (joints m n i : ℕ) (bytes : List ℕ) (at : ℕ) (whole : tableAnswer i (readFrom joints (m - i) (drop at bytes)) ≡ TableAnswer.Granted n) (l : i ≤ m) (h : i < n)
@@ -160,12 +161,6 @@ last-wins joints (d ∷ es) e rs s a p room =
     last-wins joints es e rs (setRecord s d) (a .1) p (rw (length-putTarget s (d .joint .size) (d .axis .size) (targetOf (d .thousandths))) room)
 
 -- ---- rules 6 and 12
-
-not-nan : (x : Float) → isFinite x ≡ true → not (isNan x) ≡ true
-unfolding isFinite isNan
-not-nan nan e = absurd (false≢true e)
-not-nan (inf s) e = refl
-not-nan (fin s m e) h = refl
 
 and-still : (a b a′ b′ : Bool) → (a ≡ true → a′ ≡ true) → (b ≡ true → b′ ≡ true) → (a && b) ≡ true → (a′ && b′) ≡ true
 and-still a b a′ b′ f g h = let p = both a b h in rw (f (p .0), g (p .1))

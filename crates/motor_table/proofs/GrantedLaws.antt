@@ -240,6 +240,20 @@ module _ (joints joints′ : ℕ) where
 
 -- ---- a second walk over a table that is granted, where i of its n records went before
 
+-- ---- what an answer says of a table
+
+pub granted-after : (e : Entry) (es : List Entry) → after e (granted es) ≡ granted (e ∷ es)
+unfolding after
+granted-after e es = refl
+
+pub granted-count : (k n : ℕ) (es : List Entry) → tableAnswer k (granted es) ≡ TableAnswer.Granted n → k + length es ≡ n
+unfolding tableAnswer
+granted-count k n es h = cc
+
+pub refused-never : (k n r : ℕ) → tableAnswer k (refused r) ≡ TableAnswer.Granted n → ⊥
+unfolding tableAnswer
+refused-never k n r h = let z : true ≡ false = cc in false≢true (sym z)
+
 module _ (joints m n i : ℕ) (s : List ℕ) (at : ℕ) (all : tableAnswer i (readFrom joints (m - i) (drop at s)) ≡ TableAnswer.Granted n) where
   -- while there are records left there are bytes left, and fewer than m records went before
   pub bytes-left : i < n → at < length s

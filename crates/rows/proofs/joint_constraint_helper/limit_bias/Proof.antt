@@ -1,6 +1,6 @@
 -- `limit_bias` is put together from what its callees promise.
 use borrow.Author.Needs.{needs}
-use Rattle.floats.specs.Scalar.{clampedOf}
+use Rattle.floats.proofs.ScalarLaws.{clamped-value}
 use Rattle.rows.specs.Makers.{limitBiasOf}
 use Rattle.rows.proofs.joint_constraint_helper.limit_bias.Statement.{statement}
 use Rattle.rows.proofs.joint_constraint_helper.limit_bias.Tie as tie
@@ -18,12 +18,12 @@ clamp-requires : tie.Need-clamp-requires
 clamp-requires c κs = search needs
 
 returns : tie.Need-returns
-unfolding limitBiasOf clampedOf
+unfolding limitBiasOf
 returns c =
     let d = c .before in
     let e = d .before in
     let f = e .before in
-    simp (c .clamp .ensures, d .max2 .ensures, e .max .ensures, f .max-corrective-velocity .ensures)
+    simp (c .clamp .ensures, clamped-value, d .max2 .ensures, e .max .ensures, f .max-corrective-velocity .ensures)
 
 pub limit-bias-spec : {M : Type 1} → statement M
 limit-bias-spec =

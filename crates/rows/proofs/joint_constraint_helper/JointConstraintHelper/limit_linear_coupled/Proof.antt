@@ -1,6 +1,6 @@
 -- `limit_linear_coupled` is put together from what its callees promise.
 use borrow.Author.Needs.{needs}
-use Rattle.floats.specs.Scalar.{clampedOf}
+use Rattle.floats.proofs.ScalarLaws.{clamped-value}
 use Rattle.rows.specs.Makers.{limitLinearCoupledOf}
 use Rattle.rows.proofs.joint_constraint_helper.JointConstraintHelper.limit_linear_coupled.Statement.{
   statement,
@@ -32,7 +32,7 @@ assemble-requires : tie.Need-assemble-requires
 assemble-requires c κs = search needs
 
 returns : tie.Need-returns
-unfolding limitLinearCoupledOf clampedOf
+unfolding limitLinearCoupledOf
 returns c =
     let d = c .before in
     let e = d .before in
@@ -47,6 +47,7 @@ returns c =
       c .assemble .ensures,
       d .infinity .ensures,
       e .clamp .ensures,
+      clamped-value,
       f .max .ensures,
       g .max-corrective-velocity .ensures,
       h .inv-dt .ensures,

@@ -1,6 +1,6 @@
 -- `residual` is put together from what its callees promise.
 use borrow.Author.Needs.{needs}
-use Rattle.floats.specs.Scalar.{clampedOf}
+use Rattle.floats.proofs.ScalarLaws.{clamped-value}
 use Rattle.rows.specs.Step.{residualOf}
 use Rattle.rows.proofs.joint_velocity_constraint.JointConstraint.residual.Statement.{
   statement,
@@ -14,10 +14,10 @@ clamp-requires : tie.Need-clamp-requires
 clamp-requires c κs = search needs
 
 returns : tie.Need-returns
-unfolding residualOf clampedOf
+unfolding residualOf
 returns c =
     let d = c .before .before in
-    simp (d .clamp .ensures, d .before .wanted-impulse .ensures)
+    simp (d .clamp .ensures, clamped-value, d .before .wanted-impulse .ensures)
 
 pub residual-spec : {M : Type 1} → statement M
 residual-spec = tie.close (tie.spec wanted-impulse-requires clamp-requires returns)

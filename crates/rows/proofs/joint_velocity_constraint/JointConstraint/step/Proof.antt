@@ -1,6 +1,6 @@
 -- `step` is put together from what its callees promise.
 use borrow.Author.Needs.{needs}
-use Rattle.floats.specs.Scalar.{clampedOf}
+use Rattle.floats.proofs.ScalarLaws.{clamped-value, clamped-side}
 use Rattle.rows.specs.Step.{stepOf}
 use Rattle.rows.proofs.joint_velocity_constraint.JointConstraint.step.Statement.{statement}
 use Rattle.rows.proofs.joint_velocity_constraint.JointConstraint.step.Tie as tie
@@ -18,10 +18,10 @@ applied-requires : tie.Need-applied-requires
 applied-requires c κs = search needs
 
 returns : tie.Need-returns
-unfolding stepOf clampedOf
+unfolding stepOf
 returns c =
     let d = c .before .before .before in
-    simp (c .applied .ensures, c .before .with-impulse .ensures, d .clamp .ensures, d .before .wanted-impulse .ensures)
+    simp (c .applied .ensures, c .before .with-impulse .ensures, d .clamp .ensures, clamped-value, clamped-side, d .before .wanted-impulse .ensures)
 
 pub step-spec : {M : Type 1} → statement M
 step-spec =
