@@ -238,8 +238,6 @@ module _ (joints joints′ : ℕ) where
   pub same-records : (left : ℕ) (bs : List ℕ) (es fs : List Entry) → readFrom joints left bs ≡ granted es → readFrom joints′ left bs ≡ granted fs → es ≡ fs
   same-records left bs es fs h k = rw (h, k) at (table-same left bs)
 
--- ---- a second walk over a table that is granted, where i of its n records went before
-
 -- ---- what an answer says of a table
 
 pub granted-after : (e : Entry) (es : List Entry) → after e (granted es) ≡ granted (e ∷ es)
@@ -253,6 +251,8 @@ granted-count k n es h = cc
 pub refused-never : (k n r : ℕ) → tableAnswer k (refused r) ≡ TableAnswer.Granted n → ⊥
 unfolding tableAnswer
 refused-never k n r h = let z : true ≡ false = cc in false≢true (sym z)
+
+-- ---- a second walk over a table that is granted, where i of its n records went before
 
 module _ (joints m n i : ℕ) (s : List ℕ) (at : ℕ) (all : tableAnswer i (readFrom joints (m - i) (drop at s)) ≡ TableAnswer.Granted n) where
   -- while there are records left there are bytes left, and fewer than m records went before
