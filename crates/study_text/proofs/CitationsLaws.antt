@@ -109,7 +109,7 @@ cited-short used r = go (hasAxis used (indexOf r))
     go true = citation-short r
     go false = omega arith
 
-heading-length : length rulesHeading ≡ 107
+heading-length : length rulesHeading ≡ 195
 unfolding rulesHeading
 heading-length = refl
 

@@ -20,9 +20,11 @@ use Rattle.texts.proofs.PutLaws.{put-then, put-text, put-room, put-length, put-
 use Rattle.study_text.specs.Number.{blanks, filled, atRight, millionthsText, columnOf}
 use Rattle.study_text.specs.Rules.{ruleOf}
 use Rattle.catalogue.specs.Text.{idText}
+use Rattle.decimals.specs.Spelled.{spelledText}
+use Rattle.decimals.proofs.SpelledLaws.{spelled-short}
 use Rattle.study_text.specs.Words.{boundOf, numberOf, definitionText, wordOf}
 use Rattle.study_text.specs.Row.{areNames}
-use Rattle.study_text.specs.Csv.{field, unitOf, unitText, atText, bitsText, csvNames, csvId, csvNumber, csvNumbers, csvEnd, csvRule, csvValues, csvText}
+use Rattle.study_text.specs.Csv.{field, unitOf, unitText, atText, bitsText, csvNames, csvId, csvNumber, csvNumbers, csvEnd, csvRule, csvStanding, csvValues, csvText}
 use Rattle.study_text.specs.declared.number.Column.{Column}
 use Rattle.study_text.specs.declared.rules.Rule.{Rule}
 use Rattle.study_text.specs.declared.words.Word.{Word}
@@ -95,7 +97,7 @@ module _ (x : Float) {c : Column} (e : c ≡ columnOf (millionthsText x)) where
 
 -- ---- lengths
 
-field-length : (text : List ℕ) → length (field text) ≡ length text + 1
+pub field-length : (text : List ℕ) → length (field text) ≡ length text + 1
 unfolding field
 field-length text = length-append text (COMMA ∷ [])
 
@@ -116,11 +118,31 @@ at-four Low = omega arith
 at-four High = omega arith
 at-four No = omega arith
 
-csv-number-short : (x : Float) → length (csvNumber x) ≤ 23
+pub csv-number-short : (x : Float) → length (csvNumber x) ≤ 39
 unfolding csvNumber hexWord
 csv-number-short x =
-    omega
-    (arith, length-append (field (millionthsText x)) (field (bitsText x)), field-length (millionthsText x), field-length (bitsText x), millionths-short x)
+    omega (
+      arith,
+      length-append (field (millionthsText x) ++ field (spelledText x)) (field (bitsText x)),
+      length-append (field (millionthsText x)) (field (spelledText x)),
+      field-length (millionthsText x),
+      field-length (spelledText x),
+      field-length (bitsText x),
+      millionths-short x,
+      spelled-short x,
+    )
+
+pub csv-numbers-short : (a b c : Float) → length (csvNumbers a b c) ≤ 117
+unfolding csvNumbers
+csv-numbers-short a b c =
+    omega (
+      arith,
+      length-append (csvNumber a ++ csvNumber b) (csvNumber c),
+      length-append (csvNumber a) (csvNumber b),
+      csv-number-short a,
+      csv-number-short b,
+      csv-number-short c,
+    )
 
 pub names-length : (joint body1 body2 : List ℕ) → length (csvNames joint body1 body2) ≡ length joint + length body1 + length body2 + 3
 unfolding csvNames
@@ -134,24 +156,22 @@ names-length joint body1 body2 =
       field-length body2,
     )
 
-pub values-short : (id : WritebackId) (rule : Rule) (impulse low high : Float) → length (csvValues id rule impulse low high) ≤ 128
-unfolding csvValues csvId csvNumbers csvRule csvEnd
-values-short id rule impulse low high =
+pub values-short : (id : WritebackId) (rule : Rule) (impulse low high residual : Float) → length (csvValues id rule impulse low high residual) ≤ 208
+unfolding csvValues csvId csvStanding csvRule csvEnd
+values-short id rule impulse low high residual =
     let b = boundOf impulse low high in
     omega (
       arith,
-      length-append (csvId id ++ csvNumbers impulse low high) (csvRule b rule),
+      length-append (csvId id ++ csvNumbers impulse low high) (csvNumber residual ++ csvRule b rule),
+      length-append (csvNumber residual) (csvRule b rule),
+      csv-number-short residual,
       length-append (csvId id) (csvNumbers impulse low high),
       length-append (field (idText id)) (field (unitText id)),
       field-length (idText id),
       field-length (unitText id),
       id-six id,
       unit-short (axisOf id),
-      length-append (csvNumber impulse ++ csvNumber low) (csvNumber high),
-      length-append (csvNumber impulse) (csvNumber low),
-      csv-number-short impulse,
-      csv-number-short low,
-      csv-number-short high,
+      csv-numbers-short impulse low high,
       length-append (field (atText b) ++ field (numberOf rule)) (csvEnd rule),
       length-append (field (atText b)) (field (numberOf rule)),
       field-length (atText b),
@@ -162,39 +182,38 @@ values-short id rule impulse low high =
       definition-short rule,
     )
 
--- ---- the line
+-- ---- a record: the names, and the values that were put in bytes of their own
 
-module _ (joint body1 body2 : List ℕ) (id : WritebackId) (coupled : ℕ) (impulse low high : Float) where
-  pub no-csv : areNames (length joint) (length body1) (length body2) ≡ false → csvText joint body1 body2 id coupled impulse low high ≡ []
+module _ (joint body1 body2 : List ℕ) {values text kept : List ℕ} {room n : ℕ} (short : length values ≤ room) (p : Put (replicate room 0) 0 values kept n) (e : csvNames joint body1 body2 ++ values ≡ text) where
+  the-record : csvNames joint body1 body2 ++ take n kept ≡ text
+  the-record = ap (λ (l : List ℕ). csvNames joint body1 body2 ++ l) (kept-text short p) ∙ e
+
+  record-long : length joint + length body1 + length body2 + 3 + n ≡ length (csvNames joint body1 body2 ++ take n kept)
+  record-long = omega (arith, length-append (csvNames joint body1 body2) (take n kept), names-length joint body1 body2, kept-prefix short p)
+
+  pub record-length : length joint + length body1 + length body2 + 3 + n ≡ length text
+  record-length = record-long ∙ ap length the-record
+
+  pub record-fits : (out : List ℕ) → length joint + length body1 + length body2 + 3 + n ≤ length out → 0 + length (csvNames joint body1 body2 ++ take n kept) ≤ length out
+  record-fits out f = omega (arith, record-long)
+
+  pub record-written : (out out′ : List ℕ) (r : ℕ) → length joint + length body1 + length body2 + 3 + n ≤ length out → Put out 0 (csvNames joint body1 body2 ++ take n kept) out′ r
+      → out′ ≡ written out text
+  record-written out out′ r f q = put-written out _ out′ r (put-text the-record q) (omega (arith, record-length))
+
+  pub record-left : (out : List ℕ) → length out < length joint + length body1 + length body2 + 3 + n → out ≡ written out text
+  record-left out f = not-written out _ (omega (arith, record-length))
+
+-- ---- the record of a row
+
+module _ (joint body1 body2 : List ℕ) (id : WritebackId) (coupled : ℕ) (impulse low high residual : Float) where
+  pub no-csv : areNames (length joint) (length body1) (length body2) ≡ false → csvText joint body1 body2 id coupled impulse low high residual ≡ []
   unfolding csvText
-  no-csv h = ap (λ (b : Bool). cond b (csvNames joint body1 body2 ++ csvValues id (ruleOf id coupled) impulse low high) []) h
+  no-csv h = ap (λ (b : Bool). cond b (csvNames joint body1 body2 ++ csvValues id (ruleOf id coupled) impulse low high residual) []) h
 
-  module _ (h : areNames (length joint) (length body1) (length body2) ≡ true) (rule : Rule) (e : rule ≡ ruleOf id coupled) (kept : List ℕ) (n : ℕ) (p : Put (replicate 128 0) 0 (csvValues id rule impulse low high) kept n) where
-    the-csv : csvNames joint body1 body2 ++ take n kept ≡ csvText joint body1 body2 id coupled impulse low high
-    unfolding csvText
-    the-csv =
-        ap (λ (l : List ℕ). csvNames joint body1 body2 ++ l) (kept-text (values-short id rule impulse low high) p)
-        ∙ ap (λ (r : Rule). csvNames joint body1 body2 ++ csvValues id r impulse low high) e
-        ∙ sym (ap (λ (b : Bool). cond b (csvNames joint body1 body2 ++ csvValues id (ruleOf id coupled) impulse low high) []) h)
-
-    line-long : length joint + length body1 + length body2 + 3 + n ≡ length (csvNames joint body1 body2 ++ take n kept)
-    line-long =
-        omega (
-          arith,
-          length-append (csvNames joint body1 body2) (take n kept),
-          names-length joint body1 body2,
-          kept-prefix (values-short id rule impulse low high) p,
-        )
-
-    pub csv-length : length joint + length body1 + length body2 + 3 + n ≡ length (csvText joint body1 body2 id coupled impulse low high)
-    csv-length = line-long ∙ ap length the-csv
-
-    pub csv-fits : (out : List ℕ) → length joint + length body1 + length body2 + 3 + n ≤ length out → 0 + length (csvNames joint body1 body2 ++ take n kept) ≤ length out
-    csv-fits out f = omega (arith, line-long)
-
-    pub csv-written : (out out′ : List ℕ) (r : ℕ) → length joint + length body1 + length body2 + 3 + n ≤ length out → Put out 0 (csvNames joint body1 body2 ++ take n kept) out′ r
-        → out′ ≡ written out (csvText joint body1 body2 id coupled impulse low high)
-    csv-written out out′ r f q = put-written out _ out′ r (put-text the-csv q) (omega (arith, csv-length))
-
-    pub csv-left : (out : List ℕ) → length out < length joint + length body1 + length body2 + 3 + n → out ≡ written out (csvText joint body1 body2 id coupled impulse low high)
-    csv-left out f = not-written out _ (omega (arith, csv-length))
+  pub the-csv : areNames (length joint) (length body1) (length body2) ≡ true → {rule : Rule} → rule ≡ ruleOf id coupled
+      → csvNames joint body1 body2 ++ csvValues id rule impulse low high residual ≡ csvText joint body1 body2 id coupled impulse low high residual
+  unfolding csvText
+  the-csv h e =
+      ap (λ (r : Rule). csvNames joint body1 body2 ++ csvValues id r impulse low high residual) e
+      ∙ sym (ap (λ (b : Bool). cond b (csvNames joint body1 body2 ++ csvValues id (ruleOf id coupled) impulse low high residual) []) h)

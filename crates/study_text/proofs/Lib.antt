@@ -2,6 +2,7 @@ pub mod NumberLaws
 pub mod RowLaws
 pub mod Made
 pub mod CsvLaws
+pub mod CsvReactionLaws
 pub mod PartsLaws
 pub mod CitationsLaws
 pub mod NamedLaws

@@ -5,7 +5,7 @@ use mathlib.Core.Bool.{Bool, true, false, cond, _&&_}
 use mathlib.Core.List.{List, [], _∷_, _++_, append-assoc}
 use native.Mathlib.Omega.{arith}
 use borrow.Author.Tests.{leb-true, leb-false}
-use lib.Dec.{leb}
+use lib.Dec.{eqb, leb}
 use lib.IntN.{ℤ, pos, negsuc, negℤ}
 use lib.Signed.{mag}
 use lib.Ieee.{Float, nan, inf, fin, up, down}
@@ -16,15 +16,16 @@ use Rattle.floats.specs.declared.micro_report.MicroReport.{MicroReport}
 use Rattle.floats.specs.declared.micro_report.MicroReport.the-variants.{Whole, Over, Nan}
 use Rattle.rows.specs.declared.joint_velocity_constraint.WritebackId.{WritebackId}
 use Rattle.rows.specs.declared.joint_velocity_constraint.WritebackId.the-variants.{Dof, Limit, Motor}
-use Rattle.texts.specs.Ascii.{LF, SPACE}
+use Rattle.texts.specs.Ascii.{ascii, LF, SPACE}
 use Rattle.texts.specs.Written.{written, Put}
 use Rattle.texts.proofs.PutLaws.{put-then, put-text, put-room, put-written, not-written, empty-written}
-use Rattle.study_text.specs.Number.{blanks, filled, atRight, signed, overText, reportText, millionthsText, columnOf}
+use Rattle.decimals.specs.Spelled.{spelledText}
+use Rattle.decimals.proofs.SpelledLaws.{spelled-short}
+use Rattle.study_text.specs.Number.{blanks, filled, signed, overText, reportText, millionthsText, isOver, impulseText, rightColumn}
 use Rattle.study_text.specs.Rules.{ruleOf}
 use Rattle.catalogue.specs.Text.{idText}
-use Rattle.study_text.specs.Words.{boundOf, boundText, numberOf, definitionText, wordOf}
-use Rattle.study_text.specs.Row.{column, numberColumn, namesText, numbersText, valuesText, ruleText, lineWith, longestName, areNames, rowText}
-use Rattle.study_text.specs.declared.number.Column.{Column}
+use Rattle.study_text.specs.Words.{boundOf, boundText, motorsText, numberOf, definitionText, wordOf}
+use Rattle.study_text.specs.Row.{column, numberColumn, namesText, numbersText, standingText, valuesText, ruleText, lineWith, longestName, areNames, rowText}
 use Rattle.study_text.specs.declared.rules.Rule.{Rule}
 use Rattle.study_text.specs.declared.rules.Rule.the-variants.{Motor2, Motor0, Motor1, MotorF, Dof2, Dof0, Dof1, Limit2, Limit0, Limit1, LimitF}
 use Rattle.study_text.specs.declared.words.Word.{Word}
@@ -125,6 +126,27 @@ bound-column Low = refl
 bound-column High = refl
 bound-column No = refl
 
+module _ (P : List ℕ → Type 0) (none : P (ascii "-")) (zeroth : P (ascii "0")) (first : P (ascii "1")) (second : P (ascii "2")) (third : P (ascii "3")) where
+  pub motors-each : (swept : Bool) (motors : ℕ) → P (motorsText swept motors)
+  motors-each true motors = go (eqb motors 0) (eqb motors 1) (eqb motors 2)
+    where
+      go : (a b c : Bool) → P (cond a (ascii "0") (cond b (ascii "1") (cond c (ascii "2") (ascii "3"))))
+      go true b c = zeroth
+      go false true c = first
+      go false false true = second
+      go false false false = third
+  motors-each false motors = none
+
+pub motors-long : (swept : Bool) (motors : ℕ) → length (motorsText swept motors) ≡ 1
+motors-long = motors-each (λ (t : List ℕ). length t ≡ 1) refl refl refl refl refl
+
+pub motors-short : (swept : Bool) (motors : ℕ) → length (motorsText swept motors) ≤ 20
+motors-short swept motors = omega (arith, motors-long swept motors)
+
+pub motors-column : (swept : Bool) (motors : ℕ) → take 7 (filled 20 (motorsText swept motors)) ≡ column 6 (motorsText swept motors)
+unfolding column
+motors-column = motors-each (λ (t : List ℕ). take 7 (filled 20 t) ≡ column 6 t) refl refl refl refl refl
+
 pub three-long : (r : Rule) → length (numberOf r) ≡ 3
 three-long Motor2 = refl
 three-long Motor0 = refl
@@ -176,10 +198,6 @@ definition-taken r e = ap (λ (v : Word). take (v .len) (v .bytes)) e ∙ take-a
 
 -- ---- numbers
 
-pub number-bytes : (x : Float) {c : Column} → c ≡ columnOf (millionthsText x) → c .bytes ≡ numberColumn x
-unfolding columnOf numberColumn
-number-bytes x e = ap (λ (v : Column). v .bytes) e
-
 size-mag : (negative : Bool) (n : ℕ) → n < 2 ^ 31 → mag (cond negative (negℤ (pos n)) (pos n)) < 2 ^ 31
 size-mag true zero h = omega arith
 size-mag true (suc n) h = omega arith
@@ -211,21 +229,47 @@ millionths-short nan = omega arith
 millionths-short (inf s) = over-short (inf s)
 millionths-short (fin s m e) = whole-short (fin s m e) s (halfEven (m * up e * 10 ^ 6) (down e)) (over-short (fin s m e))
 
-pub number-length : (x : Float) → length (numberColumn x) ≡ 12
+pub impulse-short : (x : Float) → length (impulseText x) ≤ 15
+unfolding impulseText
+impulse-short x = go (isOver (microReportOf x))
+  where
+    go : (b : Bool) → length (cond b (spelledText x) (millionthsText x)) ≤ 15
+    go true = spelled-short x
+    go false = omega (arith, millionths-short x)
+
+pub right-length : (text : List ℕ) → length text ≤ 15 → length (rightColumn text) ≡ 16
+unfolding rightColumn
+right-length text short =
+    let n = 15 - length text in
+    omega (arith, length-append (blanks n ++ text) (SPACE ∷ []), length-append (blanks n) text, length-replicate n SPACE)
+
+-- the blanks before the text, of which fifteen are enough
+pub right-blanks : (text : List ℕ) → 15 - length text ≡ length (take (15 - length text) (blanks 15))
+right-blanks text = sym (length-take-le (15 - length text) (blanks 15) (omega arith))
+
+pub right-parts : (text : List ℕ) → take (15 - length text) (blanks 15) ++ text ++ SPACE ∷ [] ≡ rightColumn text
+unfolding rightColumn
+right-parts text = ap (λ (l : List ℕ). l ++ text ++ SPACE ∷ []) (take-blanks (15 - length text) 15 (omega arith))
+
+pub right-fits : (text out : List ℕ) (at : ℕ) → at + length (rightColumn text) ≤ length out → at + length (take (15 - length text) (blanks 15) ++ text ++ SPACE ∷ []) ≤ length out
+right-fits text out at h = subst (λ (l : List ℕ). at + length l ≤ length out) (sym (right-parts text)) h
+
+-- an impulse that has no millionths, and another
+pub over-column : (x : Float) → isOver (microReportOf x) ≡ true → rightColumn (spelledText x) ≡ numberColumn x
+unfolding numberColumn impulseText
+over-column x h = sym (ap (λ (b : Bool). rightColumn (cond b (spelledText x) (millionthsText x))) h)
+
+pub millionths-column : (x : Float) → isOver (microReportOf x) ≡ false → rightColumn (millionthsText x) ≡ numberColumn x
+unfolding numberColumn impulseText
+millionths-column x h = sym (ap (λ (b : Bool). rightColumn (cond b (spelledText x) (millionthsText x))) h)
+
+pub number-length : (x : Float) → length (numberColumn x) ≡ 16
 unfolding numberColumn
-number-length x =
-    let n = 11 - length (millionthsText x) in
-    omega (
-      arith,
-      millionths-short x,
-      length-append (blanks n ++ millionthsText x) (SPACE ∷ []),
-      length-append (blanks n) (millionthsText x),
-      length-replicate n SPACE,
-    )
+number-length x = right-length (impulseText x) (impulse-short x)
 
 -- ---- the line
 
-pub numbers-length : (a b c : Float) → length (numbersText a b c) ≡ 36
+pub numbers-length : (a b c : Float) → length (numbersText a b c) ≡ 48
 unfolding numbersText
 numbers-length a b c =
     omega (
@@ -250,16 +294,18 @@ names-length joint body1 body2 =
       column-length 9 body2,
     )
 
-module _ (joint body1 body2 : List ℕ) (id : WritebackId) (rule : Rule) (impulse low high : Float) where
-  values-length : length (valuesText id impulse low high) ≡ 48
-  unfolding valuesText
+module _ (joint body1 body2 : List ℕ) (id : WritebackId) (rule : Rule) (impulse low high residual : Float) where
+  values-length : length (valuesText id impulse low high residual) ≡ 76
+  unfolding valuesText standingText
   values-length =
       let bound = column 4 (boundText (boundOf impulse low high)) in
       omega (
         arith,
-        length-append (column 6 (idText id) ++ numbersText impulse low high) bound,
+        length-append (column 6 (idText id) ++ numbersText impulse low high) (rightColumn (spelledText residual) ++ bound),
         length-append (column 6 (idText id)) (numbersText impulse low high),
         numbers-length impulse low high,
+        length-append (rightColumn (spelledText residual)) bound,
+        right-length (spelledText residual) (spelled-short residual),
         id-long id,
         bound-long (boundOf impulse low high),
       )
@@ -280,14 +326,14 @@ module _ (joint body1 body2 : List ℕ) (id : WritebackId) (rule : Rule) (impuls
         prefix (numberOf rule) (rule-short rule) refl 4 (omega arith) ∙ ap length (rule-column rule),
       )
 
-  pub line-length : length (lineWith joint body1 body2 id rule impulse low high)
-      ≡ length joint + (11 - length joint + 1) + (length body1 + (9 - length body1 + 1)) + (length body2 + (9 - length body2 + 1)) + 53 + length (definitionText rule)
+  pub line-length : length (lineWith joint body1 body2 id rule impulse low high residual)
+      ≡ length joint + (11 - length joint + 1) + (length body1 + (9 - length body1 + 1)) + (length body2 + (9 - length body2 + 1)) + 81 + length (definitionText rule)
   unfolding lineWith
   line-length =
       omega (
         arith,
-        length-append (namesText joint body1 body2 ++ valuesText id impulse low high) (ruleText rule),
-        length-append (namesText joint body1 body2) (valuesText id impulse low high),
+        length-append (namesText joint body1 body2 ++ valuesText id impulse low high residual) (ruleText rule),
+        length-append (namesText joint body1 body2) (valuesText id impulse low high residual),
         names-length joint body1 body2,
         values-length,
         rule-length,
@@ -305,28 +351,28 @@ names-short a b c h =
     let q = both (leb a longestName) (leb b longestName) (p .0) in
     (leb-true _ _ (q .0), leb-true _ _ (q .1), leb-true _ _ (p .1))
 
-module _ (joint body1 body2 : List ℕ) (id : WritebackId) (coupled : ℕ) (impulse low high : Float) where
-  pub no-row : areNames (length joint) (length body1) (length body2) ≡ false → rowText joint body1 body2 id coupled impulse low high ≡ []
+module _ (joint body1 body2 : List ℕ) (id : WritebackId) (coupled : ℕ) (impulse low high residual : Float) where
+  pub no-row : areNames (length joint) (length body1) (length body2) ≡ false → rowText joint body1 body2 id coupled impulse low high residual ≡ []
   unfolding rowText
-  no-row h = ap (λ (b : Bool). cond b (lineWith joint body1 body2 id (ruleOf id coupled) impulse low high) []) h
+  no-row h = ap (λ (b : Bool). cond b (lineWith joint body1 body2 id (ruleOf id coupled) impulse low high residual) []) h
 
   module _ (h : areNames (length joint) (length body1) (length body2) ≡ true) (rule : Rule) (e : rule ≡ ruleOf id coupled) where
-    pub the-row : rowText joint body1 body2 id coupled impulse low high ≡ lineWith joint body1 body2 id rule impulse low high
+    pub the-row : rowText joint body1 body2 id coupled impulse low high residual ≡ lineWith joint body1 body2 id rule impulse low high residual
     unfolding rowText
     the-row =
-        ap (λ (b : Bool). cond b (lineWith joint body1 body2 id (ruleOf id coupled) impulse low high) []) h
-        ∙ ap (λ (r : Rule). lineWith joint body1 body2 id r impulse low high) (sym e)
+        ap (λ (b : Bool). cond b (lineWith joint body1 body2 id (ruleOf id coupled) impulse low high residual) []) h
+        ∙ ap (λ (r : Rule). lineWith joint body1 body2 id r impulse low high residual) (sym e)
 
-    module _ (len : ℕ) (l : len ≡ length joint + (11 - length joint + 1) + (length body1 + (9 - length body1 + 1)) + (length body2 + (9 - length body2 + 1)) + 53 + length (definitionText rule)) where
-      pub row-length : len ≡ length (rowText joint body1 body2 id coupled impulse low high)
-      row-length = l ∙ sym (line-length joint body1 body2 id rule impulse low high) ∙ sym (ap length the-row)
+    module _ (len : ℕ) (l : len ≡ length joint + (11 - length joint + 1) + (length body1 + (9 - length body1 + 1)) + (length body2 + (9 - length body2 + 1)) + 81 + length (definitionText rule)) where
+      pub row-length : len ≡ length (rowText joint body1 body2 id coupled impulse low high residual)
+      row-length = l ∙ sym (line-length joint body1 body2 id rule impulse low high residual) ∙ sym (ap length the-row)
 
-      pub line-fits : (out : List ℕ) → len ≤ length out → length (lineWith joint body1 body2 id rule impulse low high) ≤ length out
-      line-fits out f = omega (arith, line-length joint body1 body2 id rule impulse low high)
+      pub line-fits : (out : List ℕ) → len ≤ length out → length (lineWith joint body1 body2 id rule impulse low high residual) ≤ length out
+      line-fits out f = omega (arith, line-length joint body1 body2 id rule impulse low high residual)
 
-      pub row-written : (out out′ : List ℕ) (r : ℕ) → len ≤ length out → Put out 0 (lineWith joint body1 body2 id rule impulse low high) out′ r
-          → out′ ≡ written out (rowText joint body1 body2 id coupled impulse low high)
+      pub row-written : (out out′ : List ℕ) (r : ℕ) → len ≤ length out → Put out 0 (lineWith joint body1 body2 id rule impulse low high residual) out′ r
+          → out′ ≡ written out (rowText joint body1 body2 id coupled impulse low high residual)
       row-written out out′ r f p = put-written out _ out′ r (put-text (sym the-row) p) (omega (arith, row-length))
 
-      pub row-left : (out : List ℕ) → length out < len → out ≡ written out (rowText joint body1 body2 id coupled impulse low high)
+      pub row-left : (out : List ℕ) → length out < len → out ≡ written out (rowText joint body1 body2 id coupled impulse low high residual)
       row-left out f = not-written out _ (omega (arith, row-length))

@@ -61,7 +61,7 @@ unfoldable pub citedIn : ℕ → Rule → List ℕ
 citedIn used rule = cond (hasAxis used (indexOf rule)) (citation rule) []
 
 unfoldable pub rulesHeading : List ℕ
-rulesHeading = ascii "impulses and bounds in millionths of N s (x, y) or N m s (angle); bounds of 2147 and more are over. rules:\n"
+rulesHeading = ascii "impulses and bounds in millionths of N s (x, y) or N m s (angle). A number with a point is not in millionths but in the unit itself: the residual, and what is 2147.483648 or more in size. rules:\n"
 
 -- each rule once
 unfoldable pub rulesText : ℕ → List ℕ

@@ -8,6 +8,7 @@ use lib.ListN.{length}
 use Rattle.rows.specs.declared.joint_velocity_constraint.WritebackId.{WritebackId}
 use Rattle.texts.specs.Ascii.{ascii, COMMA, CR, LF}
 use Rattle.texts.specs.Hex.{hexWord}
+use Rattle.decimals.specs.Spelled.{spelledText}
 use Rattle.model.specs.Store.{axisOf}
 use Rattle.study_text.specs.Number.{millionthsText}
 use Rattle.study_text.specs.Rules.{ruleOf}
@@ -48,9 +49,9 @@ csvNames joint body1 body2 = field joint ++ field body1 ++ field body2
 unfoldable pub csvId : WritebackId → List ℕ
 csvId id = field (idText id) ++ field (unitText id)
 
--- a number in millionths, and its bits
+-- a number in millionths (`over` where there are none), as a decimal in its unit that reads as it, and its bits
 unfoldable pub csvNumber : Float → List ℕ
-csvNumber x = field (millionthsText x) ++ field (bitsText x)
+csvNumber x = field (millionthsText x) ++ field (spelledText x) ++ field (bitsText x)
 
 -- the impulse, its lower and its upper bound
 unfoldable pub csvNumbers : Float → Float → Float → List ℕ
@@ -64,11 +65,15 @@ csvEnd rule = definitionText rule ++ CR ∷ LF ∷ []
 unfoldable pub csvRule : Bound → Rule → List ℕ
 csvRule bound rule = field (atText bound) ++ field (numberOf rule) ++ csvEnd rule
 
+-- the residual, and these
+unfoldable pub csvStanding : Float → Bound → Rule → List ℕ
+csvStanding residual bound rule = csvNumber residual ++ csvRule bound rule
+
 -- all after the names
-unfoldable pub csvValues : WritebackId → Rule → Float → Float → Float → List ℕ
-csvValues id rule impulse low high = csvId id ++ csvNumbers impulse low high ++ csvRule (boundOf impulse low high) rule
+unfoldable pub csvValues : WritebackId → Rule → Float → Float → Float → Float → List ℕ
+csvValues id rule impulse low high residual = csvId id ++ csvNumbers impulse low high ++ csvStanding residual (boundOf impulse low high) rule
 
 -- the line; none where a name is longer than a study's can be
-unfoldable pub csvText : List ℕ → List ℕ → List ℕ → WritebackId → ℕ → Float → Float → Float → List ℕ
-csvText joint body1 body2 id coupled impulse low high =
-    cond (areNames (length joint) (length body1) (length body2)) (csvNames joint body1 body2 ++ csvValues id (ruleOf id coupled) impulse low high) []
+unfoldable pub csvText : List ℕ → List ℕ → List ℕ → WritebackId → ℕ → Float → Float → Float → Float → List ℕ
+csvText joint body1 body2 id coupled impulse low high residual =
+    cond (areNames (length joint) (length body1) (length body2)) (csvNames joint body1 body2 ++ csvValues id (ruleOf id coupled) impulse low high residual) []

@@ -6,6 +6,7 @@ pub mod Row
 pub mod Reaction
 pub mod Made
 pub mod Csv
+pub mod CsvReaction
 pub mod Heading
 pub mod Citations
 pub mod Says

@@ -1,6 +1,6 @@
--- A number of a study's table: millionths by the micro report, at the right of a column.
+-- A number of a study's table: millionths by the micro report, or the number itself, at the right of a column.
 use Prim.Native.Nat.{ℕ, suc, _-_}
-use mathlib.Core.Bool.{true, false}
+use mathlib.Core.Bool.{Bool, true, false, cond}
 use mathlib.Core.List.{List, [], _∷_, _++_}
 use lib.IntN.{ℤ, pos, negsuc}
 use lib.Ieee.{Float, nan, inf, fin}
@@ -9,6 +9,7 @@ use Rattle.texts.specs.Ascii.{ascii, SPACE}
 use Rattle.floats.specs.MicroReport.{microReportOf}
 use Rattle.floats.specs.declared.micro_report.MicroReport.{MicroReport}
 use Rattle.floats.specs.declared.micro_report.MicroReport.the-variants.{Whole, Over, Nan}
+use Rattle.decimals.specs.Spelled.{spelledText}
 use Rattle.motor_table.specs.Text.{numberText}
 use Rattle.motor_table.specs.declared.whole_number.Number.{Number}
 use Rattle.study_text.specs.declared.number.Column.{Column}
@@ -46,6 +47,22 @@ reportText x Nan = ascii "nan"
 unfoldable pub millionthsText : Float → List ℕ
 millionthsText x = reportText x (microReportOf x)
 
--- the text at the right of 11 bytes and a blank, and where it starts
+-- ---- an impulse or a bound
+
+abbrev pub isOver : MicroReport → Bool
+isOver (Whole n) = false
+isOver Over = true
+isOver Nan = false
+
+-- Its millionths, which have no point; where the report is Over, the number itself, as a decimal of nine digits with a point and an exponent that reads as it (decimals, `spelledText`): so
+-- it keeps its sign and its size. An infinity is `inf` or `-inf`.
+unfoldable pub impulseText : Float → List ℕ
+impulseText x = cond (isOver (microReportOf x)) (spelledText x) (millionthsText x)
+
+-- a text at the right of 15 bytes, and a blank
+unfoldable pub rightColumn : List ℕ → List ℕ
+rightColumn text = atRight 15 text ++ SPACE ∷ []
+
+-- ---- how the program makes millionths: the text at the right of 11 bytes and a blank, and where it starts
 unfoldable pub columnOf : List ℕ → Column
 columnOf text = record { bytes = atRight 11 text ++ SPACE ∷ []; start = 11 - length text }

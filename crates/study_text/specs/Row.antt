@@ -7,19 +7,21 @@ use lib.Ieee.{Float}
 use lib.ListN.{length}
 use Rattle.rows.specs.declared.joint_velocity_constraint.WritebackId.{WritebackId}
 use Rattle.texts.specs.Ascii.{LF, SPACE}
-use Rattle.study_text.specs.Number.{filled, atRight, millionthsText}
+use Rattle.decimals.specs.Spelled.{spelledText}
+use Rattle.study_text.specs.Number.{filled, impulseText, rightColumn}
 use Rattle.study_text.specs.Rules.{ruleOf}
 use Rattle.catalogue.specs.Text.{idText}
 use Rattle.study_text.specs.Words.{boundOf, boundText, numberOf, definitionText}
 use Rattle.study_text.specs.declared.rules.Rule.{Rule}
+use Rattle.study_text.specs.declared.words.Bound.{Bound}
 
 -- a text filled up with blanks to w bytes, and one blank more
 unfoldable pub column : ℕ → List ℕ → List ℕ
 column w text = filled w text ++ SPACE ∷ []
 
--- a number in millionths at the right of 11 bytes, and a blank
+-- an impulse or a bound: its millionths, or the number itself
 unfoldable pub numberColumn : Float → List ℕ
-numberColumn x = atRight 11 (millionthsText x) ++ SPACE ∷ []
+numberColumn x = rightColumn (impulseText x)
 
 -- the names of the joint and its two bodies
 unfoldable pub namesText : List ℕ → List ℕ → List ℕ → List ℕ
@@ -29,20 +31,24 @@ namesText joint body1 body2 = column 11 joint ++ column 9 body1 ++ column 9 body
 unfoldable pub numbersText : Float → Float → Float → List ℕ
 numbersText impulse low high = numberColumn impulse ++ numberColumn low ++ numberColumn high
 
--- the id, the three numbers, and the bound that the impulse stands at
-unfoldable pub valuesText : WritebackId → Float → Float → Float → List ℕ
-valuesText id impulse low high = column 6 (idText id) ++ numbersText impulse low high ++ column 4 (boundText (boundOf impulse low high))
+-- the residual, what one more step would change of the impulse (rows, `residualOf`), as a decimal in the row's unit; and the bound that the impulse stands at
+unfoldable pub standingText : Float → Bound → List ℕ
+standingText residual bound = rightColumn (spelledText residual) ++ column 4 (boundText bound)
+
+-- the id, the three numbers, and where the impulse stands
+unfoldable pub valuesText : WritebackId → Float → Float → Float → Float → List ℕ
+valuesText id impulse low high residual = column 6 (idText id) ++ numbersText impulse low high ++ standingText residual (boundOf impulse low high)
 
 -- the rule's number, the definition, and the line's end
 unfoldable pub ruleText : Rule → List ℕ
 ruleText rule = column 3 (numberOf rule) ++ definitionText rule ++ LF ∷ []
 
 -- the line of a row that comes from a rule
-unfoldable pub lineWith : List ℕ → List ℕ → List ℕ → WritebackId → Rule → Float → Float → Float → List ℕ
-lineWith joint body1 body2 id rule impulse low high = namesText joint body1 body2 ++ valuesText id impulse low high ++ ruleText rule
+unfoldable pub lineWith : List ℕ → List ℕ → List ℕ → WritebackId → Rule → Float → Float → Float → Float → List ℕ
+lineWith joint body1 body2 id rule impulse low high residual = namesText joint body1 body2 ++ valuesText id impulse low high residual ++ ruleText rule
 
-abbrev pub rowLine : List ℕ → List ℕ → List ℕ → WritebackId → ℕ → Float → Float → Float → List ℕ
-rowLine joint body1 body2 id coupled impulse low high = lineWith joint body1 body2 id (ruleOf id coupled) impulse low high
+abbrev pub rowLine : List ℕ → List ℕ → List ℕ → WritebackId → ℕ → Float → Float → Float → Float → List ℕ
+rowLine joint body1 body2 id coupled impulse low high residual = lineWith joint body1 body2 id (ruleOf id coupled) impulse low high residual
 
 -- ---- what a caller is given
 
@@ -54,6 +60,6 @@ abbrev pub areNames : ℕ → ℕ → ℕ → Bool
 areNames a b c = leb a longestName && leb b longestName && leb c longestName
 
 -- the line; none where a name is longer than a study's can be
-unfoldable pub rowText : List ℕ → List ℕ → List ℕ → WritebackId → ℕ → Float → Float → Float → List ℕ
-rowText joint body1 body2 id coupled impulse low high =
-    cond (areNames (length joint) (length body1) (length body2)) (rowLine joint body1 body2 id coupled impulse low high) []
+unfoldable pub rowText : List ℕ → List ℕ → List ℕ → WritebackId → ℕ → Float → Float → Float → Float → List ℕ
+rowText joint body1 body2 id coupled impulse low high residual =
+    cond (areNames (length joint) (length body1) (length body2)) (rowLine joint body1 body2 id coupled impulse low high residual) []

@@ -1,7 +1,8 @@
 -- The words of a line.
 use Prim.Native.Nat.{ℕ}
-use mathlib.Core.Bool.{cond}
+use mathlib.Core.Bool.{Bool, cond}
 use mathlib.Core.List.{List}
+use lib.Dec.{eqb}
 use lib.Ieee.{Float, eq}
 use lib.ListN.{length}
 use Rattle.texts.specs.Ascii.{ascii}
@@ -21,6 +22,10 @@ abbrev pub boundText : Bound → List ℕ
 boundText Low = ascii "low"
 boundText High = ascii "high"
 boundText No = ascii "-"
+
+-- how many of a joint's motors the last round that was swept found low or high (multibody, `sweepCounts`), at most its three axes; `-` where no round was swept since the rows were made
+abbrev pub motorsText : Bool → ℕ → List ℕ
+motorsText swept motors = cond swept (cond (eqb motors 0) (ascii "0") (cond (eqb motors 1) (ascii "1") (cond (eqb motors 2) (ascii "2") (ascii "3")))) (ascii "-")
 
 -- the rule's number: the group and the place in it
 abbrev pub numberOf : Rule → List ℕ

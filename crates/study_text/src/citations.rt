@@ -221,7 +221,7 @@ fn put_rules(out: &mut [u8], at: usize, used: u32) -> usize
     let a = put_text(
         &mut *out,
         at,
-        b"impulses and bounds in millionths of N s (x, y) or N m s (angle); bounds of 2147 and more are over. rules:\n",
+        b"impulses and bounds in millionths of N s (x, y) or N m s (angle). A number with a point is not in millionths but in the unit itself: the residual, and what is 2147.483648 or more in size. rules:\n",
     );
     put_all(&mut *out, a, used)
 }

@@ -4,9 +4,10 @@ ghost use mathlib.Core.List.{_++_};
 ghost use Prim.Native.Nat.{_+_, _≤_, _<_};
 ghost use lib.ListN.{length, take};
 ghost use Rattle.texts.specs.Written.{written, Put};
+ghost use Rattle.decimals.specs.Spelled.{spelledText};
 ghost use Rattle.study_text.specs.Number.{millionthsText};
 ghost use Rattle.study_text.specs.Words.{boundOf, wordOf};
-ghost use Rattle.study_text.specs.Csv.{field, unitOf, unitText, atText, csvNames, csvId, csvNumber, csvNumbers, csvEnd, csvRule, csvValues, csvText};
+ghost use Rattle.study_text.specs.Csv.{field, unitOf, unitText, atText, csvNames, csvId, csvNumber, csvNumbers, csvEnd, csvRule, csvStanding, csvValues, csvText};
 use crate::number::number_column;
 use crate::row::are_names;
 use crate::row::put_definition;
@@ -17,6 +18,7 @@ use crate::words::Word;
 use crate::words::bound_of;
 use crate::words::id_word;
 use crate::words::number_word;
+use decimals::spelled::spelled;
 use floats::bits::to_bits;
 use rows::joint_velocity_constraint::WritebackId;
 use texts::hex::hex_word;
@@ -78,7 +80,7 @@ fn put_field(out: &mut [u8], at: usize, text: &[u8]) -> usize
     put_text(&mut *out, end, b",")
 }
 
-fn put_word(out: &mut [u8], at: usize, w: Word) -> usize
+pub(crate) fn put_word(out: &mut [u8], at: usize, w: Word) -> usize
     requires { ⌜ (w .len ≤ length (w .bytes)) × (at + length (field (take (w .len) (w .bytes))) ≤ length (now out)) ⌝ }
     ensures { λ r. ⌜ Put (now (out .entry)) at (field (take (w .len) (w .bytes))) (now (out .exit)) r ⌝ }
 {
@@ -95,6 +97,16 @@ fn put_number_field(out: &mut [u8], at: usize, x: f32) -> usize
     let bytes = number.bytes;
     let start = number.start;
     put_field(&mut *out, at, &bytes[start..11])
+}
+
+fn put_spelled_field(out: &mut [u8], at: usize, x: f32) -> usize
+    requires { ⌜ at + length (field (spelledText x)) ≤ length (now out) ⌝ }
+    ensures { λ r. ⌜ Put (now (out .entry)) at (field (spelledText x)) (now (out .exit)) r ⌝ }
+{
+    let word = spelled(x);
+    let bytes = word.bytes;
+    let len = word.len;
+    put_field(&mut *out, at, &bytes[..len])
 }
 
 // ---- the record
@@ -118,16 +130,17 @@ fn put_csv_id(out: &mut [u8], at: usize, id: WritebackId) -> usize
     put_word(&mut *out, a, unit)
 }
 
-fn put_csv_number(out: &mut [u8], at: usize, x: f32) -> usize
+pub(crate) fn put_csv_number(out: &mut [u8], at: usize, x: f32) -> usize
     requires { ⌜ at + length (csvNumber x) ≤ length (now out) ⌝ }
     ensures { λ r. ⌜ Put (now (out .entry)) at (csvNumber x) (now (out .exit)) r ⌝ }
 {
     let bits = hex_word(false, to_bits(x));
     let a = put_number_field(&mut *out, at, x);
-    put_field(&mut *out, a, &bits)
+    let b = put_spelled_field(&mut *out, a, x);
+    put_field(&mut *out, b, &bits)
 }
 
-fn put_csv_numbers(out: &mut [u8], at: usize, impulse: f32, low: f32, high: f32) -> usize
+pub(crate) fn put_csv_numbers(out: &mut [u8], at: usize, impulse: f32, low: f32, high: f32) -> usize
     requires { ⌜ at + length (csvNumbers impulse low high) ≤ length (now out) ⌝ }
     ensures { λ r. ⌜ Put (now (out .entry)) at (csvNumbers impulse low high) (now (out .exit)) r ⌝ }
 {
@@ -155,6 +168,22 @@ fn put_csv_rule(out: &mut [u8], at: usize, rule: Rule, impulse: f32, low: f32, h
     put_csv_end(&mut *out, b, rule)
 }
 
+fn put_csv_standing(
+    out: &mut [u8],
+    at: usize,
+    rule: Rule,
+    impulse: f32,
+    low: f32,
+    high: f32,
+    residual: f32,
+) -> usize
+    requires { ⌜ at + length (csvStanding residual (boundOf impulse low high) rule) ≤ length (now out) ⌝ }
+    ensures { λ r. ⌜ Put (now (out .entry)) at (csvStanding residual (boundOf impulse low high) rule) (now (out .exit)) r ⌝ }
+{
+    let a = put_csv_number(&mut *out, at, residual);
+    put_csv_rule(&mut *out, a, rule, impulse, low, high)
+}
+
 fn put_csv_values(
     out: &mut [u8],
     at: usize,
@@ -163,16 +192,17 @@ fn put_csv_values(
     impulse: f32,
     low: f32,
     high: f32,
+    residual: f32,
 ) -> usize
-    requires { ⌜ at + length (csvValues id rule impulse low high) ≤ length (now out) ⌝ }
-    ensures { λ r. ⌜ Put (now (out .entry)) at (csvValues id rule impulse low high) (now (out .exit)) r ⌝ }
+    requires { ⌜ at + length (csvValues id rule impulse low high residual) ≤ length (now out) ⌝ }
+    ensures { λ r. ⌜ Put (now (out .entry)) at (csvValues id rule impulse low high residual) (now (out .exit)) r ⌝ }
 {
     let a = put_csv_id(&mut *out, at, id);
     let b = put_csv_numbers(&mut *out, a, impulse, low, high);
-    put_csv_rule(&mut *out, b, rule, impulse, low, high)
+    put_csv_standing(&mut *out, b, rule, impulse, low, high, residual)
 }
 
-fn put_csv_row(
+pub(crate) fn put_csv_row(
     out: &mut [u8],
     at: usize,
     joint: &[u8],
@@ -200,14 +230,15 @@ pub fn write_csv_row(
     impulse: f32,
     low: f32,
     high: f32,
+    residual: f32,
 ) -> usize
-    ensures { λ r. ⌜ (r ≡ length (csvText (now (joint .entry)) (now (body1 .entry)) (now (body2 .entry)) id coupled impulse low high))
-        × (now (out .exit) ≡ written (now (out .entry)) (csvText (now (joint .entry)) (now (body1 .entry)) (now (body2 .entry)) id coupled impulse low high)) ⌝ }
+    ensures { λ r. ⌜ (r ≡ length (csvText (now (joint .entry)) (now (body1 .entry)) (now (body2 .entry)) id coupled impulse low high residual))
+        × (now (out .exit) ≡ written (now (out .entry)) (csvText (now (joint .entry)) (now (body1 .entry)) (now (body2 .entry)) id coupled impulse low high residual)) ⌝ }
 {
     if are_names(joint.len(), body1.len(), body2.len()) {
         let rule = rule_of(id, coupled);
-        let mut values = [0u8; 128];
-        let n = put_csv_values(&mut values, 0, id, rule, impulse, low, high);
+        let mut values = [0u8; 208];
+        let n = put_csv_values(&mut values, 0, id, rule, impulse, low, high, residual);
         let len = joint.len() + body1.len() + body2.len() + 3 + n;
         if len <= out.len() {
             put_csv_row(&mut *out, 0, joint, body1, body2, &values[..n]);

@@ -11,7 +11,7 @@ pub fn write_heading(out: &mut [u8]) -> usize
 {
     write_text(
         &mut *out,
-        b"joint       body 1    body 2    row        impulse  lower bound upper bound at   rule\n",
+        b"joint       body 1    body 2    row            impulse     lower bound     upper bound        residual at   rule\n",
     )
 }
 
@@ -20,6 +20,6 @@ pub fn write_csv_heading(out: &mut [u8]) -> usize
 {
     write_text(
         &mut *out,
-        b"joint,body1,body2,id,unit,impulse [1e-6 unit],impulse [f32 bits],lower bound [1e-6 unit],lower bound [f32 bits],upper bound [1e-6 unit],upper bound [f32 bits],at bound,rule,definition\r\n",
+        b"joint,body1,body2,id,unit,impulse [1e-6 unit],impulse [unit],impulse [f32 bits],lower bound [1e-6 unit],lower bound [unit],lower bound [f32 bits],upper bound [1e-6 unit],upper bound [unit],upper bound [f32 bits],residual [1e-6 unit],residual [unit],residual [f32 bits],at bound,rule,definition\r\n",
     )
 }

@@ -2,6 +2,7 @@
 // the rules in words; how far from settled its rows are; and the line of a body's velocity.
 pub mod citations;
 pub mod csv;
+pub mod csv_reaction;
 pub mod heading;
 mod named;
 pub mod number;

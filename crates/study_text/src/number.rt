@@ -1,10 +1,11 @@
-// A number in millionths: the micro report in decimal, or a word where there is none.
+// A number in millionths: the micro report in decimal, or a word where there is none; and an impulse or a bound, which is spelled in full where it has no millionths.
 ghost use mathlib.Core.Path.{_≡_};
 ghost use Prim.Native.Nat.{_+_, _≤_};
 ghost use lib.ListN.{length};
 ghost use Rattle.texts.specs.Written.{Put};
-ghost use Rattle.study_text.specs.Number.{signed, overText, millionthsText, columnOf};
+ghost use Rattle.study_text.specs.Number.{signed, overText, millionthsText, columnOf, isOver, rightColumn};
 ghost use Rattle.motor_table.specs.Text.{numberText};
+ghost use Rattle.floats.specs.MicroReport.{microReportOf};
 ghost use Rattle.decimals.specs.Spelled.{spelledText};
 use decimals::spelled::spelled;
 use floats::bits::Parts;
@@ -108,4 +109,48 @@ pub fn put_spelled(out: &mut [u8], at: usize, x: f32) -> usize
     let bytes = word.bytes;
     let len = word.len;
     put_text(&mut *out, at, &bytes[..len])
+}
+
+// ---- at the right of 15 bytes, and a blank
+
+fn put_right(out: &mut [u8], at: usize, text: &[u8]) -> usize
+    requires { ⌜ (length (now text) ≤ 15) × (at + length (rightColumn (now text)) ≤ length (now out)) ⌝ }
+    ensures { λ r. ⌜ Put (now (out .entry)) at (rightColumn (now (text .entry))) (now (out .exit)) r ⌝ }
+{
+    let n = 15 - text.len();
+    let blanks = [b' '; 15];
+    let a = put_text(&mut *out, at, &blanks[..n]);
+    let b = put_text(&mut *out, a, text);
+    put_text(&mut *out, b, b" ")
+}
+
+pub(crate) fn put_right_spelled(out: &mut [u8], at: usize, x: f32) -> usize
+    requires { ⌜ at + length (rightColumn (spelledText x)) ≤ length (now out) ⌝ }
+    ensures { λ r. ⌜ Put (now (out .entry)) at (rightColumn (spelledText x)) (now (out .exit)) r ⌝ }
+{
+    let word = spelled(x);
+    let bytes = word.bytes;
+    let len = word.len;
+    put_right(&mut *out, at, &bytes[..len])
+}
+
+pub(crate) fn put_right_millionths(out: &mut [u8], at: usize, x: f32) -> usize
+    requires { ⌜ at + length (rightColumn (millionthsText x)) ≤ length (now out) ⌝ }
+    ensures { λ r. ⌜ Put (now (out .entry)) at (rightColumn (millionthsText x)) (now (out .exit)) r ⌝ }
+{
+    let number = number_column(x);
+    let bytes = number.bytes;
+    let start = number.start;
+    put_right(&mut *out, at, &bytes[start..11])
+}
+
+pub(crate) fn is_over(x: f32) -> bool
+    ensures { λ r. ⌜ r ≡ isOver (microReportOf x) ⌝ }
+{
+    let report = micro_report(x);
+    match report {
+        MicroReport::Whole(_) => false,
+        MicroReport::Over => true,
+        MicroReport::Nan => false,
+    }
 }

@@ -5,8 +5,10 @@ ghost use lib.ListN.{length};
 ghost use Rattle.texts.specs.Written.{written, Put};
 ghost use Rattle.catalogue.specs.Text.{idText};
 ghost use Rattle.study_text.specs.Words.{boundOf, boundText, numberOf, definitionText};
-ghost use Rattle.study_text.specs.Row.{column, numberColumn, namesText, numbersText, valuesText, ruleText, lineWith, longestName, areNames, rowText};
-use crate::number::number_column;
+ghost use Rattle.study_text.specs.Row.{column, numberColumn, namesText, numbersText, standingText, valuesText, ruleText, lineWith, longestName, areNames, rowText};
+use crate::number::is_over;
+use crate::number::put_right_millionths;
+use crate::number::put_right_spelled;
 use crate::rules::Rule;
 use crate::rules::rule_of;
 use crate::words::bound_of;
@@ -52,13 +54,15 @@ fn put_id(out: &mut [u8], at: usize, id: WritebackId) -> usize
     put_text(&mut *out, at, &bytes[..7])
 }
 
+// An impulse or a bound: its millionths, or the number itself where it has none.
 pub(crate) fn put_number(out: &mut [u8], at: usize, x: f32) -> usize
     requires { ⌜ at + length (numberColumn x) ≤ length (now out) ⌝ }
     ensures { λ r. ⌜ Put (now (out .entry)) at (numberColumn x) (now (out .exit)) r ⌝ }
 {
-    let number = number_column(x);
-    let bytes = number.bytes;
-    put_text(&mut *out, at, &bytes)
+    if is_over(x) {
+        return put_right_spelled(&mut *out, at, x);
+    }
+    put_right_millionths(&mut *out, at, x)
 }
 
 fn put_bound(out: &mut [u8], at: usize, impulse: f32, low: f32, high: f32) -> usize
@@ -115,6 +119,21 @@ pub(crate) fn put_numbers(out: &mut [u8], at: usize, impulse: f32, low: f32, hig
     put_number(&mut *out, b, high)
 }
 
+fn put_standing(
+    out: &mut [u8],
+    at: usize,
+    impulse: f32,
+    low: f32,
+    high: f32,
+    residual: f32,
+) -> usize
+    requires { ⌜ at + length (standingText residual (boundOf impulse low high)) ≤ length (now out) ⌝ }
+    ensures { λ r. ⌜ Put (now (out .entry)) at (standingText residual (boundOf impulse low high)) (now (out .exit)) r ⌝ }
+{
+    let a = put_right_spelled(&mut *out, at, residual);
+    put_bound(&mut *out, a, impulse, low, high)
+}
+
 fn put_values(
     out: &mut [u8],
     at: usize,
@@ -122,13 +141,14 @@ fn put_values(
     impulse: f32,
     low: f32,
     high: f32,
+    residual: f32,
 ) -> usize
-    requires { ⌜ at + length (valuesText id impulse low high) ≤ length (now out) ⌝ }
-    ensures { λ r. ⌜ Put (now (out .entry)) at (valuesText id impulse low high) (now (out .exit)) r ⌝ }
+    requires { ⌜ at + length (valuesText id impulse low high residual) ≤ length (now out) ⌝ }
+    ensures { λ r. ⌜ Put (now (out .entry)) at (valuesText id impulse low high residual) (now (out .exit)) r ⌝ }
 {
     let a = put_id(&mut *out, at, id);
     let b = put_numbers(&mut *out, a, impulse, low, high);
-    put_bound(&mut *out, b, impulse, low, high)
+    put_standing(&mut *out, b, impulse, low, high, residual)
 }
 
 fn put_rule(out: &mut [u8], at: usize, rule: Rule) -> usize
@@ -151,12 +171,13 @@ fn put_row(
     impulse: f32,
     low: f32,
     high: f32,
+    residual: f32,
 ) -> usize
-    requires { ⌜ at + length (lineWith (now joint) (now body1) (now body2) id rule impulse low high) ≤ length (now out) ⌝ }
-    ensures { λ r. ⌜ Put (now (out .entry)) at (lineWith (now (joint .entry)) (now (body1 .entry)) (now (body2 .entry)) id rule impulse low high) (now (out .exit)) r ⌝ }
+    requires { ⌜ at + length (lineWith (now joint) (now body1) (now body2) id rule impulse low high residual) ≤ length (now out) ⌝ }
+    ensures { λ r. ⌜ Put (now (out .entry)) at (lineWith (now (joint .entry)) (now (body1 .entry)) (now (body2 .entry)) id rule impulse low high residual) (now (out .exit)) r ⌝ }
 {
     let a = put_names(&mut *out, at, joint, body1, body2);
-    let b = put_values(&mut *out, a, id, impulse, low, high);
+    let b = put_values(&mut *out, a, id, impulse, low, high, residual);
     put_rule(&mut *out, b, rule)
 }
 
@@ -188,16 +209,16 @@ pub(crate) fn names_length(a: usize, b: usize, c: usize) -> usize
 // The length of a line whose names are so long.
 fn line_length(a: usize, b: usize, c: usize, rule: Rule) -> usize
     requires { ⌜ (a ≤ longestName) × (b ≤ longestName) × (c ≤ longestName) ⌝ }
-    ensures { λ r. ⌜ r ≡ a + (11 - a + 1) + (b + (9 - b + 1)) + (c + (9 - c + 1)) + 53 + length (definitionText rule) ⌝ }
+    ensures { λ r. ⌜ r ≡ a + (11 - a + 1) + (b + (9 - b + 1)) + (c + (9 - c + 1)) + 81 + length (definitionText rule) ⌝ }
 {
     let word = definition_word(rule);
-    names_length(a, b, c) + 53 + word.len
+    names_length(a, b, c) + 81 + word.len
 }
 
 // ---- what a caller asks for
 
 // Writes the line of a row to the front of `out` and answers its length: the row's joint and bodies by name, its id and the joint's coupled
-// axes, its impulse and bounds. Where `out` is shorter nothing is written, and the length is answered all the same. Where a name is longer
+// axes, its impulse, bounds and residual. Where `out` is shorter nothing is written, and the length is answered all the same. Where a name is longer
 // than a study's can be there is no line: 0 is answered.
 pub fn write_row(
     out: &mut [u8],
@@ -209,9 +230,10 @@ pub fn write_row(
     impulse: f32,
     low: f32,
     high: f32,
+    residual: f32,
 ) -> usize
-    ensures { λ r. ⌜ (r ≡ length (rowText (now (joint .entry)) (now (body1 .entry)) (now (body2 .entry)) id coupled impulse low high))
-        × (now (out .exit) ≡ written (now (out .entry)) (rowText (now (joint .entry)) (now (body1 .entry)) (now (body2 .entry)) id coupled impulse low high)) ⌝ }
+    ensures { λ r. ⌜ (r ≡ length (rowText (now (joint .entry)) (now (body1 .entry)) (now (body2 .entry)) id coupled impulse low high residual))
+        × (now (out .exit) ≡ written (now (out .entry)) (rowText (now (joint .entry)) (now (body1 .entry)) (now (body2 .entry)) id coupled impulse low high residual)) ⌝ }
 {
     if are_names(joint.len(), body1.len(), body2.len()) {
         let rule = rule_of(id, coupled);
@@ -228,6 +250,7 @@ pub fn write_row(
                 impulse,
                 low,
                 high,
+                residual,
             );
             return len;
         }

@@ -1,10 +1,11 @@
 // The words of a line, each at the left of 20 bytes.
 ghost use mathlib.Core.Path.{_≡_};
+ghost use mathlib.Core.Bool.{true};
 ghost use Prim.Native.Nat.{_+_, _≤_};
 ghost use lib.ListN.{length, take};
 ghost use Rattle.texts.specs.Written.{Put};
 ghost use Rattle.catalogue.specs.Text.{idText};
-ghost use Rattle.study_text.specs.Words.{numberOf, definitionText, boundOf, boundText, wordOf};
+ghost use Rattle.study_text.specs.Words.{numberOf, definitionText, boundOf, boundText, motorsText, wordOf};
 use crate::rules::Rule;
 use catalogue::text::axis_digit;
 use rows::joint_velocity_constraint::WritebackId;
@@ -85,6 +86,46 @@ pub fn bound_word(bound: Bound) -> Word
             bytes: *b"-                   ",
             len: 1,
         },
+    }
+}
+
+fn count_word(motors: u8) -> Word
+    ensures { λ r. ⌜ r ≡ wordOf (motorsText true motors) ⌝ }
+{
+    if motors == 0 {
+        return Word {
+            bytes: *b"0                   ",
+            len: 1,
+        };
+    }
+    if motors == 1 {
+        return Word {
+            bytes: *b"1                   ",
+            len: 1,
+        };
+    }
+    if motors == 2 {
+        return Word {
+            bytes: *b"2                   ",
+            len: 1,
+        };
+    }
+    Word {
+        bytes: *b"3                   ",
+        len: 1,
+    }
+}
+
+// How many of a joint's motors the last round found low or high, if a round was swept.
+pub fn motors_word(swept: bool, motors: u8) -> Word
+    ensures { λ r. ⌜ r ≡ wordOf (motorsText swept motors) ⌝ }
+{
+    if swept {
+        return count_word(motors);
+    }
+    Word {
+        bytes: *b"-                   ",
+        len: 1,
     }
 }
 

@@ -18,19 +18,19 @@ line-length-requires : tie.Need-line-length-requires
 line-length-requires c κs = names-short _ _ _ (sym (c .before .before .are-names .ensures) ∙ c .before .if1 .taken)
 
 put-row-requires : tie.Need-put-row-requires
-put-row-requires c κs = let a = c .before .before .before .before .before .before .before .before .before .before .args in omega (arith, line-fits (a .joint .now) (a .body1 .now) (a .body2 .now) (a .id) (a .coupled) (a .impulse) (a .low) (a .high) (sym (c .before .before .before .before .before .are-names .ensures) ∙ c .before .before .before .before .if1 .taken) _ (c .before .before .before .rule-of .ensures) _ (c .before .before .line-length .ensures) (a .out .now) (c .before .if2 .taken))
+put-row-requires c κs = let a = c .before .before .before .before .before .before .before .before .before .before .args in omega (arith, line-fits (a .joint .now) (a .body1 .now) (a .body2 .now) (a .id) (a .coupled) (a .impulse) (a .low) (a .high) (a .residual) (sym (c .before .before .before .before .before .are-names .ensures) ∙ c .before .before .before .before .if1 .taken) _ (c .before .before .before .rule-of .ensures) _ (c .before .before .line-length .ensures) (a .out .now) (c .before .if2 .taken))
 
 same-length : tie.Need-same-length
 same-length c = search needs
 
 returns : tie.Need-returns
-returns c = let a = c .before .before .before .before .before .before .before .before .before .before .before .before .before .args in (row-length (a .joint .now) (a .body1 .now) (a .body2 .now) (a .id) (a .coupled) (a .impulse) (a .low) (a .high) (sym (c .before .before .before .before .before .before .before .before .are-names .ensures) ∙ c .before .before .before .before .before .before .before .if1 .taken) _ (c .before .before .before .before .before .before .rule-of .ensures) _ (c .before .before .before .before .before .line-length .ensures), row-written (a .joint .now) (a .body1 .now) (a .body2 .now) (a .id) (a .coupled) (a .impulse) (a .low) (a .high) (sym (c .before .before .before .before .before .before .before .before .are-names .ensures) ∙ c .before .before .before .before .before .before .before .if1 .taken) _ (c .before .before .before .before .before .before .rule-of .ensures) _ (c .before .before .before .before .before .line-length .ensures) _ _ _ (c .before .before .before .before .if2 .taken) (c .before .before .put-row .ensures))
+returns c = let a = c .before .before .before .before .before .before .before .before .before .before .before .before .before .args in (row-length (a .joint .now) (a .body1 .now) (a .body2 .now) (a .id) (a .coupled) (a .impulse) (a .low) (a .high) (a .residual) (sym (c .before .before .before .before .before .before .before .before .are-names .ensures) ∙ c .before .before .before .before .before .before .before .if1 .taken) _ (c .before .before .before .before .before .before .rule-of .ensures) _ (c .before .before .before .before .before .line-length .ensures), row-written (a .joint .now) (a .body1 .now) (a .body2 .now) (a .id) (a .coupled) (a .impulse) (a .low) (a .high) (a .residual) (sym (c .before .before .before .before .before .before .before .before .are-names .ensures) ∙ c .before .before .before .before .before .before .before .if1 .taken) _ (c .before .before .before .before .before .before .rule-of .ensures) _ (c .before .before .before .before .before .line-length .ensures) _ _ _ (c .before .before .before .before .if2 .taken) (c .before .before .put-row .ensures))
 
 returns-2 : tie.Need-returns-2
-returns-2 c = let a = c .before .before .before .before .before .before .before .before .before .args in (row-length (a .joint .now) (a .body1 .now) (a .body2 .now) (a .id) (a .coupled) (a .impulse) (a .low) (a .high) (sym (c .before .before .before .before .are-names .ensures) ∙ c .before .before .before .if1 .taken) _ (c .before .before .rule-of .ensures) _ (c .before .line-length .ensures), row-left (a .joint .now) (a .body1 .now) (a .body2 .now) (a .id) (a .coupled) (a .impulse) (a .low) (a .high) (sym (c .before .before .before .before .are-names .ensures) ∙ c .before .before .before .if1 .taken) _ (c .before .before .rule-of .ensures) _ (c .before .line-length .ensures) _ (c .if2 .left))
+returns-2 c = let a = c .before .before .before .before .before .before .before .before .before .args in (row-length (a .joint .now) (a .body1 .now) (a .body2 .now) (a .id) (a .coupled) (a .impulse) (a .low) (a .high) (a .residual) (sym (c .before .before .before .before .are-names .ensures) ∙ c .before .before .before .if1 .taken) _ (c .before .before .rule-of .ensures) _ (c .before .line-length .ensures), row-left (a .joint .now) (a .body1 .now) (a .body2 .now) (a .id) (a .coupled) (a .impulse) (a .low) (a .high) (a .residual) (sym (c .before .before .before .before .are-names .ensures) ∙ c .before .before .before .if1 .taken) _ (c .before .before .rule-of .ensures) _ (c .before .line-length .ensures) _ (c .if2 .left))
 
 returns-3 : tie.Need-returns-3
-returns-3 c = let a = c .before .before .before .before .before .before .args in let e = no-row (a .joint .now) (a .body1 .now) (a .body2 .now) (a .id) (a .coupled) (a .impulse) (a .low) (a .high) (sym (c .before .are-names .ensures) ∙ c .if1 .left) in (sym (ap length e), empty-written _ _ e)
+returns-3 c = let a = c .before .before .before .before .before .before .args in let e = no-row (a .joint .now) (a .body1 .now) (a .body2 .now) (a .id) (a .coupled) (a .impulse) (a .low) (a .high) (a .residual) (sym (c .before .are-names .ensures) ∙ c .if1 .left) in (sym (ap length e), empty-written _ _ e)
 
 pub write-row-spec : {M : Type 1} → statement M
 write-row-spec =
