@@ -1,4 +1,5 @@
 // Runs studies that are written as text. docs/STUDY.md describes them.
+mod counts;
 mod draw;
 mod faults;
 mod help;

@@ -1,4 +1,5 @@
 // How far from settled the rows of a built model are: a row's residual is what one more step would change of its impulse.
+use crate::counts::keep;
 use crate::out::err;
 use crate::out::err_number;
 use crate::out::out;
@@ -183,6 +184,7 @@ fn rounds(
     words: &[u32],
     numbers: &[f32],
     rows: &mut [f32],
+    counts: &mut [u8],
     joints: u32,
     tolerance: f32,
     most: u32,
@@ -193,7 +195,9 @@ fn rounds(
         if is_settled(l, tolerance) {
             return done;
         }
-        sweep(header, bodies, words, numbers, rows, 1);
+        let swept = sweep(header, bodies, words, numbers, rows, 1);
+        let answered = swept.counts;
+        keep(counts, &answered, 1);
         done += 1;
     }
     done
@@ -217,6 +221,7 @@ pub fn settle(
     words: &[u32],
     numbers: &[f32],
     rows: &mut [f32],
+    counts: &mut [u8],
     joints: u32,
     tolerance: f32,
     most: u32,
@@ -232,6 +237,7 @@ pub fn settle(
                 words,
                 numbers,
                 rows,
+                counts,
                 joints,
                 tolerance,
                 most,

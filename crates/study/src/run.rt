@@ -1,4 +1,6 @@
 // The calls of a study, in order. The first refused call ends it.
+use crate::counts::forget;
+use crate::counts::keep;
 use crate::input::read_all;
 use crate::out::err;
 use crate::out::err_number;
@@ -310,16 +312,17 @@ fn all_reactions(
     words: &[u32],
     numbers: &[f32],
     rows: &[f32],
+    counts: &[u8],
     joints: u32,
+    csv: bool,
 ) {
-    out_reaction_heading();
+    out_reaction_heading(csv);
     let mut j: u32 = 0;
     while j < joints {
-        let h = heading_of(words, j, false);
-        reaction_line(text, names, header, bodies, words, numbers, rows, h);
+        let h = heading_of(words, j, csv);
+        reaction_line(text, names, header, bodies, words, numbers, rows, counts, h);
         j += 1;
     }
-    out_reaction_notes();
 }
 
 fn run_table(
@@ -330,6 +333,7 @@ fn run_table(
     words: &[u32],
     numbers: &[f32],
     rows: &[f32],
+    counts: &[u8],
     joints: u32,
     l: Line,
 ) -> Done {
@@ -356,7 +360,21 @@ fn run_table(
         let most = largest(header, bodies, words, numbers, rows, joints);
         if !csv {
             out_residual(text, names, most);
-            all_reactions(text, names, header, bodies, words, numbers, rows, joints);
+        }
+        all_reactions(
+            text,
+            names,
+            header,
+            bodies,
+            words,
+            numbers,
+            rows,
+            counts,
+            joints,
+            csv,
+        );
+        if !csv {
+            out_reaction_notes();
             out_rules(p.used);
         }
         warn_residual(text, l.start, most);
@@ -416,6 +434,7 @@ fn run_reading(
     words: &[u32],
     numbers: &[f32],
     rows: &[f32],
+    counts: &[u8],
     joints: u32,
     l: Line,
 ) -> Done {
@@ -426,7 +445,18 @@ fn run_reading(
         return run_read_velocity(text, names, header, bodies, words, numbers, l.number);
     }
     if l.keyword == TABLE {
-        return run_table(text, names, header, bodies, words, numbers, rows, joints, l);
+        return run_table(
+            text,
+            names,
+            header,
+            bodies,
+            words,
+            numbers,
+            rows,
+            counts,
+            joints,
+            l,
+        );
     }
     Done { header, refused: 0 }
 }
@@ -437,6 +467,7 @@ fn run_working(
     words: &[u32],
     numbers: &mut [f32],
     rows: &mut [f32],
+    counts: &mut [u8],
     l: Line,
 ) -> Done {
     if l.keyword == WARM_START {
@@ -445,6 +476,8 @@ fn run_working(
     if l.keyword == SWEEP {
         let swept = sweep(header, bodies, words, numbers, rows, l.number);
         let answer = swept.answer;
+        let answered = swept.counts;
+        keep(counts, &answered, l.number);
         return plain(header, answer);
     }
     if l.keyword == REMOVE_BIAS {
@@ -461,19 +494,23 @@ fn run_call(
     words: &mut [u32],
     numbers: &mut [f32],
     rows: &mut [f32],
+    counts: &mut [u8],
     joints: u32,
     l: Line,
 ) -> Done {
     if l.keyword == LOAD {
+        forget(counts);
         return run_load(header, bodies, words, numbers, rows);
     }
     if l.keyword == MASKS {
+        forget(counts);
         return run_masks(header, bodies, words, numbers, rows, l);
     }
     if l.keyword == PLACE {
         return run_place(header, bodies, words, numbers, l);
     }
     if l.keyword == BUILD {
+        forget(counts);
         return run_build(header, bodies, words, numbers, rows, l);
     }
     if l.keyword == SET_TARGETS {
@@ -488,6 +525,7 @@ fn run_call(
             words,
             numbers,
             rows,
+            counts,
             joints,
             l.x,
             l.number,
@@ -495,9 +533,20 @@ fn run_call(
         return Done { header, refused };
     }
     if l.keyword <= WRITE_BACK {
-        return run_working(header, bodies, words, numbers, rows, l);
+        return run_working(header, bodies, words, numbers, rows, counts, l);
     }
-    run_reading(text, names, header, bodies, words, numbers, rows, joints, l)
+    run_reading(
+        text,
+        names,
+        header,
+        bodies,
+        words,
+        numbers,
+        rows,
+        counts,
+        joints,
+        l,
+    )
 }
 
 // ---- all calls
@@ -667,6 +716,7 @@ fn turn_call(
     words: &mut [u32],
     numbers: &mut [f32],
     rows: &mut [f32],
+    counts: &mut [u8],
     st: State,
     r: Run,
     w: Word,
@@ -682,6 +732,7 @@ fn turn_call(
         words,
         numbers,
         rows,
+        counts,
         st.joints,
         l,
     );
@@ -716,6 +767,7 @@ fn turn(
     words: &mut [u32],
     numbers: &mut [f32],
     rows: &mut [f32],
+    counts: &mut [u8],
     st: State,
     r: Run,
 ) -> Run {
@@ -735,6 +787,7 @@ fn turn(
         words,
         numbers,
         rows,
+        counts,
         st,
         r,
         w,
@@ -754,6 +807,7 @@ pub fn run_study(
     rows: &mut [f32],
     st: State,
 ) -> u32 {
+    let mut counts = [0u8; 129];
     let mut r = begun(header, st.calls);
     let mut calls: u64 = 0;
     while calls < 1000000000000000 {
@@ -769,6 +823,7 @@ pub fn run_study(
             words,
             numbers,
             rows,
+            &mut counts,
             st,
             r,
         );

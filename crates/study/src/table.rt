@@ -1,10 +1,13 @@
 // The table of a built model: a line a row, and the rules that its rows came from.
+use crate::counts::is_swept;
+use crate::counts::motors_at;
 use crate::out::out_part;
 use model::calls::Plain;
 use model::calls::read_rows;
 use model::header::Header;
 use model::layout::WORLD;
 use model::reactions::reaction_at;
+use model::reactions::residual_at;
 use rows::joint_velocity_constraint::Rows;
 use rows::joint_velocity_constraint::WritebackId;
 use rows::reaction::Reaction;
@@ -13,6 +16,8 @@ use study_reader::names::body_name;
 use study_reader::names::joint_name;
 use study_text::citations::write_rules;
 use study_text::csv::write_csv_row;
+use study_text::csv_reaction::write_csv_reaction;
+use study_text::csv_reaction::write_csv_reaction_heading;
 use study_text::heading::write_csv_heading;
 use study_text::heading::write_heading;
 use study_text::reaction::write_reaction;
@@ -32,17 +37,25 @@ pub fn out_id(id: WritebackId) {
 
 // ---- one line, as text or as comma-separated values
 
-// What a line has beside the names of its joint and bodies: a row's id, impulse and bounds, or the joint's reaction.
+// What a line has beside the names of its joint and bodies: a row's id, impulse, bounds and residual, or what the joint gave its bodies.
 pub struct Values {
     pub id: WritebackId,
     pub impulse: f32,
     pub low: f32,
     pub high: f32,
+    pub residual: f32,
+}
+
+// A joint's reaction; how many of its motors the last round found low or high, if there was one.
+pub struct Given {
+    pub reaction: Reaction,
+    pub swept: bool,
+    pub motors: u8,
 }
 
 pub enum Line {
     Row(Values),
-    Reaction(Reaction),
+    Reaction(Given),
 }
 
 // One row, by the names of its joint and bodies. A name has at most 64 bytes, so that the line fits.
@@ -60,6 +73,7 @@ fn out_row(joint: &[u8], body1: &[u8], body2: &[u8], h: Heading, v: Values) {
             v.impulse,
             v.low,
             v.high,
+            v.residual,
         );
         out_part(&line, 0, n);
         return;
@@ -74,20 +88,27 @@ fn out_row(joint: &[u8], body1: &[u8], body2: &[u8], h: Heading, v: Values) {
         v.impulse,
         v.low,
         v.high,
+        v.residual,
     );
     out_part(&line, 0, n);
 }
 
-fn out_reaction(joint: &[u8], body1: &[u8], body2: &[u8], reaction: Reaction) {
+fn out_reaction(joint: &[u8], body1: &[u8], body2: &[u8], h: Heading, g: Given) {
+    let reaction = g.reaction;
     let mut line = io::buffer();
-    let n = write_reaction(&mut line, joint, body1, body2, reaction);
+    if h.csv {
+        let n = write_csv_reaction(&mut line, joint, body1, body2, reaction, g.swept, g.motors);
+        out_part(&line, 0, n);
+        return;
+    }
+    let n = write_reaction(&mut line, joint, body1, body2, reaction, g.swept, g.motors);
     out_part(&line, 0, n);
 }
 
 fn out_line(joint: &[u8], body1: &[u8], body2: &[u8], h: Heading, line: Line) {
     match line {
         Line::Row(v) => out_row(joint, body1, body2, h, v),
-        Line::Reaction(r) => out_reaction(joint, body1, body2, r),
+        Line::Reaction(g) => out_reaction(joint, body1, body2, h, g),
     }
 }
 
@@ -156,7 +177,17 @@ fn bit(rule: u32) -> u32 {
     0
 }
 
-fn row_lines(text: &[u8], names: &[u32], h: Heading, named: RowIds, made: Rows, used: u32) -> u32 {
+fn row_lines(
+    text: &[u8],
+    names: &[u32],
+    bodies: &[f32],
+    words: &[u32],
+    h: Heading,
+    named: RowIds,
+    made: Rows,
+    used: u32,
+) -> u32 {
+    let joint = h.joint as usize;
     let mut all = used;
     let mut i = 0usize;
     while i < 6 {
@@ -169,6 +200,7 @@ fn row_lines(text: &[u8], names: &[u32], h: Heading, named: RowIds, made: Rows, 
                 impulse: row.impulse,
                 low: row.impulse_min,
                 high: row.impulse_max,
+                residual: residual_at(bodies, words, row, joint),
             };
             text_joint(text, names, h, Line::Row(values));
             all = all | bit(rule_index(rule_of(id, h.coupled)));
@@ -213,11 +245,11 @@ pub fn joint_lines(
     let made = read.rows;
     Printed {
         refused: 0,
-        used: row_lines(text, names, h, named, made, used),
+        used: row_lines(text, names, bodies, words, h, named, made, used),
     }
 }
 
-// The reaction of one joint: what its rows together gave its bodies.
+// The reaction of one joint: what its rows together gave its bodies; and its motors that the last round found low or high.
 pub fn reaction_line(
     text: &[u8],
     names: &[u32],
@@ -226,16 +258,27 @@ pub fn reaction_line(
     words: &[u32],
     numbers: &[f32],
     rows: &[f32],
+    counts: &[u8],
     h: Heading,
 ) {
     let read = read_rows(header, bodies, words, numbers, rows, h.joint);
     let made = read.rows;
     let reaction = reaction_at(bodies, words, numbers, made, h.joint as usize);
-    text_joint(text, names, h, Line::Reaction(reaction));
+    let given = Given {
+        reaction,
+        swept: is_swept(counts),
+        motors: motors_at(counts, h.joint),
+    };
+    text_joint(text, names, h, Line::Reaction(given));
 }
 
-pub fn out_reaction_heading() {
+pub fn out_reaction_heading(csv: bool) {
     let mut line = io::buffer();
+    if csv {
+        let n = write_csv_reaction_heading(&mut line);
+        out_part(&line, 0, n);
+        return;
+    }
     let n = write_reaction_heading(&mut line);
     out_part(&line, 0, n);
 }

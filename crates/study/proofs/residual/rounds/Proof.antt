@@ -7,10 +7,10 @@ use Rattle.study.proofs.residual.rounds.Statement.{statement}
 use Rattle.study.proofs.residual.rounds.Tie as tie
 
 abbrev Inv-loop : tie.InvT-loop
-Inv-loop header bodies₀ words numbers rows₀ joints tolerance most done₀ bodies rows done = (length bodies ≡ length bodies₀) × (length rows ≡ length rows₀)
+Inv-loop header bodies₀ words numbers rows₀ counts₀ joints tolerance most done₀ bodies rows counts done = (length bodies ≡ length bodies₀) × ((length rows ≡ length rows₀) × (length counts ≡ length counts₀))
 
 abbrev μ-loop : tie.MeasureT-loop
-μ-loop header bodies₀ words numbers rows₀ joints tolerance most done₀ bodies rows done = most - done
+μ-loop header bodies₀ words numbers rows₀ counts₀ joints tolerance most done₀ bodies rows counts done = most - done
 
 loop-holds : tie.Need-loop-holds Inv-loop μ-loop
 loop-holds c = search needs
@@ -33,6 +33,12 @@ returns c = search needs
 sweep-requires : tie.Need-sweep-requires Inv-loop μ-loop
 sweep-requires c κs = search needs
 
+slice-aggregate-keep : tie.Need-slice-aggregate-keep Inv-loop μ-loop
+slice-aggregate-keep c = search needs
+
+keep-requires : tie.Need-keep-requires Inv-loop μ-loop
+keep-requires c κs = search needs
+
 add-done : tie.Need-add-done Inv-loop μ-loop
 add-done c = search needs
 
@@ -48,6 +54,12 @@ same-length-3 c = search needs
 same-length-4 : tie.Need-same-length-4 Inv-loop μ-loop
 same-length-4 c = search needs
 
+same-length-5 : tie.Need-same-length-5 Inv-loop μ-loop
+same-length-5 c = search needs
+
+same-length-6 : tie.Need-same-length-6 Inv-loop μ-loop
+same-length-6 c = search needs
+
 returns-2 : tie.Need-returns-2 Inv-loop μ-loop
 returns-2 c = search needs
 
@@ -62,11 +74,15 @@ rounds-spec =
     is-settled-requires
     same-length
     same-length-2
+    same-length-3
     returns
     sweep-requires
+    slice-aggregate-keep
+    keep-requires
     add-done
     loop-less
     loop-again
-    same-length-3
     same-length-4
+    same-length-5
+    same-length-6
     returns-2)

@@ -5,10 +5,10 @@ use Rattle.study.proofs.run.all_reactions.Statement.{statement}
 use Rattle.study.proofs.run.all_reactions.Tie as tie
 
 abbrev Inv-loop : tie.InvT-loop
-Inv-loop text names header bodies words numbers rows joints j₀ j = Unit
+Inv-loop text names header bodies words numbers rows counts joints csv j₀ j = Unit
 
 abbrev μ-loop : tie.MeasureT-loop
-μ-loop text names header bodies words numbers rows joints j₀ j = joints - j
+μ-loop text names header bodies words numbers rows counts joints csv j₀ j = joints - j
 
 out-reaction-heading-requires : tie.Need-out-reaction-heading-requires Inv-loop μ-loop
 out-reaction-heading-requires c κs = search needs
@@ -31,9 +31,6 @@ loop-less c = search needs
 loop-again : tie.Need-loop-again Inv-loop μ-loop
 loop-again c = search needs
 
-out-reaction-notes-requires : tie.Need-out-reaction-notes-requires Inv-loop μ-loop
-out-reaction-notes-requires c κs = search needs
-
 returns : tie.Need-returns Inv-loop μ-loop
 returns c = search needs
 
@@ -50,5 +47,4 @@ all-reactions-spec =
     add-j
     loop-less
     loop-again
-    out-reaction-notes-requires
     returns)

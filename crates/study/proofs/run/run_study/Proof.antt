@@ -7,10 +7,10 @@ use Rattle.study.proofs.run.run_study.Statement.{statement}
 use Rattle.study.proofs.run.run_study.Tie as tie
 
 abbrev Inv-loop : tie.InvT-loop
-Inv-loop text names origins settings bodies₀ words₀ numbers₀ rows₀ st r₀ calls₀ bodies words numbers rows r calls = (length bodies ≡ length bodies₀) × ((length words ≡ length words₀) × ((length numbers ≡ length numbers₀) × (length rows ≡ length rows₀)))
+Inv-loop text names origins settings bodies₀ words₀ numbers₀ rows₀ st counts₀ r₀ calls₀ bodies words numbers rows counts r calls = (length bodies ≡ length bodies₀) × ((length words ≡ length words₀) × ((length numbers ≡ length numbers₀) × (length rows ≡ length rows₀)))
 
 abbrev μ-loop : tie.MeasureT-loop
-μ-loop text names origins settings bodies₀ words₀ numbers₀ rows₀ st r₀ calls₀ bodies words numbers rows r calls = 1000000000000000 - calls
+μ-loop text names origins settings bodies₀ words₀ numbers₀ rows₀ st counts₀ r₀ calls₀ bodies words numbers rows counts r calls = 1000000000000000 - calls
 
 begun-requires : tie.Need-begun-requires Inv-loop μ-loop
 begun-requires c κs = search needs
@@ -29,6 +29,9 @@ same-length-3 c = search needs
 
 returns : tie.Need-returns Inv-loop μ-loop
 returns c = search needs
+
+slice-aggregate-turn : tie.Need-slice-aggregate-turn Inv-loop μ-loop
+slice-aggregate-turn c = search needs
 
 turn-requires : tie.Need-turn-requires Inv-loop μ-loop
 turn-requires c κs = search needs
@@ -76,6 +79,7 @@ run-study-spec =
     same-length-3
     same-length-4
     returns
+    slice-aggregate-turn
     turn-requires
     add-calls
     say-progress-requires

@@ -5,10 +5,10 @@ use Rattle.study.proofs.table.row_lines.Statement.{statement}
 use Rattle.study.proofs.table.row_lines.Tie as tie
 
 abbrev Inv-loop : tie.InvT-loop
-Inv-loop text names h used named made all₀ i₀ all i = Unit
+Inv-loop text names bodies words h used named made joint all₀ i₀ all i = Unit
 
 abbrev μ-loop : tie.MeasureT-loop
-μ-loop text names h used named made all₀ i₀ all i = 6 - i
+μ-loop text names bodies words h used named made joint all₀ i₀ all i = 6 - i
 
 loop-holds : tie.Need-loop-holds Inv-loop μ-loop
 loop-holds c = search needs
@@ -24,6 +24,9 @@ mul-row c = search needs
 
 element-copy-out-row : tie.Need-element-copy-out-row Inv-loop μ-loop
 element-copy-out-row c = search needs
+
+residual-at-requires : tie.Need-residual-at-requires Inv-loop μ-loop
+residual-at-requires c κs = search needs
 
 text-joint-requires : tie.Need-text-joint-requires Inv-loop μ-loop
 text-joint-requires c κs = search needs
@@ -60,6 +63,7 @@ row-lines-spec =
     element-copy-out-one
     mul-row
     element-copy-out-row
+    residual-at-requires
     text-joint-requires
     rule-of-requires
     rule-index-requires
