@@ -178,6 +178,20 @@ fn is_settled(l: Residual, tolerance: f32) -> bool {
 }
 
 // So many rounds, each a sweep, and at most so many.
+// A sweep of one round, whose counts are kept.
+fn one_round(
+    header: Header,
+    bodies: &mut [f32],
+    words: &[u32],
+    numbers: &[f32],
+    rows: &mut [f32],
+    counts: &mut [u8],
+) {
+    let swept = sweep(header, bodies, words, numbers, rows, 1);
+    let answered = swept.counts;
+    keep(counts, &answered, 1);
+}
+
 fn rounds(
     header: Header,
     bodies: &mut [f32],
@@ -195,9 +209,7 @@ fn rounds(
         if is_settled(l, tolerance) {
             return done;
         }
-        let swept = sweep(header, bodies, words, numbers, rows, 1);
-        let answered = swept.counts;
-        keep(counts, &answered, 1);
+        one_round(header, bodies, words, numbers, rows, counts);
         done += 1;
     }
     done

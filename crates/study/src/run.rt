@@ -794,7 +794,77 @@ fn turn(
     )
 }
 
+// A turn, and where somebody watches, how far the study is.
+fn told_turn(
+    text: &[u8],
+    names: &[u32],
+    origins: &[u32],
+    settings: &[f32],
+    bodies: &mut [f32],
+    words: &mut [u32],
+    numbers: &mut [f32],
+    rows: &mut [f32],
+    counts: &mut [u8],
+    st: State,
+    r: Run,
+    calls: u64,
+) -> Run {
+    let next = turn(
+        text,
+        names,
+        origins,
+        settings,
+        bodies,
+        words,
+        numbers,
+        rows,
+        counts,
+        st,
+        r,
+    );
+    say_progress(calls);
+    next
+}
+
 // All calls; the number of the refusal that ended the study, or 0.
+fn run_calls(
+    text: &[u8],
+    names: &[u32],
+    origins: &[u32],
+    settings: &[f32],
+    bodies: &mut [f32],
+    words: &mut [u32],
+    numbers: &mut [f32],
+    rows: &mut [f32],
+    counts: &mut [u8],
+    st: State,
+    start: Run,
+) -> u32 {
+    let mut r = start;
+    let mut calls: u64 = 0;
+    while calls < 1000000000000000 {
+        if r.over {
+            return r.refused;
+        }
+        calls += 1;
+        r = told_turn(
+            text,
+            names,
+            origins,
+            settings,
+            bodies,
+            words,
+            numbers,
+            rows,
+            counts,
+            st,
+            r,
+            calls,
+        );
+    }
+    0
+}
+
 pub fn run_study(
     text: &[u8],
     names: &[u32],
@@ -808,29 +878,20 @@ pub fn run_study(
     st: State,
 ) -> u32 {
     let mut counts = [0u8; 129];
-    let mut r = begun(header, st.calls);
-    let mut calls: u64 = 0;
-    while calls < 1000000000000000 {
-        if r.over {
-            return r.refused;
-        }
-        r = turn(
-            text,
-            names,
-            origins,
-            settings,
-            bodies,
-            words,
-            numbers,
-            rows,
-            &mut counts,
-            st,
-            r,
-        );
-        calls += 1;
-        say_progress(calls);
-    }
-    0
+    let start = begun(header, st.calls);
+    run_calls(
+        text,
+        names,
+        origins,
+        settings,
+        bodies,
+        words,
+        numbers,
+        rows,
+        &mut counts,
+        st,
+        start,
+    )
 }
 
 fn begun(header: Header, at: usize) -> Run {

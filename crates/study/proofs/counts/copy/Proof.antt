@@ -18,9 +18,6 @@ loop-holds c = search needs
 number-at-requires : tie.Need-number-at-requires Inv-loop μ-loop
 number-at-requires c κs = search needs
 
-mul-counts : tie.Need-mul-counts Inv-loop μ-loop
-mul-counts c = search needs
-
 slice-write-counts : tie.Need-slice-write-counts Inv-loop μ-loop
 slice-write-counts c = search needs
 
@@ -47,7 +44,6 @@ copy-spec =
     μ-loop
     loop-holds
     number-at-requires
-    mul-counts
     slice-write-counts
     add-j
     loop-less

@@ -30,14 +30,8 @@ same-length-2 c = search needs
 returns : tie.Need-returns Inv-loop μ-loop
 returns c = search needs
 
-sweep-requires : tie.Need-sweep-requires Inv-loop μ-loop
-sweep-requires c κs = search needs
-
-slice-aggregate-keep : tie.Need-slice-aggregate-keep Inv-loop μ-loop
-slice-aggregate-keep c = search needs
-
-keep-requires : tie.Need-keep-requires Inv-loop μ-loop
-keep-requires c κs = search needs
+one-round-requires : tie.Need-one-round-requires Inv-loop μ-loop
+one-round-requires c κs = search needs
 
 add-done : tie.Need-add-done Inv-loop μ-loop
 add-done c = search needs
@@ -76,9 +70,7 @@ rounds-spec =
     same-length-2
     same-length-3
     returns
-    sweep-requires
-    slice-aggregate-keep
-    keep-requires
+    one-round-requires
     add-done
     loop-less
     loop-again

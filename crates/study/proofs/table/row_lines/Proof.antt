@@ -10,6 +10,9 @@ Inv-loop text names bodies words h used named made joint all₀ i₀ all i = Uni
 abbrev μ-loop : tie.MeasureT-loop
 μ-loop text names bodies words h used named made joint all₀ i₀ all i = 6 - i
 
+cast-joint : tie.Need-cast-joint Inv-loop μ-loop
+cast-joint c = search needs
+
 loop-holds : tie.Need-loop-holds Inv-loop μ-loop
 loop-holds c = search needs
 
@@ -58,6 +61,7 @@ row-lines-spec =
     (tie.spec
     Inv-loop
     μ-loop
+    cast-joint
     loop-holds
     mul-one
     element-copy-out-one
