@@ -1,0 +1,4 @@
+pub mod Draws
+pub mod Seeded
+pub mod Left
+pub mod Cases
