@@ -4,7 +4,7 @@
  * numbers, and row storage. A call answers what it grants or the number of a refusal, and a refused call leaves everything as it
  * was. The functions keep nothing between calls, allocate nothing and may run on several threads at once, each on its own slices.
  *
- * In this file: the records, the answers, the calls, motor tables; and, over these, the same calls on a struct, checked for what the library
+ * In this file: the records, the answers, the calls, motor tables, models drawn from seeds; and, over these, the same calls on a struct, checked for what the library
  * cannot see (katydidzinc_study_load and so on), and the Rust's defaults.
  */
 #ifndef KATYDIDZINC_H
@@ -322,6 +322,34 @@ static inline uint64_t katydidzinc_table_refusal(uint64_t answer)
     return answer >= KATYDIDZINC_TABLE_REFUSED ? answer - KATYDIDZINC_TABLE_REFUSED : 0;
 }
 
+/* ---- Models drawn from seeds: loads that others can repeat, so that a published timing names its seed. A seed is any 32 bits. It draws one to eight bodies, up to eight joints, their masks and all their
+ * numbers; document 02, R-11, and crates/seeded/specs say how. The load of every such model is granted, given row storage for KATYDIDZINC_SEEDED_ROWS rows. */
+
+/* What the slices have room for, whatever the seed: the three settings, eight bodies, eight joints' words and numbers. */
+#define KATYDIDZINC_SEEDED_SETTINGS 3
+#define KATYDIDZINC_SEEDED_BODIES 80
+#define KATYDIDZINC_SEEDED_WORDS 96
+#define KATYDIDZINC_SEEDED_NUMBERS 336
+#define KATYDIDZINC_SEEDED_ROWS 48
+
+#define KATYDIDZINC_SEEDED_GRANTED UINT64_C(4294967296)
+
+/* Draws a model. Writes dt, length_unit and normalized_max_corrective_velocity to `settings`, and its records to the starts of the others; the rest of each stays. Answers 2^32 plus 2^16 times the number of
+ * bodies plus the number of joints; where a slice has less room than the list above says, KATYDIDZINC_SHORT_SLICE, and then nothing is written. Calls on the model are lent so many records as there are. */
+uint64_t katydidzinc_seeded(uint32_t seed, float *settings, size_t settings_len, float *bodies, size_t bodies_len, uint32_t *words, size_t words_len,
+                            float *numbers, size_t numbers_len);
+
+/* The numbers of bodies and of joints that it answers. */
+static inline uint32_t katydidzinc_seeded_bodies(uint64_t answer)
+{
+    return answer >= KATYDIDZINC_SEEDED_GRANTED ? (uint32_t)((answer - KATYDIDZINC_SEEDED_GRANTED) >> 16) : 0;
+}
+
+static inline uint32_t katydidzinc_seeded_joints(uint64_t answer)
+{
+    return answer >= KATYDIDZINC_SEEDED_GRANTED ? (uint32_t)(answer & 0xFFFF) : 0;
+}
+
 /* ---- Answers, read. Those of motor tables are katydidzinc_table_refusal's. */
 
 static inline int katydidzinc_granted(uint64_t answer)
@@ -357,7 +385,7 @@ static inline const char *katydidzinc_rule(uint64_t answer)
     case KATYDIDZINC_BROKEN_TABLE: return "a motor table breaks RFC 4180's grammar or holds more than 4096 records";
     case KATYDIDZINC_NOT_THREE_NUMBERS: return "a record is not exactly three whole numbers, each at most 8000000 in size";
     case KATYDIDZINC_ABSENT_AXIS: return "a record's joint or axis is absent";
-    case KATYDIDZINC_SHORT_SLICE: return "a slice is too short for what is read or counted";
+    case KATYDIDZINC_SHORT_SLICE: return "a slice is too short for what is read, counted or drawn";
     case KATYDIDZINC_BAD_SLICE: return "a slice is NULL, not aligned or longer than memory";
     case KATYDIDZINC_OVERLAP: return "two slices overlap";
     case KATYDIDZINC_FLOAT_MODE: return "the processor does not round to nearest, or takes subnormal numbers for zero";
@@ -589,6 +617,28 @@ static inline uint64_t katydidzinc_study_set_targets(katydidzinc_study *s, const
     static const uint8_t none[1] = {0};
     uint64_t answer = katydidzinc_study_check(s, NULL, 0, NULL, 0, table, table_len);
     return answer != KATYDIDZINC_GRANTED ? answer : katydidzinc_set_targets(KATYDIDZINC_MODEL_OF(s), table != NULL ? table : none, table_len);
+}
+
+/* The study that a seed draws: its settings, its records, and their lengths, which are cut to them. The mark is cleared. Row storage is left as it is. */
+static inline uint64_t katydidzinc_study_seeded(katydidzinc_study *s, uint32_t seed)
+{
+    float settings[KATYDIDZINC_SEEDED_SETTINGS];
+    uint64_t answer = katydidzinc_study_check(s, NULL, 0, NULL, 0, NULL, 0);
+    if (answer != KATYDIDZINC_GRANTED) {
+        return answer;
+    }
+    answer = katydidzinc_seeded(seed, settings, KATYDIDZINC_SEEDED_SETTINGS, katydidzinc_numbers_at(s->bodies), s->bodies_len, katydidzinc_words_at(s->words), s->words_len,
+                                katydidzinc_numbers_at(s->numbers), s->numbers_len);
+    if (katydidzinc_granted(answer)) {
+        s->dt = settings[0];
+        s->length_unit = settings[1];
+        s->normalized_max_corrective_velocity = settings[2];
+        s->built = 0;
+        s->bodies_len = (size_t)katydidzinc_seeded_bodies(answer) * KATYDIDZINC_BODY_WIDTH;
+        s->words_len = (size_t)katydidzinc_seeded_joints(answer) * KATYDIDZINC_WORDS_WIDTH;
+        s->numbers_len = (size_t)katydidzinc_seeded_joints(answer) * KATYDIDZINC_NUMBERS_WIDTH;
+    }
+    return answer;
 }
 
 /* ---- The Rust's defaults: its settings; a body at rest at the origin that no impulse moves; a joint that makes no row. */

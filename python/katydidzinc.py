@@ -57,6 +57,8 @@ ID_DOF, ID_LIMIT, ID_MOTOR = 0, 4, 8
 READ_NUMBERS, READ_IDS, VELOCITY_NUMBERS, REACTION_NUMBERS = 108, 6, 3, 9
 MOST_RECORDS, LARGEST_SIZE, TABLE_REFUSED = 4096, 8000000, 4294967296
 GRANTED, ROWS_GRANTED = 0, 4294967296
+SEEDED_GRANTED = 4294967296
+SEEDED_SETTINGS, SEEDED_BODIES, SEEDED_WORDS, SEEDED_NUMBERS, SEEDED_ROWS = 3, 80, 96, 336, 48
 MICRO_OVER, MICRO_NAN = 4294967296, 8589934592
 
 TOO_MANY_BODIES, TOO_MANY_JOINTS, LARGE_MASK, ABSENT_BODY, SAME_BODY, NOT_FINITE = range(1, 7)
@@ -80,7 +82,7 @@ RULES = {
     BROKEN_TABLE: "a motor table breaks RFC 4180's grammar or holds more than 4096 records",
     NOT_THREE_NUMBERS: "a record is not exactly three whole numbers, each at most 8000000 in size",
     ABSENT_AXIS: "a record's joint or axis is absent",
-    SHORT_SLICE: "a slice is too short for what is read or counted",
+    SHORT_SLICE: "a slice is too short for what is read, counted or drawn",
     BAD_SLICE: "a slice is NULL, not aligned or longer than memory",
     OVERLAP: "two slices overlap",
     FLOAT_MODE: "the processor does not round to nearest, or takes subnormal numbers for zero",
@@ -138,6 +140,7 @@ _ARGUMENTS = {
     "read_velocity": _model + (_u32,) + _numbers,
     "set_targets": _model + _bytes,
     "reaction": _numbers + _words + _numbers + (_u32,) + _numbers + (_u32,) + _numbers,
+    "seeded": (_u32,) + _numbers + _numbers + _words + _numbers,
     "motor_table_read": _bytes + (_u32,),
     "motor_table_write": _words + (_u32,) + _bytes,
 }
@@ -596,6 +599,23 @@ class Study:
         else:
             figure.savefig(path)
         pyplot.close(figure)
+
+
+def seeded(seed):
+    """The study that a seed from 0 to 4294967295 draws, of one to eight bodies and up to eight joints: a load that others can repeat. Its load is always granted."""
+    settings = array.array("f", bytes(4 * SEEDED_SETTINGS))
+    bodies, words, numbers = array.array("f", bytes(4 * SEEDED_BODIES)), array.array("I", bytes(4 * SEEDED_WORDS)), array.array("f", bytes(4 * SEEDED_NUMBERS))
+    study = Study()
+    slices = [study._slice(settings, "f"), study._slice(bodies, "f"), study._slice(words, "IL"), study._slice(numbers, "f")]
+    answer = _lib.katydidzinc_seeded(_word(seed), *(part for one in slices for part in one)) - SEEDED_GRANTED
+    n, joints = answer >> 16, answer % 2**16
+    study.dt, study.length_unit, study.normalized_max_corrective_velocity = settings
+    study.body_names, study.joint_names = [f"b{i}" for i in range(n)], [f"j{j}" for j in range(joints)]
+    study.bodies = study._floats(bodies[: n * BODY_WIDTH], BODY_WIDTH)
+    study.words = study._integers(words[: joints * WORDS_WIDTH], WORDS_WIDTH)
+    study.numbers = study._floats(numbers[: joints * NUMBERS_WIDTH], NUMBERS_WIDTH)
+    study.rows = study._floats([0.0] * (SEEDED_ROWS * ROW_WIDTH), ROW_WIDTH)
+    return study
 
 
 _NONE = ctypes.c_uint32()

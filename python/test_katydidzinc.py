@@ -245,6 +245,26 @@ class Calls(unittest.TestCase):
         with self.assertRaises(OverflowError):
             kz.write_motor_table([(0, 0, 2**31)])
 
+    def test_seeded(self):
+        flat = lambda s, letter: list(memoryview(s).cast("B").cast(letter))
+        s = kz.seeded(4294967295)
+        self.assertEqual((len(s.body_names), s.joint_names), (7, ["j0"]))
+        self.assertEqual((s.dt, s.length_unit, s.normalized_max_corrective_velocity, s.built), (1 / 64, 41.125, -62.625, False))
+        self.assertEqual(flat(s.words, "I"), [6, 0, 6, 0, 6, 4] + [0] * 6)
+        self.assertEqual(flat(s.bodies, "f")[:10], [1.0, 0.0, 45.0, 81.5, 72.0, -94.375, -114.125, -99.625, -0.625, -21.0])
+        self.assertEqual(flat(s.numbers, "f")[17:23], [19.375, -76.75, -49.25, 67.25, -81.375, -110.375])
+        for seed in (0, 1, 2, 2**31, 2**32 - 1):
+            s = kz.seeded(seed)
+            s.load()
+            self.assertEqual(s.build(), len(s.table()))
+            s.sweep(4)
+        self.assertEqual(held(kz.seeded(7)), held(kz.seeded(7)))
+        for seed in (-1, 2**32):
+            with self.assertRaises(OverflowError):
+                kz.seeded(seed)
+        with self.assertRaises(TypeError):
+            kz.seeded(0.5)
+
     def test_micro_report(self):
         self.assertEqual([kz.micro_report(x) for x in (1 / 128, -1 / 128, 0.0)], [7812, -7812, 0])
         self.assertEqual([kz.millionths(x) for x in (3000.0, math.inf, math.nan)], ["over", "over", "nan"])

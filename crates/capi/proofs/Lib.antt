@@ -1,3 +1,4 @@
 pub mod CallExportsLaws
 pub mod ReadLaws
+pub mod SeedExportsLaws
 pub mod TableExportsLaws

@@ -1,5 +1,6 @@
 pub mod CallExports
 pub mod MicroNumber
 pub mod ReactionExports
+pub mod SeedExports
 pub mod Stored
 pub mod TableExports

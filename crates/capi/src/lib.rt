@@ -7,6 +7,7 @@ use floats::micro_report::micro_report;
 
 pub mod calls;
 pub mod reactions;
+pub mod seeds;
 pub mod stored;
 pub mod tables;
 
