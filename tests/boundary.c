@@ -55,6 +55,7 @@ static unsigned char lengths_seen[SLICES][MOST];
 static uint64_t motors_at_bound; /* counted by granted sweeps */
 static uint64_t first_rows;      /* above 0, stored by granted loads and mask changes */
 static uint64_t tables_read;
+static uint64_t models_drawn, models_short;
 static uint64_t residuals; /* that are not 0 */
 
 static uint64_t state;
@@ -429,6 +430,62 @@ static void one_table(void)
     memset(text, 0xA9, len);
 }
 
+/* A model drawn from a seed: slices about the room that it asks for, and where one is too short nothing is written. Granted, it writes so many records as it answers, and its load and build are granted in 48 rows. */
+static void one_seeded(void)
+{
+    static const int in[4] = {IN_OUT, IN_BODIES, IN_WORDS, IN_NUMBERS};
+    static const size_t rooms[4] = {KATYDIDZINC_SEEDED_SETTINGS, KATYDIDZINC_SEEDED_BODIES, KATYDIDZINC_SEEDED_WORDS, KATYDIDZINC_SEEDED_NUMBERS};
+    static float rows[KATYDIDZINC_SEEDED_ROWS * KATYDIDZINC_ROW_WIDTH];
+    size_t lens[SLICES] = {0}, from[4], k, n, joints;
+    uint32_t *at[4], seed = draw(4) == 0 ? draw(2) ? UINT32_C(0xFFFFFFFF) - draw(3) : draw(3) : draw(UINT32_C(0xFFFFFFFF));
+    int i, at_end = (int)draw(2), is_short = 0;
+    uint64_t answer;
+    katydidzinc_study s;
+    for (i = 0; i < 4; i++) {
+        lens[in[i]] = draw(6) > 0 ? rooms[i] + draw(3) : draw((uint32_t)rooms[i]);
+        is_short |= lens[in[i]] < rooms[i];
+        at[i] = lend(in[i], lens[in[i]], at_end);
+    }
+    answer = katydidzinc_seeded(seed, (float *)(void *)at[0], lens[IN_OUT], (float *)(void *)at[1], lens[IN_BODIES], at[2], lens[IN_WORDS], (float *)(void *)at[3], lens[IN_NUMBERS]);
+    n = katydidzinc_seeded_bodies(answer);
+    joints = katydidzinc_seeded_joints(answer);
+    if (is_short ? answer != KATYDIDZINC_SHORT_SLICE : answer < KATYDIDZINC_SEEDED_GRANTED || n < 1 || n > 8 || joints > 8) {
+        fail("a wrong answer of a seed", LOAD, SLICES, answer, lens);
+    }
+    from[0] = is_short ? 0 : KATYDIDZINC_SEEDED_SETTINGS;
+    from[1] = n * KATYDIDZINC_BODY_WIDTH;
+    from[2] = joints * KATYDIDZINC_WORDS_WIDTH;
+    from[3] = joints * KATYDIDZINC_NUMBERS_WIDTH;
+    for (i = 0; i < 4; i++) {
+        for (k = from[i]; k < lens[in[i]]; k++) {
+            if (at[i][k] != model[in[i]][k]) {
+                fail("a seed writes where nothing may be", LOAD, in[i], answer, lens);
+            }
+        }
+    }
+    /* by the study, which is cut to what is drawn; then its load and build */
+    s.bodies = (float *)(void *)at[1], s.bodies_len = lens[IN_BODIES];
+    s.words = at[2], s.words_len = lens[IN_WORDS];
+    s.numbers = (float *)(void *)at[3], s.numbers_len = lens[IN_NUMBERS];
+    s.rows = rows, s.rows_len = sizeof rows / sizeof *rows;
+    s.built = 1;
+    if (lens[IN_OUT] >= rooms[0]) {
+        if (katydidzinc_study_seeded(&s, seed) != answer || s.built != (uint32_t)is_short || s.bodies_len != (is_short ? lens[IN_BODIES] : from[1])) {
+            fail("a seed's study", LOAD, SLICES, answer, lens);
+        }
+        if (!is_short && (s.dt != 0.015625f || katydidzinc_study_load(&s) != KATYDIDZINC_GRANTED || katydidzinc_study_build(&s, 0, 0.0f, 0) < KATYDIDZINC_ROWS_GRANTED)) {
+            fail("a seed's study is not granted", LOAD, SLICES, answer, lens);
+        }
+    }
+    for (i = 0; i < 4; i++) {
+        if (!guarded(in[i], at[i], lens[in[i]])) {
+            fail("a guard is broken", LOAD, in[i], answer, lens);
+        }
+    }
+    models_drawn += !is_short;
+    models_short += (uint64_t)is_short;
+}
+
 /* What the checked calls find before they make a call. */
 #define CHECKS 21
 static void checks(void)
@@ -534,6 +591,9 @@ int main(int argc, char **argv)
     for (i = 0; i < count / 20; i++) {
         one_table();
     }
+    for (i = 0; i < count / 20; i++) {
+        one_seeded();
+    }
     printf("%-14s %8s", "", "granted");
     for (k = 1; k <= 15; k++) {
         printf(" %6zu", k);
@@ -562,6 +622,7 @@ int main(int argc, char **argv)
     }
     printf("%" PRIu64 " motors at a bound in the last rounds; %" PRIu64 " residuals that are not 0; %" PRIu64 " motor tables read, written and read again; %" PRIu64 " first rows above 0 stored\n",
            motors_at_bound, residuals, tables_read, first_rows);
+    printf("%" PRIu64 " models drawn from seeds, and %" PRIu64 " of which nothing is written, since a slice is too short\n", models_drawn, models_short);
     printf("%ld calls, every length from 0 to two past the last record, no guard broken\n", count);
     return 0;
 }

@@ -50,6 +50,12 @@ pub const READ_NUMBERS: usize = 108;
 pub const READ_IDS: usize = 6;
 pub const VELOCITY_NUMBERS: usize = 3;
 pub const ROWS_GRANTED: u64 = 4294967296;
+pub const SEEDED_GRANTED: u64 = 4294967296;
+pub const SEEDED_SETTINGS: usize = 3;
+pub const SEEDED_BODIES: usize = 80;
+pub const SEEDED_WORDS: usize = 96;
+pub const SEEDED_NUMBERS: usize = 336;
+pub const SEEDED_ROWS: usize = 48;
 pub const FLOAT_MODE: u64 = 1003;
 pub const MICRO_OVER: i64 = 4294967296;
 pub const MICRO_NAN: i64 = 8589934592;
@@ -64,6 +70,10 @@ macro_rules! calls {
                 $($argument: $type),*
             ) -> u64;)*
             fn katydidzinc_micro_report(x: f32) -> i64;
+            fn katydidzinc_seeded(
+                seed: u32, settings: *mut f32, settings_len: usize,
+                bodies: *mut f32, bodies_len: usize, words: *mut u32, words_len: usize, numbers: *mut f32, numbers_len: usize,
+            ) -> u64;
         }
     };
 }
@@ -167,6 +177,24 @@ impl Study {
             numbers: vec![],
             rows: vec![],
         }
+    }
+
+    /// The study that a seed draws, with storage for its rows: a load that others can repeat.
+    pub fn seeded(seed: u32) -> Study {
+        let mut settings = [0.0; SEEDED_SETTINGS];
+        let (mut bodies, mut words, mut numbers) = (vec![0.0; SEEDED_BODIES], vec![0; SEEDED_WORDS], vec![0.0; SEEDED_NUMBERS]);
+        let counts = unsafe {
+            katydidzinc_seeded(
+                seed, settings.as_mut_ptr(), SEEDED_SETTINGS,
+                bodies.as_mut_ptr(), SEEDED_BODIES, words.as_mut_ptr(), SEEDED_WORDS, numbers.as_mut_ptr(), SEEDED_NUMBERS,
+            )
+        } - SEEDED_GRANTED;
+        let (n, joints) = ((counts >> 16) as usize, (counts & 0xFFFF) as usize);
+        bodies.truncate(n * BODY_WIDTH);
+        words.truncate(joints * WORDS_WIDTH);
+        numbers.truncate(joints * NUMBERS_WIDTH);
+        let [dt, length_unit, normalized_max_corrective_velocity] = settings;
+        Study { dt, length_unit, normalized_max_corrective_velocity, built: false, bodies, words, numbers, rows: vec![0.0; SEEDED_ROWS * ROW_WIDTH] }
     }
 
     /// One more body, at rest at the origin and moved by no impulse.

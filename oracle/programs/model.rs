@@ -6,13 +6,14 @@
 //!   model pairs SEED COUNT          two studies side by side, by the Rattle library or, without
 //!                                   it, by the oracle
 //!   model reactions SEED COUNT      how far bodies' momenta are from their joints' reactions
+//!   model seeded SEED COUNT         models drawn from seeds, by the library and by a second rendering, and a step on each
 //!   model answers                   a fixed list of calls with the oracle's answers
 //!   model replay < ANSWERS          the answers again, by each side that is there
 //!   model leg                       what the leg in C, Rust and Python must print (examples/leg.expected), by the oracle
 //!   model study PROGRAM FILE...     what the program study prints for each file, against the second reading of it
 //!   model reading FILE...           what the second reading prints, the rules by their numbers alone
 //!   model damaged PROGRAM SEED COUNT FILE...   the same for damaged copies of the files
-//!   model bench                     the same work by the Rust and by the Rattle library, timed
+//!   model bench [SEED...]           the same work by the Rust and by the Rattle library, timed
 //!   model rendering SEED CALLS      against the second rendering
 //!   model fault NUMBER SEED CALLS   against the second rendering with one fault
 //!   model faults SEED CALLS PAIRS   each fault in turn: how many calls show it, how many pairs
@@ -45,6 +46,12 @@ mod pairs;
 mod reactions;
 #[path = "../rendering.rs"]
 mod rendering;
+#[cfg(rattle)]
+#[path = "model/seeded.rs"]
+mod seeded;
+#[cfg(rattle)]
+#[path = "../seeded_rendering.rs"]
+mod seeded_rendering;
 #[path = "../sines.rs"]
 mod sines;
 #[path = "model/run.rs"]
@@ -84,6 +91,8 @@ fn main() {
             pairs::pairs(side, by, number(1, 1), number(2, 10_000))
         }
         Some("reactions") => reactions::measure(number(1, 1), number(2, calls)),
+        #[cfg(rattle)]
+        Some("seeded") => seeded::compare(number(1, 1), number(2, calls)),
         Some("answers") => answers::answers(),
         Some("replay") => {
             let text = std::io::read_to_string(std::io::stdin()).unwrap();
@@ -106,7 +115,17 @@ fn main() {
             &arguments[4..],
         ),
         #[cfg(rattle)]
-        Some("bench") => bench::bench(),
+        Some("bench") => {
+            let seeds: Vec<u32> = (1..arguments.len())
+                .map(|i| {
+                    number(i, 0).try_into().unwrap_or_else(|_| {
+                        eprintln!("model: a seed is at most 4294967295");
+                        exit(2)
+                    })
+                })
+                .collect();
+            bench::bench(&seeds)
+        }
         Some("rendering") => run::compare(library::RENDERING, number(1, 1), number(2, calls)),
         Some("fault") => {
             let fault = number(1, 0);
@@ -120,7 +139,7 @@ fn main() {
         Some("faults") => run::faults(number(1, 1), number(2, calls), number(3, 1_000)),
         _ => {
             eprintln!(
-                "model: cases | compare SEED CALLS | pairs SEED COUNT | reactions SEED COUNT | answers | replay | leg | bench | study PROGRAM FILE... | reading FILE... | damaged PROGRAM SEED COUNT FILE... | \
+                "model: cases | compare SEED CALLS | pairs SEED COUNT | reactions SEED COUNT | seeded SEED COUNT | answers | replay | leg | bench [SEED...] | study PROGRAM FILE... | reading FILE... | damaged PROGRAM SEED COUNT FILE... | \
                  rendering SEED CALLS | fault NUMBER SEED CALLS | faults SEED CALLS PAIRS"
             );
             exit(2)

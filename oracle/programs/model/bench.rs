@@ -4,6 +4,7 @@
 
 use crate::library::{direct, same};
 use crate::model::{Call, JOINT, KINDS, ROW, Study, WORLD};
+use crate::seeded_rendering::seeded;
 use rapier2d::pipeline::model::Prepared;
 use std::time::Instant;
 
@@ -155,7 +156,34 @@ fn show(joints: usize, rows: usize, work: &str, turns: f64, [rust, rattle]: [f64
     println!("{joints:6} {rows:5}  {work:28} {rust:10.1} {rattle:10.1} {ratio:7.2}");
 }
 
-pub fn bench() {
+/// The models that seeds draw, each figure with its seed: anyone can time the same load.
+fn bench_seeds(seeds: &[u32]) {
+    println!("models drawn from seeds: nanoseconds a model (for a sweep: a round)");
+    println!("      seed bodies joints  rows  work                               Rust     Rattle   ratio");
+    for seed in seeds {
+        let mut both = Sides::new(seeded(*seed, 48));
+        let s = &both.rattle;
+        let (bodies, joints, rows) = (s.body_count(), s.joint_count(), s.total());
+        if rows == 0 {
+            println!("{seed:10} {bodies:6} {joints:6} {rows:5}  makes no row");
+            continue;
+        }
+        let works: [(&str, f64, &[Call]); 4] = [
+            ("build", 1.0, &[BUILD]),
+            ("sweep 1", 1.0, &[Call::Sweep(1)]),
+            ("sweep 64", 64.0, &[Call::Sweep(64)]),
+            ("a whole step", 1.0, &STEP),
+        ];
+        for (work, turns, calls) in works {
+            let [rust, rattle] = both.times(calls).map(|t| t / turns);
+            let ratio = rattle / rust;
+            println!("{seed:10} {bodies:6} {joints:6} {rows:5}  {work:28} {rust:10.1} {rattle:10.1} {ratio:7.2}");
+        }
+        assert!(both.agree());
+    }
+}
+
+pub fn bench(seeds: &[u32]) {
     println!("nanoseconds a joint (for a sweep: a joint and a round)");
     println!("joints  rows  work                               Rust     Rattle   ratio");
     for joints in [1, 2, 4, 16, 64, 128] {
@@ -186,5 +214,6 @@ pub fn bench() {
         show(joints, both.rattle.total(), "pin joints, sweep 64", 64.0, times);
         assert!(both.agree());
     }
+    bench_seeds(seeds);
     println!("velocities, stored impulses and rows are equal in bits after all of it");
 }

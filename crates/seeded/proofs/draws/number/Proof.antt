@@ -12,14 +12,14 @@ nearest-u32-to-f32-requires c κs = search needs
 
 returns : tie.Need-returns
 unfolding numberOf eighths
-returns c = rw (c .nearest-u32-to-f32 .ensures, lt-ltb _ _ (c .before .if1 .taken))
+returns c = simp (c .nearest-u32-to-f32 .ensures, lt-ltb _ _ (c .before .if1 .taken))
 
 nearest-u32-to-f32-requires-2 : tie.Need-nearest-u32-to-f32-requires-2
 nearest-u32-to-f32-requires-2 c κs = search needs
 
 returns-2 : tie.Need-returns-2
 unfolding numberOf eighths
-returns-2 c = rw (c .nearest-u32-to-f322 .ensures, le-ltb _ _ (c .before .if1 .left))
+returns-2 c = simp (c .nearest-u32-to-f322 .ensures, le-ltb _ _ (c .before .if1 .left))
 
 pub number-spec : {M : Type 1} → statement M
 number-spec =
