@@ -8,6 +8,7 @@ mod out;
 mod refusals;
 mod residual;
 mod run;
+mod seeds;
 mod table;
 mod warnings;
 
@@ -34,6 +35,7 @@ use rows::integration_parameters::IntegrationParameters;
 use run::NO_FILE;
 use run::check_study;
 use run::run_study;
+use seeds::seeded_after;
 use study_reader::draft::State;
 use study_reader::read::read_study;
 use study_reader::storage::BODIES;
@@ -371,6 +373,8 @@ const DRAW: u32 = 7;
 
 const PRINT: u32 = 8;
 
+const SEEDED: u32 = 9;
+
 fn option_of(arg: &[u8]) -> u32 {
     number_in(
         b"\
@@ -380,6 +384,7 @@ fn option_of(arg: &[u8]) -> u32 {
         --status 5\n\
         draw 7\n\
         print 8\n\
+        seeded 9\n\
         ",
         FILE,
         arg,
@@ -467,6 +472,9 @@ fn asked(i: usize) -> u32 {
     if kind == VERSION {
         version();
         return 0;
+    }
+    if kind == SEEDED {
+        return seeded_after(i);
     }
     asked_files(i, kind)
 }
