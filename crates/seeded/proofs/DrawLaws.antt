@@ -11,7 +11,7 @@ state-none seed = refl
 
 pub state-next : (seed i : ℕ) {s r : ℕ} → s ≡ stateAfter seed i → r ≡ nextOf s → r ≡ stateAfter seed (i + 1)
 unfolding stateAfter
-state-next seed i e n = rw add-one (n ∙ ap nextOf e)
+state-next seed i e n = simp (add-one, n, e)
 
 pub state-drawn : (seed i k : ℕ) {s r d : ℕ} → s ≡ stateAfter seed i → i ≤ k → k ≤ i → r ≡ nextOf s → d ≡ mixedOf r → d ≡ draw seed k
 unfolding draw
