@@ -161,9 +161,11 @@ fn bench_seeds(seeds: &[u32]) {
     println!("models drawn from seeds: nanoseconds a model (for a sweep: a round)");
     println!("      seed bodies joints  rows  work                               Rust     Rattle   ratio");
     for seed in seeds {
-        let mut both = Sides::new(seeded(*seed, 48));
-        let s = &both.rattle;
+        // storage of just its rows, since the Rust's side steps each row that it is given
+        let mut s = seeded(*seed, 48);
         let (bodies, joints, rows) = (s.body_count(), s.joint_count(), s.total());
+        s.rows.truncate(rows * ROW);
+        let mut both = Sides::new(s);
         if rows == 0 {
             println!("{seed:10} {bodies:6} {joints:6} {rows:5}  makes no row");
             continue;
