@@ -148,7 +148,7 @@ extern "C" {
 #define KATYDIDZINC_MOST_RECORDS 4096
 #define KATYDIDZINC_LARGEST_SIZE 8000000
 
-/* ---- Answers. An answer is 64 bits wide. Granted is 0, or, of a build and of a row read, 2^32 plus the number of rows. Every other
+/* ---- Answers. An answer is 64 bits wide. Granted is 0, or, of a build and of a row read, 2^32 plus the number of rows (of a drawn model: see there). Every other
  * answer is a number of the list below, and then nothing was written. Cut to 32 bits, a granted number of rows would read as a refusal. */
 
 #define KATYDIDZINC_GRANTED UINT64_C(0)
@@ -180,6 +180,7 @@ enum katydidzinc_refusal {
     /* Tried after all of these by a read, and before all of these by a sweep. */
     KATYDIDZINC_SHORT_SLICE = 1000,    /* The model grants the read, and a slice that the read is to write is too short for it; or the slice for a
                                         * sweep's counts is. */
+                                        * sweep's or a frame's counts is, or one that a model is drawn into. */
 
     /* Tried before all of these, by the checked calls alone. */
     KATYDIDZINC_BAD_SLICE = 1001,      /* A slice of a length above 0 is NULL, is not aligned, or is longer than memory. */
