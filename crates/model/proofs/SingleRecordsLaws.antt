@@ -1,4 +1,4 @@
--- A row, a joint or a stored impulse is read and stored where its record is there whole; elsewhere zeros are read, and nothing is stored.
+-- A row, a body's pose or velocity, a joint or a stored impulse is read and stored where its record is there whole; elsewhere zeros are read, of a body the world, and nothing is stored.
 use Prim.Native.Nat.{ℕ, _+_, _*_, _/_, _≤_, _<_}
 use mathlib.Core.Path.{_≡_}
 use mathlib.Core.List.{List}
@@ -6,14 +6,15 @@ use native.Mathlib.Omega.{arith}
 use borrow.Author.Tests.{lt-ltb, le-ltb}
 use lib.ListN.{length}
 use lib.Ieee.{Float}
+use Rattle.floats.specs.declared.pose.Pose.{Pose}
 use Rattle.rows.specs.Update.{blankRow}
 use Rattle.rows.specs.declared.joint_velocity_constraint.JointConstraint.{JointConstraint}
 use Rattle.rows.specs.declared.joint_velocity_constraint.WritebackId.{WritebackId}
-use Rattle.model.specs.Layout.{rowWidth, wordsWidth, numbersWidth}
-use Rattle.model.specs.Store.{rowAt, putRow, jointAt, putSeed}
-use Rattle.multibody.specs.Counts.{jointCount, rowCapacity}
+use Rattle.model.specs.Layout.{rowWidth, bodyWidth, wordsWidth, numbersWidth}
+use Rattle.model.specs.Store.{rowAt, putRow, worldPose, rest, solverPoseAt, velAt, putPose, jointAt, putSeed}
+use Rattle.multibody.specs.Counts.{bodyCount, jointCount, rowCapacity}
 use Rattle.model.specs.Planar.{plane}
-use Rattle.model.specs.SingleRecords.{rowIfThere, putRowIfThere, blankJoint, jointIfThere, putSeedIfThere}
+use Rattle.model.specs.SingleRecords.{rowIfThere, putRowIfThere, poseIfThere, velIfThere, putPoseIfThere, blankJoint, jointIfThere, putSeedIfThere}
 use Rattle.model.proofs.CountLaws.{joint-there}
 
 -- ---- rows
@@ -38,6 +39,38 @@ module _ (rows : List Float) (k : ℕ) where
   pub put-row-absent : (r : JointConstraint) {n : ℕ} → n ≡ rowCapacity plane rows → n ≤ k → putRowIfThere rows k r ≡ rows
   unfolding putRowIfThere
   put-row-absent r {n} e h = rw (← e, le-ltb k n h)
+
+-- ---- bodies
+
+module _ (bodies : List Float) (i : ℕ) {n : ℕ} (e : n ≡ bodyCount plane bodies) where
+  pub body-fits : i < n → i * bodyWidth + bodyWidth ≤ length bodies
+  unfolding bodyCount
+  body-fits h = omega (arith, e, h)
+
+  pub pose-there : i < n → poseIfThere bodies i ≡ solverPoseAt bodies i .pose
+  unfolding poseIfThere
+  pose-there h = rw (← e, lt-ltb i n h)
+
+  pub pose-absent : n ≤ i → poseIfThere bodies i ≡ worldPose .pose
+  unfolding poseIfThere
+  pose-absent h = rw (← e, le-ltb i n h)
+
+  pub vel-there : i < n → velIfThere bodies i ≡ velAt bodies i
+  unfolding velIfThere
+  vel-there h = rw (← e, lt-ltb i n h)
+
+  pub vel-absent : n ≤ i → velIfThere bodies i ≡ rest
+  unfolding velIfThere
+  vel-absent h = rw (← e, le-ltb i n h)
+
+module _ (bodies : List Float) (i : ℕ) (p : Pose) where
+  pub put-pose-there : i * bodyWidth + bodyWidth ≤ length bodies → putPoseIfThere bodies i p ≡ putPose bodies i p
+  unfolding putPoseIfThere bodyCount
+  put-pose-there h = rw (lt-ltb i (length bodies / bodyWidth) (omega arith))
+
+  pub put-pose-absent : {n : ℕ} → n ≡ bodyCount plane bodies → n ≤ i → putPoseIfThere bodies i p ≡ bodies
+  unfolding putPoseIfThere
+  put-pose-absent {n} e h = rw (← e, le-ltb i n h)
 
 -- ---- joints
 

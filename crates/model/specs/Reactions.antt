@@ -6,24 +6,13 @@ use mathlib.Core.List.{List}
 use lib.Dec.{ltb}
 use lib.ListN.{length}
 use lib.Ieee.{Float}
-use Rattle.floats.specs.declared.pose.Pose.{Pose}
 use Rattle.rows.specs.Step.{residualOf}
 use Rattle.rows.specs.Reaction.{reactionOf}
 use Rattle.rows.specs.declared.joint_velocity_constraint.JointConstraint.{JointConstraint}
-use Rattle.rows.specs.declared.joint_velocity_constraint.SolverVel.{SolverVel}
 use Rattle.rows.specs.declared.reaction.Reaction.{Reaction}
-use Rattle.multibody.specs.Counts.{bodyCount}
 use Rattle.model.specs.Layout.{wordsWidth}
-use Rattle.model.specs.Store.{world, worldPose, rest, solverPoseAt, velAt, body1At, body2At}
-use Rattle.model.specs.Planar.{plane}
-use Rattle.model.specs.SingleRecords.{jointIfThere}
-
--- body i's pose and velocity
-unfoldable pub poseIfThere : List Float → ℕ → Pose
-poseIfThere bodies i = cond (ltb i (bodyCount plane bodies)) (solverPoseAt bodies i .pose) (worldPose .pose)
-
-unfoldable pub velIfThere : List Float → ℕ → SolverVel
-velIfThere bodies i = cond (ltb i (bodyCount plane bodies)) (velAt bodies i) rest
+use Rattle.model.specs.Store.{world, body1At, body2At}
+use Rattle.model.specs.SingleRecords.{poseIfThere, velIfThere, jointIfThere}
 
 -- joint j's bodies
 unfoldable pub body1IfThere : List ℕ → ℕ → ℕ

@@ -1,5 +1,5 @@
--- One row, one joint, one stored impulse, for callers who hold a storage of their own: read and stored where the record is there whole. Elsewhere zeros are
--- read, and nothing is stored.
+-- One row, one body's pose or velocity, one joint, one stored impulse, for callers who hold a storage of their own: read and stored where the record is there whole. Elsewhere zeros are
+-- read, of a body the world, and nothing is stored.
 use Prim.Native.Nat.{ℕ, _/_}
 use mathlib.Core.Bool.{cond}
 use mathlib.Core.List.{List}
@@ -7,13 +7,15 @@ use lib.Dec.{ltb}
 use lib.ListN.{length}
 use lib.Ieee.{Float}
 use Rattle.floats.specs.Operators.{bits}
+use Rattle.floats.specs.declared.pose.Pose.{Pose}
 use Rattle.rows.specs.Update.{blankRow}
 use Rattle.rows.specs.declared.joint_constraint_builder.ImpulseJoint.{ImpulseJoint}
 use Rattle.rows.specs.declared.joint_velocity_constraint.JointConstraint.{JointConstraint}
+use Rattle.rows.specs.declared.joint_velocity_constraint.SolverVel.{SolverVel}
 use Rattle.rows.specs.declared.joint_velocity_constraint.WritebackId.{WritebackId}
 use Rattle.model.specs.Layout.{numbersWidth}
-use Rattle.model.specs.Store.{rowAt, putRow, jointOf, jointAt, putSeed}
-use Rattle.multibody.specs.Counts.{jointCount, rowCapacity}
+use Rattle.model.specs.Store.{rowAt, putRow, worldPose, rest, solverPoseAt, velAt, putPose, jointOf, jointAt, putSeed}
+use Rattle.multibody.specs.Counts.{bodyCount, jointCount, rowCapacity}
 use Rattle.model.specs.Planar.{plane}
 
 unfoldable pub rowIfThere : List Float → ℕ → JointConstraint
@@ -21,6 +23,16 @@ rowIfThere rows k = cond (ltb k (rowCapacity plane rows)) (rowAt rows k) blankRo
 
 unfoldable pub putRowIfThere : List Float → ℕ → JointConstraint → List Float
 putRowIfThere rows k r = cond (ltb k (rowCapacity plane rows)) (putRow rows k r) rows
+
+-- body i's pose and velocity
+unfoldable pub poseIfThere : List Float → ℕ → Pose
+poseIfThere bodies i = cond (ltb i (bodyCount plane bodies)) (solverPoseAt bodies i .pose) (worldPose .pose)
+
+unfoldable pub velIfThere : List Float → ℕ → SolverVel
+velIfThere bodies i = cond (ltb i (bodyCount plane bodies)) (velAt bodies i) rest
+
+unfoldable pub putPoseIfThere : List Float → ℕ → Pose → List Float
+putPoseIfThere bodies i p = cond (ltb i (bodyCount plane bodies)) (putPose bodies i p) bodies
 
 abbrev pub blankJoint : ImpulseJoint
 blankJoint = jointOf (λ _. bits 0) (λ _. 0)

@@ -1,10 +1,14 @@
 // Document 01's calls on a model, and the one that reads a motor table. Each takes whatever it is lent, of any length and contents, and answers what is granted or the number of the refusal; a
 // refused call changes nothing.
 ghost use mathlib.Core.Path.{_≡_};
+ghost use mathlib.Core.Bool.{true};
 ghost use mathlib.Core.List.{[]};
 ghost use Rattle.model.specs.Model.{modelOf};
 ghost use Rattle.multibody.specs.Counts.{jointCount};
-ghost use Rattle.multibody.specs.Calls.{outcome, run};
+ghost use Rattle.multibody.specs.Rules.{refusal};
+ghost use Rattle.multibody.specs.Refusals.{finiteWarm};
+ghost use Rattle.multibody.specs.Calls.{outcome, run, handedRules};
+ghost use Rattle.multibody.specs.Calls.Change.{none};
 ghost use Rattle.multibody.specs.Calls.Call.{load, place, build, warmStart, sweep, removeBias, writeBack, readRows, readVelocity, setMasks, further};
 ghost use Rattle.multibody.specs.JointRows.{rowMasksAt};
 ghost use Rattle.model.specs.Planar.{plane, planar};
@@ -83,6 +87,22 @@ pub struct SweepAnswer {
 pub enum VelocityAnswer {
     Velocity(SolverVel),
     Refused(u32),
+}
+
+// The number of the first of rules 1 to 8 and 12 that fails of a model, its row storage and a warm coefficient, or 0. It changes nothing: a crate above tries these
+// rules once, before it works on the model.
+pub fn front_refusal(
+    header: Header,
+    bodies: &[f32],
+    words: &[u32],
+    numbers: &[f32],
+    rows: &[f32],
+    warmstart: Warmstart,
+) -> u32
+    ensures { λ r. ⌜ r ≡ refusal (handedRules planar true (modelOf header (now (bodies .entry)) (now (words .entry)) (now (numbers .entry))) none (finiteWarm warmstart) (now (rows .entry))) ⌝ }
+{
+    let finite = finite_warm(warmstart);
+    storage_refusal(header, bodies, words, numbers, rows, finite)
 }
 
 // Checks the model, stores each joint's first row and marks the model not built.

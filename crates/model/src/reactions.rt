@@ -2,47 +2,18 @@
 // joint is one of zeros between the world and the world, and an absent body is the world.
 ghost use mathlib.Core.Path.{_≡_};
 ghost use Rattle.rows.specs.Reaction.{rowsIn};
-ghost use Rattle.model.specs.Reactions.{poseIfThere, velIfThere, body1IfThere, body2IfThere, reactionAt, residualAt};
-use crate::counts::body_count;
+ghost use Rattle.model.specs.Reactions.{body1IfThere, body2IfThere, reactionAt, residualAt};
 use crate::layout::WORDS_WIDTH;
 use crate::layout::WORLD;
 use crate::single_records::read_joint;
+use crate::single_records::read_pose;
+use crate::single_records::read_vel;
 use crate::store::body1_at;
 use crate::store::body2_at;
-use crate::store::solver_pose_at;
-use crate::store::vel_at;
-use floats::pose::Pose;
-use floats::rotation_ops::Rotation;
-use floats::vector::Vector;
 use rows::joint_velocity_constraint::JointConstraint;
 use rows::joint_velocity_constraint::Rows;
-use rows::joint_velocity_constraint::SolverVel;
 use rows::reaction::Reaction;
 use rows::reaction::joint_reaction;
-
-fn read_pose(bodies: &[f32], i: u32) -> Pose
-    ensures { λ r. ⌜ r ≡ poseIfThere (now (bodies .entry)) i ⌝ }
-{
-    if (i as usize) < body_count(bodies) {
-        return solver_pose_at(bodies, i).pose;
-    }
-    Pose {
-        rotation: Rotation { re: 1.0, im: 0.0 },
-        translation: Vector { x: 0.0, y: 0.0 },
-    }
-}
-
-fn read_vel(bodies: &[f32], i: u32) -> SolverVel
-    ensures { λ r. ⌜ r ≡ velIfThere (now (bodies .entry)) i ⌝ }
-{
-    if (i as usize) < body_count(bodies) {
-        return vel_at(bodies, i);
-    }
-    SolverVel {
-        linear: Vector { x: 0.0, y: 0.0 },
-        angular: 0.0,
-    }
-}
 
 fn read_body1(words: &[u32], j: usize) -> u32
     ensures { λ r. ⌜ r ≡ body1IfThere (now (words .entry)) j ⌝ }

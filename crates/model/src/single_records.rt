@@ -1,14 +1,18 @@
-// One row, one joint, one stored impulse, for callers who hold a storage of their own: read and stored where the record is there whole. Elsewhere zeros are
-// read, and nothing is stored.
+// One row, one body's pose or velocity, one joint, one stored impulse, for callers who hold a storage of their own: read and stored where the record is there whole. Elsewhere zeros are
+// read, of a body the world, and nothing is stored.
 ghost use mathlib.Core.Path.{_≡_};
-ghost use Rattle.model.specs.SingleRecords.{rowIfThere, putRowIfThere, blankJoint, jointIfThere, putSeedIfThere};
+ghost use Rattle.model.specs.SingleRecords.{rowIfThere, putRowIfThere, poseIfThere, velIfThere, putPoseIfThere, blankJoint, jointIfThere, putSeedIfThere};
+use crate::counts::body_count;
 use crate::counts::joint_count;
 use crate::counts::row_capacity;
 use crate::layout::NUMBERS_WIDTH;
 use crate::store::joint_at;
+use crate::store::put_pose;
 use crate::store::put_row;
 use crate::store::put_seed;
 use crate::store::row_at;
+use crate::store::solver_pose_at;
+use crate::store::vel_at;
 use floats::pose::Pose;
 use floats::rotation_ops::Rotation;
 use floats::vector::Vector;
@@ -20,6 +24,7 @@ use rows::generic_joint::Masks;
 use rows::integration_parameters::SpringCoefficients;
 use rows::joint_constraint_builder::ImpulseJoint;
 use rows::joint_velocity_constraint::JointConstraint;
+use rows::joint_velocity_constraint::SolverVel;
 use rows::joint_velocity_constraint::WritebackId;
 use rows::joint_velocity_constraint::blank_row;
 use rows::motor_model::MotorModel;
@@ -38,6 +43,38 @@ pub fn write_row(rows: &mut [f32], k: usize, row: JointConstraint)
 {
     if k < row_capacity(rows) {
         put_row(rows, k, row);
+    }
+}
+
+pub fn read_pose(bodies: &[f32], i: u32) -> Pose
+    ensures { λ r. ⌜ r ≡ poseIfThere (now (bodies .entry)) i ⌝ }
+{
+    if (i as usize) < body_count(bodies) {
+        return solver_pose_at(bodies, i).pose;
+    }
+    Pose {
+        rotation: Rotation { re: 1.0, im: 0.0 },
+        translation: Vector { x: 0.0, y: 0.0 },
+    }
+}
+
+pub fn read_vel(bodies: &[f32], i: u32) -> SolverVel
+    ensures { λ r. ⌜ r ≡ velIfThere (now (bodies .entry)) i ⌝ }
+{
+    if (i as usize) < body_count(bodies) {
+        return vel_at(bodies, i);
+    }
+    SolverVel {
+        linear: Vector { x: 0.0, y: 0.0 },
+        angular: 0.0,
+    }
+}
+
+pub fn write_pose(bodies: &mut [f32], i: u32, pose: Pose)
+    ensures { λ _. ⌜ now (bodies .exit) ≡ putPoseIfThere (now (bodies .entry)) i pose ⌝ }
+{
+    if (i as usize) < body_count(bodies) {
+        put_pose(bodies, i, pose);
     }
 }
 

@@ -1,9 +1,9 @@
 -- `read_vel` meets its contract, by those of its parts.
 use mathlib.Core.Path.{sym, _∙_}
-use Rattle.model.proofs.ReactionsLaws.{body-fits, vel-there, vel-absent}
+use Rattle.model.proofs.SingleRecordsLaws.{body-fits, vel-there, vel-absent}
 use borrow.Author.Needs.{needs}
-use Rattle.model.proofs.reactions.read_vel.Statement.{statement}
-use Rattle.model.proofs.reactions.read_vel.Tie as tie
+use Rattle.model.proofs.single_records.read_vel.Statement.{statement}
+use Rattle.model.proofs.single_records.read_vel.Tie as tie
 
 body-count-requires : tie.Need-body-count-requires
 body-count-requires c κs = search needs

@@ -1,10 +1,10 @@
 -- `read_pose` meets its contract, by those of its parts.
 use mathlib.Core.Path.{sym, ap, _∙_}
 use Rattle.rows.specs.declared.joint_constraint_builder.SolverPose.{SolverPose}
-use Rattle.model.proofs.ReactionsLaws.{body-fits, pose-there, pose-absent}
+use Rattle.model.proofs.SingleRecordsLaws.{body-fits, pose-there, pose-absent}
 use borrow.Author.Needs.{needs}
-use Rattle.model.proofs.reactions.read_pose.Statement.{statement}
-use Rattle.model.proofs.reactions.read_pose.Tie as tie
+use Rattle.model.proofs.single_records.read_pose.Statement.{statement}
+use Rattle.model.proofs.single_records.read_pose.Tie as tie
 
 body-count-requires : tie.Need-body-count-requires
 body-count-requires c κs = search needs
