@@ -19,7 +19,8 @@ use Rattle.model.specs.Planar.{plane, planar}
 use Rattle.model.proofs.CountLaws.{rowsBefore-le, rows-fit}
 use Rattle.model.proofs.PastTotal.{past-total}
 use Rattle.model.proofs.PlanarLaws.{planar-laws}
-use Rattle.frames.specs.Frames.{Moment, moment, leaves, movedMoment, Progress, progress, beforeMove, moveOf, afterMove, substep, substeps, stepsOf, OrBack}
+use Rattle.frames.specs.Frames.{Moment, moment, leaves, movedMoment, Progress, progress, beforeMove, moveOf, afterMove, substep, substeps, stepsOf, Reaches, OrBack}
+use Rattle.frames.specs.declared.frame.Reached.{Reached}
 
 -- ---- the first k numbers put back
 
@@ -153,16 +154,13 @@ bodies-back bodies other moved saved left k few size bounds copied put =
 
 -- ---- what is left of substeps
 
-module _ {all left : Progress} (bodies rows : List Float) where
-  pub went-through : left ≡ all → left .finite ≡ true → OrBack all left bodies rows
-  went-through e f = record {
-    finite = ap (λ (p : Progress). p .finite) e;
-    through = λ _. e;
-    back = λ d. absurd (false≢true (sym d ∙ ap (λ (p : Progress). p .finite) (sym e) ∙ f));
-  }
+module _ {joints : ℕ} {r : Reached} {bodies : List Float} {words : List ℕ} {numbers rows : List Float} {all : Progress} (bodies₀ rows₀ : List Float) where
+  pub went-through : Reaches joints r bodies words numbers rows all → r .finite ≡ true → OrBack joints r bodies words numbers rows all bodies₀ rows₀
+  went-through e f =
+      let d : r .finite ≡ all .finite = ap (λ (p : Progress). p .finite) (e .progress) in
+      record { finite = d; through = λ _. e; back = λ g. absurd (false≢true (sym g ∙ sym d ∙ f)) }
 
-  pub put-all-back : {reached : Progress} → reached ≡ all → reached .finite ≡ false → left .finite ≡ false → left .left .model .bodies ≡ bodies → left .left .rows ≡ rows
-      → OrBack all left bodies rows
-  put-all-back e f g b r =
-      let d : all .finite ≡ false = ap (λ (p : Progress). p .finite) (sym e) ∙ f in
-      record { finite = g ∙ sym d; through = λ t. absurd (false≢true (sym d ∙ t)); back = λ _. (b, r) }
+  pub put-all-back : {reached : Progress} → reached ≡ all → reached .finite ≡ false → r .finite ≡ false → bodies ≡ bodies₀ → rows ≡ rows₀ → OrBack joints r bodies words numbers rows all bodies₀ rows₀
+  put-all-back e f g b d =
+      let stop : all .finite ≡ false = ap (λ (p : Progress). p .finite) (sym e) ∙ f in
+      record { finite = g ∙ sym stop; through = λ t. absurd (false≢true (sym stop ∙ t)); back = λ _. (b, d) }

@@ -15,7 +15,7 @@ use Rattle.multibody.specs.Rules.{Rule, rule, refusal}
 use Rattle.multibody.specs.Model.{Model, mostBodies, withBodies}
 use Rattle.multibody.specs.Counts.{bodyCount}
 use Rattle.multibody.specs.Refusals.{finiteWarm, modelRules, storageRule}
-use Rattle.multibody.specs.Calls.{Answer, outcome, run, handedRules}
+use Rattle.multibody.specs.Calls.{Answer, Outcome, outcome, run, handedRules}
 use Rattle.multibody.specs.Calls.Call.{build, warmStart, sweep, removeBias, writeBack}
 use Rattle.multibody.specs.Calls.Change.{none}
 use Rattle.multibody.specs.Calls.Answer.{refused}
@@ -24,11 +24,15 @@ use Rattle.multibody.proofs.RefusalLaws.{first-numbered}
 use Rattle.multibody.proofs.CountLaws.{same-bodies}
 use Rattle.model.specs.Planar.{plane, planar}
 use Rattle.model.specs.Model.{modelOf}
+use Rattle.model.specs.Answers.{sweepAnswer, sweptAs, sweepAnswerOf}
+use Rattle.model.specs.declared.calls.Plain.{Plain}
+use Rattle.model.specs.declared.calls.SweepAnswer.{SweepAnswer}
 use Rattle.model.proofs.CallLaws.{too-many, few-rounds}
 use Rattle.model.proofs.PlanarLaws.{planar-laws}
 use Rattle.model.specs.declared.header.Header.{Header}
+use Rattle.frames.specs.declared.frame.FrameAnswer.{FrameAnswer}
 use Rattle.frames.specs.Moving.{moved, moveFrom}
-use Rattle.frames.specs.Frames.{mostSubsteps, withDt, substepOf, Moment, moment, Progress, progress, beforeMove, moveOf, afterMove, substep, substeps, stepsOf, allSubsteps, substepsRule, ownRules, finiteFrame, frameRules, grantedFrame, runFrame, headerWithDt, isStep}
+use Rattle.frames.specs.Frames.{mostSubsteps, withDt, substepOf, Moment, moment, Progress, progress, beforeMove, moveOf, afterMove, substep, substeps, stepsOf, allSubsteps, substepsRule, ownRules, finiteFrame, frameRules, grantedFrame, runFrame, Filled, headerWithDt, refusedFrame, frameAnswer, frameCounts, isStep}
 
 -- ---- one substep
 
@@ -44,8 +48,8 @@ module _ (warm : Warmstart) (sweeps i : ℕ) (s : Moment) where
     unfolding substep moveOf
     substep-stops d = rw (← e, ← d)
 
-    pub substep-goes : {m : Model} {rows : List Float} {a : Answer plane} → moved b true ≡ moveFrom (t .model .params .dt) 0 (bodyCount plane (t .model .bodies)) (t .model .bodies)
-        → progress true (moment m rows) a ≡ afterMove sweeps (moment (withBodies (t .model) b) (t .rows)) → progress true (moment m rows) a ≡ substep warm sweeps i s
+    pub substep-goes : {p : Progress} → moved b true ≡ moveFrom (t .model .params .dt) 0 (bodyCount plane (t .model .bodies)) (t .model .bodies)
+        → p ≡ afterMove sweeps (moment (withBodies (t .model) b) (t .rows)) → p ≡ substep warm sweeps i s
     unfolding substep moveOf
     substep-goes d f = rw (← e, ← d) f
 
@@ -53,6 +57,15 @@ pub after-move : (sweeps : ℕ) {m m2 : Model} (rows : List Float) {r1 r2 : List
     → progress true (moment m2 r2) a2 ≡ afterMove sweeps (moment m rows)
 unfolding afterMove
 after-move sweeps rows e1 e2 = rw (← e1, ← e2)
+
+-- what a sweep answers is filled up, by both its promises
+pub last-filled : (joints : ℕ) {r : SweepAnswer} {m : Model} {rows : List Float} {o : Outcome plane} → outcome (sweepAnswer joints r) m rows ≡ o → r ≡ sweepAnswerOf (o .answer) → Filled joints r
+last-filled joints e d = d ∙ ap (λ (o : Outcome plane). sweepAnswerOf (o .answer)) (sym e)
+
+-- and so is what stands for the sweep that a substep with a new pose which is not finite does not make
+pub none-filled : (joints : ℕ) {r : SweepAnswer} → r ≡ sweptAs (Plain.Refused 6) [] → Filled joints r
+unfolding sweepAnswerOf
+none-filled joints e = rw e
 
 -- ---- the loop over the substeps
 
@@ -169,3 +182,16 @@ pub granted-frame : (warm : Warmstart) (sweeps n : ℕ) (m : Model) (rows : List
     → outcome a m2 r2 ≡ run planar writeBack (p .left .model) (p .left .rows) → outcome (p .answer) (withDt m2 (m .params .dt)) r2 ≡ grantedFrame warm sweeps n m rows
 unfolding grantedFrame
 granted-frame warm sweeps n m rows e d = rw (← e, ← d)
+
+-- ---- both promises of a frame
+
+-- where it is refused
+pub refused-promises : {r : FrameAnswer} {o : Outcome plane} (joints : ℕ) (header : Header) (k : ℕ) (bodies : List Float) (words : List ℕ) (numbers rows : List Float) → r ≡ refusedFrame header k
+    → outcome (refused k) (modelOf header bodies words numbers) rows ≡ o → (outcome (frameAnswer joints r) (modelOf (r .header) bodies words numbers) rows ≡ o) × (frameCounts r ≡ sweepAnswerOf (o .answer))
+unfolding sweepAnswerOf
+refused-promises joints header k bodies words numbers rows e d = (rw e d, rw e (ap (λ (o : Outcome plane). sweepAnswerOf (o .answer)) d))
+
+-- where it is granted: its answer and counts are the last sweep's
+pub granted-promises : {o : Outcome plane} {m : Model} {rows : List Float} (joints : ℕ) (last : SweepAnswer) → Filled joints last → outcome (sweepAnswer joints last) m rows ≡ o
+    → (outcome (sweepAnswer joints last) m rows ≡ o) × (last ≡ sweepAnswerOf (o .answer))
+granted-promises joints last f e = (e, f ∙ ap (λ (o : Outcome plane). sweepAnswerOf (o .answer)) e)

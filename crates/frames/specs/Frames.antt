@@ -1,7 +1,6 @@
 -- Document 02, R-12: a frame, as a list of the model's calls with a move in each substep.
 use Prim.Native.Nat.{ℕ, zero, suc, _+_, _-_}
 use mathlib.Core.Path.{_≡_}
-use lib.ListN.{replicate}
 use mathlib.Core.Bool.{Bool, true, false, not, cond, _&&_}
 use mathlib.Core.List.{List, [], _∷_, _++_}
 use lib.Dec.{eqb}
@@ -9,6 +8,7 @@ use lib.IntN.{pos}
 use lib.Ieee.{Float, binary32, ofInt, lt}
 use Rattle.floats.specs.Operators.{_⊘_, bits}
 use Rattle.floats.specs.Scalar.{isFinite}
+use Rattle.rows.specs.RowIds.{filled}
 use Rattle.rows.specs.declared.integration_parameters.IntegrationParameters.{IntegrationParameters}
 use Rattle.rows.specs.declared.joint_constraint_builder.Warmstart.{Warmstart}
 use Rattle.multibody.specs.Rules.{Rule, rule, refusal, atMost}
@@ -21,9 +21,10 @@ use Rattle.multibody.specs.Calls.Change.{none}
 use Rattle.multibody.specs.Calls.Answer.{refused}
 use Rattle.model.specs.Planar.{plane, planar}
 use Rattle.model.specs.Model.{modelOf}
-use Rattle.model.specs.Answers.{countsAnswer, sweepAnswer}
+use Rattle.model.specs.Answers.{countsAnswer, sweepAnswer, sweepAnswerOf}
 use Rattle.model.specs.declared.header.Header.{Header}
 use Rattle.model.specs.declared.calls.Plain.{Plain}
+use Rattle.model.specs.declared.calls.SweepAnswer.{SweepAnswer}
 use Rattle.frames.specs.Moving.{Moved, moveFrom}
 use Rattle.frames.specs.declared.frame.Reached.{Reached}
 use Rattle.frames.specs.declared.frame.FrameAnswer.{FrameAnswer}
@@ -137,11 +138,20 @@ runFrame warm sweeps n m rows =
 abbrev pub progressOf : ℕ → Reached → List Float → List ℕ → List Float → List Float → Progress
 progressOf joints p bodies words numbers rows = progress (p .finite) (moment (modelOf (p .header) bodies words numbers) rows) (sweepAnswer joints (p .last))
 
+-- Past the joints an array of counts holds zeros, as a sweep's does.
+abbrev pub Filled : ℕ → SweepAnswer → Type 0
+Filled joints a = a ≡ sweepAnswerOf (sweepAnswer joints a)
+
+-- the program has come so far
+pub record Reaches (joints : ℕ) (r : Reached) (bodies : List Float) (words : List ℕ) (numbers rows : List Float) (p : Progress) : Type 0 where
+  pub progress : progressOf joints r bodies words numbers rows ≡ p
+  pub last : Filled joints (r .last)
+
 -- what is left of substeps: all of them, or bodies and rows as they were
-pub record OrBack (all left : Progress) (bodies rows : List Float) : Type 0 where
-  pub finite : left .finite ≡ all .finite
-  pub through : all .finite ≡ true → left ≡ all
-  pub back : all .finite ≡ false → (left .left .model .bodies ≡ bodies) × (left .left .rows ≡ rows)
+pub record OrBack (joints : ℕ) (r : Reached) (bodies : List Float) (words : List ℕ) (numbers rows : List Float) (all : Progress) (bodies₀ rows₀ : List Float) : Type 0 where
+  pub finite : r .finite ≡ all .finite
+  pub through : all .finite ≡ true → Reaches joints r bodies words numbers rows all
+  pub back : all .finite ≡ false → (bodies ≡ bodies₀) × (rows ≡ rows₀)
 
 -- a header with another timestep
 abbrev pub headerWithDt : Header → Float → Header
@@ -151,7 +161,11 @@ headerWithDt header h = record {
 }
 
 abbrev pub refusedFrame : Header → ℕ → FrameAnswer
-refusedFrame header k = record { answer = Plain.Refused k; header = header; counts = replicate 128 0 }
+refusedFrame header k = record { answer = Plain.Refused k; header = header; counts = filled 128 0 [] }
 
 abbrev pub frameAnswer : ℕ → FrameAnswer → Answer plane
 frameAnswer joints r = countsAnswer joints (r .answer) (r .counts)
+
+-- a frame's answer and array of counts, which is filled up as a sweep's is
+abbrev pub frameCounts : FrameAnswer → SweepAnswer
+frameCounts r = record { answer = r .answer; counts = r .counts }

@@ -8,9 +8,9 @@ ghost use Rattle.multibody.specs.Counts.{bodyCount, jointCount, Room};
 ghost use Rattle.multibody.specs.Calls.{outcome};
 ghost use Rattle.model.specs.Planar.{plane};
 ghost use Rattle.model.specs.Model.{modelOf};
-ghost use Rattle.model.specs.Answers.{buildHeader, sweepAnswer, sweptAs};
+ghost use Rattle.model.specs.Answers.{buildHeader, sweepAnswer, sweptAs, sweepAnswerOf};
 ghost use Rattle.model.specs.declared.calls.Plain.{Plain};
-ghost use Rattle.frames.specs.Frames.{mostSubsteps, moment, progress, beforeMove, afterMove, substep, stepsOf, OrBack, runFrame, progressOf, frameAnswer, refusedFrame, headerWithDt, isStep};
+ghost use Rattle.frames.specs.Frames.{mostSubsteps, moment, progress, beforeMove, afterMove, substep, stepsOf, Filled, Reaches, OrBack, runFrame, frameAnswer, frameCounts, refusedFrame, headerWithDt, isStep};
 use crate::moving::move_all;
 use crate::saved::copy_first;
 use floats::scalar::is_finite;
@@ -90,6 +90,7 @@ fn after_move(
     sweeps: u32,
 ) -> SweepAnswer
     ensures { λ r. ⌜ progress true (moment (modelOf header (now (bodies .exit)) (now (words .entry)) (now (numbers .entry))) (now (rows .exit))) (sweepAnswer (jointCount plane (now (words .entry)) (now (numbers .entry))) r) ≡ afterMove sweeps (moment (modelOf header (now (bodies .entry)) (now (words .entry)) (now (numbers .entry))) (now (rows .entry))) ⌝ }
+    ensures { λ r. ⌜ Filled (jointCount plane (now (words .entry)) (now (numbers .entry))) r ⌝ }
 {
     remove_bias(header, bodies, words, numbers, rows);
     sweep(header, bodies, words, numbers, rows, sweeps)
@@ -118,7 +119,7 @@ fn one_substep(
     i: u32,
 ) -> Reached
     requires { ⌜ bodyCount plane (now bodies) ≤ mostBodies ⌝ }
-    ensures { λ r. ⌜ progressOf (jointCount plane (now (words .entry)) (now (numbers .entry))) r (now (bodies .exit)) (now (words .entry)) (now (numbers .entry)) (now (rows .exit)) ≡ substep warmstart sweeps i (moment (modelOf header (now (bodies .entry)) (now (words .entry)) (now (numbers .entry))) (now (rows .entry))) ⌝ }
+    ensures { λ r. ⌜ Reaches (jointCount plane (now (words .entry)) (now (numbers .entry))) r (now (bodies .exit)) (now (words .entry)) (now (numbers .entry)) (now (rows .exit)) (substep warmstart sweeps i (moment (modelOf header (now (bodies .entry)) (now (words .entry)) (now (numbers .entry))) (now (rows .entry)))) ⌝ }
 {
     let h = before_move(header, bodies, words, numbers, rows, warmstart, sweeps, i);
     let params = h.params;
@@ -152,7 +153,7 @@ fn all_substeps(
 ) -> Reached
     requires { ⌜ bodyCount plane (now bodies) ≤ mostBodies ⌝ }
     requires { ⌜ n ≤ mostSubsteps ⌝ }
-    ensures { λ r. ⌜ progressOf (jointCount plane (now (words .entry)) (now (numbers .entry))) r (now (bodies .exit)) (now (words .entry)) (now (numbers .entry)) (now (rows .exit)) ≡ stepsOf warmstart sweeps n (moment (modelOf header (now (bodies .entry)) (now (words .entry)) (now (numbers .entry))) (now (rows .entry))) ⌝ }
+    ensures { λ r. ⌜ Reaches (jointCount plane (now (words .entry)) (now (numbers .entry))) r (now (bodies .exit)) (now (words .entry)) (now (numbers .entry)) (now (rows .exit)) (stepsOf warmstart sweeps n (moment (modelOf header (now (bodies .entry)) (now (words .entry)) (now (numbers .entry))) (now (rows .entry)))) ⌝ }
 {
     let mut p = one_substep(header, bodies, words, numbers, rows, warmstart, sweeps, 0);
     let mut i = 1u32;
@@ -192,7 +193,7 @@ fn substeps_or_back(
     requires { ⌜ jointCount plane (now words) (now numbers) ≤ mostJoints ⌝ }
     requires { ⌜ Room plane (modelOf header (now bodies) (now words) (now numbers)) (now rows) ⌝ }
     requires { ⌜ n ≤ mostSubsteps ⌝ }
-    ensures { λ r. ⌜ OrBack (stepsOf warmstart sweeps n (moment (modelOf header (now (bodies .entry)) (now (words .entry)) (now (numbers .entry))) (now (rows .entry)))) (progressOf (jointCount plane (now (words .entry)) (now (numbers .entry))) r (now (bodies .exit)) (now (words .entry)) (now (numbers .entry)) (now (rows .exit))) (now (bodies .entry)) (now (rows .entry)) ⌝ }
+    ensures { λ r. ⌜ OrBack (jointCount plane (now (words .entry)) (now (numbers .entry))) r (now (bodies .exit)) (now (words .entry)) (now (numbers .entry)) (now (rows .exit)) (stepsOf warmstart sweeps n (moment (modelOf header (now (bodies .entry)) (now (words .entry)) (now (numbers .entry))) (now (rows .entry)))) (now (bodies .entry)) (now (rows .entry)) ⌝ }
 {
     let row_numbers = room_of(rows.len(), ROW_NUMBERS);
     let body_numbers = room_of(bodies.len(), BODY_NUMBERS);
@@ -258,6 +259,7 @@ pub fn frame(
     n: u32,
 ) -> FrameAnswer
     ensures { λ r. ⌜ outcome (frameAnswer (jointCount plane (now (words .entry)) (now (numbers .entry))) r) (modelOf (r .header) (now (bodies .exit)) (now (words .entry)) (now (numbers .exit))) (now (rows .exit)) ≡ runFrame warmstart sweeps n (modelOf header (now (bodies .entry)) (now (words .entry)) (now (numbers .entry))) (now (rows .entry)) ⌝ }
+    ensures { λ r. ⌜ frameCounts r ≡ sweepAnswerOf (runFrame warmstart sweeps n (modelOf header (now (bodies .entry)) (now (words .entry)) (now (numbers .entry))) (now (rows .entry)) .answer) ⌝ }
 {
     let k = front_refusal(header, bodies, words, numbers, rows, warmstart);
     if k != 0 {

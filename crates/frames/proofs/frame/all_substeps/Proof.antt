@@ -7,7 +7,7 @@ use lib.ListN.{length}
 use Rattle.multibody.specs.Counts.{jointCount}
 use Rattle.model.specs.Planar.{plane}
 use borrow.Author.Tests.{not-true, not-false}
-use Rattle.frames.specs.Frames.{substeps, progressOf}
+use Rattle.frames.specs.Frames.{substeps, progressOf, Filled}
 use Rattle.frames.proofs.FrameLaws.{no-substep, stopped, next-substep, first-substep, still-few}
 use Rattle.frames.proofs.frame.all_substeps.Statement.{statement}
 use Rattle.frames.proofs.frame.all_substeps.Tie as tie
@@ -17,6 +17,7 @@ Inv-loop bodies₀ words numbers rows₀ warmstart sweeps n p₀ i₀ bodies row
     (length bodies ≡ length bodies₀) × (length rows ≡ length rows₀)
     × (substeps warmstart sweeps i (n - i) (progressOf (jointCount plane words numbers) p bodies words numbers rows)
     ≡ substeps warmstart sweeps 1 (n - 1) (progressOf (jointCount plane words numbers) p₀ bodies₀ words numbers rows₀))
+    × Filled (jointCount plane words numbers) (p .last)
 
 abbrev μ-loop : tie.MeasureT-loop
 μ-loop bodies₀ words numbers rows₀ warmstart sweeps n p₀ i₀ bodies rows p i = n - i
@@ -25,7 +26,7 @@ one-substep-requires : tie.Need-one-substep-requires Inv-loop μ-loop
 one-substep-requires c κs = c .before .before .before .before .before .before .pre .0
 
 loop-holds : tie.Need-loop-holds Inv-loop μ-loop
-loop-holds c = (refl, refl, refl)
+loop-holds c = (refl, refl, refl, c .before .before .before .before .one-substep .ensures .last)
 
 same-length : tie.Need-same-length Inv-loop μ-loop
 same-length c = search needs
@@ -38,7 +39,10 @@ returns c =
     let l = c .before .before in
     let lp = l .before in
     let os = lp .before .before .before .before .before in
-    sym (stopped _ _ _ _ _ (l .loop-test .taken) (not-true _ (c .if1 .taken))) ∙ lp .loop .inv .2 ∙ first-substep _ _ _ _ (os .one-substep .ensures)
+    record {
+      progress = sym (stopped _ _ _ _ _ (l .loop-test .taken) (not-true _ (c .if1 .taken))) ∙ lp .loop .inv .2 ∙ first-substep _ _ _ _ (os .one-substep .ensures .progress);
+      last = lp .loop .inv .3;
+    }
 
 one-substep-requires-2 : tie.Need-one-substep-requires-2 Inv-loop μ-loop
 one-substep-requires-2 c κs =
@@ -60,7 +64,8 @@ loop-again c =
     let v = l .before .loop .inv in (
       o2 .one-substep2 .kept .1 .0 ∙ v .0,
       o2 .one-substep2 .kept .1 .1 .1 .1 .0 ∙ v .1,
-      sym (next-substep _ _ _ _ _ (l .loop-test .taken) (not-false _ (el .if1 .left)) (o2 .one-substep2 .ensures)) ∙ v .2,
+      sym (next-substep _ _ _ _ _ (l .loop-test .taken) (not-false _ (el .if1 .left)) (o2 .one-substep2 .ensures .progress)) ∙ v .2,
+      o2 .one-substep2 .ensures .last,
     )
 
 same-length-3 : tie.Need-same-length-3 Inv-loop μ-loop
@@ -73,7 +78,10 @@ returns-2 : tie.Need-returns-2 Inv-loop μ-loop
 returns-2 c =
     let lp = c .before in
     let os = lp .before .before .before .before .before in
-    sym (no-substep _ _ _ _ _ (c .loop-test .left)) ∙ lp .loop .inv .2 ∙ first-substep _ _ _ _ (os .one-substep .ensures)
+    record {
+      progress = sym (no-substep _ _ _ _ _ (c .loop-test .left)) ∙ lp .loop .inv .2 ∙ first-substep _ _ _ _ (os .one-substep .ensures .progress);
+      last = lp .loop .inv .3;
+    }
 
 pub all-substeps-spec : {M : Type 1} → statement M
 all-substeps-spec =

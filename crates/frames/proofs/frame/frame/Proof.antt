@@ -4,7 +4,7 @@ use borrow.Author.Tests.{not-true, not-false}
 use Rattle.multibody.proofs.RuleLaws.{holds, fails}
 use Rattle.model.proofs.CallLaws.{call-sound, call-few-joints, call-room}
 use Rattle.frames.specs.Frames.{Progress}
-use Rattle.frames.proofs.FrameLaws.{refused-front, refused-rounds, refused-none, refused-many, refused-step, refused-pose, frame-grants, start-steps, granted-frame}
+use Rattle.frames.proofs.FrameLaws.{refused-front, refused-rounds, refused-none, refused-many, refused-step, refused-pose, frame-grants, start-steps, granted-frame, refused-promises, granted-promises}
 use borrow.Author.Needs.{needs}
 use Rattle.frames.proofs.frame.frame.Statement.{statement}
 use Rattle.frames.proofs.frame.frame.Tie as tie
@@ -25,7 +25,7 @@ same-length-3 : tie.Need-same-length-3
 same-length-3 c = search needs
 
 returns : tie.Need-returns
-returns c = rw (c .no-frame .ensures) (refused-front _ _ _ _ _ (c .before .before .front-refusal .ensures) (c .before .if1 .taken))
+returns c = refused-promises _ _ _ _ _ _ _ (c .no-frame .ensures) (refused-front _ _ _ _ _ (c .before .before .front-refusal .ensures) (c .before .if1 .taken))
 
 no-frame-requires-2 : tie.Need-no-frame-requires-2
 no-frame-requires-2 c κs = search needs
@@ -43,7 +43,7 @@ returns-2 : tie.Need-returns-2
 returns-2 c =
     let t2 = c .before in
     let e1 = t2 .before in
-    rw (c .no-frame2 .ensures) (refused-rounds _ _ _ _ _ (e1 .before .front-refusal .ensures) (e1 .if1 .left) (t2 .if2 .taken))
+    refused-promises _ _ _ _ _ _ _ (c .no-frame2 .ensures) (refused-rounds _ _ _ _ _ (e1 .before .front-refusal .ensures) (e1 .if1 .left) (t2 .if2 .taken))
 
 no-frame-requires-3 : tie.Need-no-frame-requires-3
 no-frame-requires-3 c κs = search needs
@@ -62,7 +62,7 @@ returns-3 c =
     let t3 = c .before in
     let e2 = t3 .before in
     let e1 = e2 .before in
-    rw (c .no-frame3 .ensures) (refused-none _ _ _ _ _ (e1 .before .front-refusal .ensures) (e1 .if1 .left) (e2 .if2 .left) (t3 .if3 .taken))
+    refused-promises _ _ _ _ _ _ _ (c .no-frame3 .ensures) (refused-none _ _ _ _ _ (e1 .before .front-refusal .ensures) (e1 .if1 .left) (e2 .if2 .left) (t3 .if3 .taken))
 
 no-frame-requires-4 : tie.Need-no-frame-requires-4
 no-frame-requires-4 c κs = search needs
@@ -82,7 +82,7 @@ returns-4 c =
     let e3 = t4 .before in
     let e2 = e3 .before in
     let e1 = e2 .before in
-    rw (c .no-frame4 .ensures) (refused-many _ _ _ _ _ (e1 .before .front-refusal .ensures) (e1 .if1 .left) (e2 .if2 .left) (e3 .if3 .left) (t4 .if4 .taken))
+    refused-promises _ _ _ _ _ _ _ (c .no-frame4 .ensures) (refused-many _ _ _ _ _ (e1 .before .front-refusal .ensures) (e1 .if1 .left) (e2 .if2 .left) (e3 .if3 .left) (t4 .if4 .taken))
 
 nearest-u32-to-f32-requires : tie.Need-nearest-u32-to-f32-requires
 nearest-u32-to-f32-requires c κs = search needs
@@ -111,7 +111,7 @@ returns-5 c =
     let e3 = e4 .before in
     let e2 = e3 .before in
     let e1 = e2 .before in
-    rw (c .no-frame5 .ensures)
+    refused-promises _ _ _ _ _ _ _ (c .no-frame5 .ensures)
     (refused-step _ _ _ _ _ (e1 .before .front-refusal .ensures) (e1 .if1 .left) (e2 .if2 .left) (e3 .if3 .left) (e4 .if4 .left)
     (rw (ne .nearest-u32-to-f32 .ensures) at (fails (st .is-step .ensures) (t5 .if5 .taken))))
 
@@ -154,8 +154,9 @@ returns-6 c =
     let step = rw (ne .nearest-u32-to-f32 .ensures) at (holds (st .is-step .ensures) (e5 .if5 .left)) in
     let stop = sym (ob .finite) ∙ not-true _ (t6 .if6 .taken) in
     let back = ob .back stop in
-    rw (c .no-frame6 .ensures, back .0, back .1)
-    (refused-pose _ _ _ _ _ (e1 .before .front-refusal .ensures) (e1 .if1 .left) (e2 .if2 .left) (e3 .if3 .left) (e4 .if4 .left) step (ap (λ (p : Progress). p .finite) (sym start) ∙ stop))
+    rw (back .0, back .1)
+    (refused-promises _ _ _ _ _ _ _ (c .no-frame6 .ensures)
+    (refused-pose _ _ _ _ _ (e1 .before .front-refusal .ensures) (e1 .if1 .left) (e2 .if2 .left) (e3 .if3 .left) (e4 .if4 .left) step (ap (λ (p : Progress). p .finite) (sym start) ∙ stop)))
 
 write-back-requires : tie.Need-write-back-requires
 write-back-requires c κs = search needs
@@ -190,8 +191,9 @@ returns-7 c =
     let step = rw (ne .nearest-u32-to-f32 .ensures) at (holds (st .is-step .ensures) (e5 .if5 .left)) in
     let go = sym (ob .finite) ∙ not-false _ (e6 .if6 .left) in
     rw (c .with-dt2 .ensures)
-    (granted-frame _ _ _ _ _ (ob .through go ∙ start) (wb .write-back .ensures)
-    ∙ frame-grants _ _ _ _ _ (e1 .before .front-refusal .ensures) (e1 .if1 .left) (e2 .if2 .left) (e3 .if3 .left) (e4 .if4 .left) step (ap (λ (p : Progress). p .finite) (sym start) ∙ go))
+    (granted-promises _ _ (ob .through go .last)
+    (granted-frame _ _ _ _ _ (ob .through go .progress ∙ start) (wb .write-back .ensures)
+    ∙ frame-grants _ _ _ _ _ (e1 .before .front-refusal .ensures) (e1 .if1 .left) (e2 .if2 .left) (e3 .if3 .left) (e4 .if4 .left) step (ap (λ (p : Progress). p .finite) (sym start) ∙ go)))
 
 pub frame-spec : {M : Type 1} → statement M
 frame-spec =
