@@ -1,4 +1,4 @@
--- Everything reverts: what a frame's substeps leave past the total is as it was, so that the first numbers put back make the whole.
+-- A frame's substeps keep the joints, the number of bodies and all past the total (`steps-kept`). So everything reverts: what a frame's substeps leave past the total is as it was, so that the first numbers put back make the whole.
 use Prim.Native.Nat.{ℕ, zero, suc, _+_, _-_, _*_, _≤_}
 use mathlib.Core.Path.{_≡_, refl, sym, ap, _∙_}
 use mathlib.Core.Bool.{Bool, true, false, cond, false≢true}
@@ -13,12 +13,14 @@ use Rattle.multibody.specs.Counts.{bodyCount, jointCount, rowCapacity, totalRow
 use Rattle.multibody.specs.Calls.{Call, Outcome, grantedOf, run}
 use Rattle.multibody.specs.Calls.Call.{build, warmStart, sweep, removeBias}
 use Rattle.multibody.specs.Calls.Answer.{refused}
-use Rattle.multibody.proofs.Keeps.{run-cases}
+use Rattle.multibody.proofs.CountLaws.{same-bodies}
+use Rattle.multibody.proofs.Keeps.{run-cases, run-counts}
 use Rattle.model.specs.Layout.{rowWidth, bodyWidth}
 use Rattle.model.specs.Planar.{plane, planar}
 use Rattle.model.proofs.CountLaws.{rowsBefore-le, rows-fit}
 use Rattle.model.proofs.PastTotal.{past-total}
 use Rattle.model.proofs.PlanarLaws.{planar-laws}
+use Rattle.frames.proofs.MovedLaws.{length-moved}
 use Rattle.frames.specs.Frames.{Moment, moment, leaves, movedMoment, Progress, progress, beforeMove, moveOf, afterMove, substep, substeps, stepsOf, Reaches, OrBack}
 use Rattle.frames.specs.declared.frame.Reached.{Reached}
 
@@ -44,7 +46,7 @@ module _ {A : Type 0} where
 
 -- ---- a frame's calls and its move change no joint and nothing past the total
 
-module _ (words : List ℕ) (numbers rows : List Float) where
+module _ (words : List ℕ) (numbers rows : List Float) (bodies : ℕ) where
   abbrev end : ℕ
   end = totalRows plane words numbers * rowWidth
 
@@ -52,6 +54,7 @@ module _ (words : List ℕ) (numbers rows : List Float) where
     pub words-kept : s .model .words ≡ words
     pub numbers-kept : s .model .numbers ≡ numbers
     pub past : drop end (s .rows) ≡ drop end rows
+    pub count : bodyCount plane (s .model .bodies) ≡ bodies
 
   -- a call that keeps the joints
   abbrev Joints : Call planar → Type 0
@@ -66,6 +69,7 @@ module _ (words : List ℕ) (numbers rows : List Float) where
         words-kept = j2 .0 ∙ k .words-kept;
         numbers-kept = j2 .1 ∙ k .numbers-kept;
         past = rw same at (past-total m (s .rows) c) ∙ k .past;
+        count = run-counts planar-laws m (s .rows) c .bodies ∙ k .count;
       }
 
   build-joints : (warm : Warmstart) (i : ℕ) → Joints (build warm i)
@@ -92,7 +96,13 @@ module _ (words : List ℕ) (numbers rows : List Float) where
         leaves-kept (sweep sweeps) (sweep-joints sweeps) _ (leaves-kept warmStart warm-joints _ a)
 
     moved-kept : (s : Moment) → Kept s → Kept (movedMoment s)
-    moved-kept s k = record { words-kept = k .words-kept; numbers-kept = k .numbers-kept; past = k .past }
+    unfolding moveOf
+    moved-kept s k = record {
+      words-kept = k .words-kept;
+      numbers-kept = k .numbers-kept;
+      past = k .past;
+      count = same-bodies plane (s .model .bodies) _ (length-moved (s .model .params .dt) (bodyCount plane (s .model .bodies)) 0 (s .model .bodies)) ∙ k .count;
+    }
 
     after-kept : (s : Moment) → Kept s → Kept (afterMove sweeps s .left)
     unfolding afterMove
@@ -142,7 +152,7 @@ module _ (warm : Warmstart) (sweeps n : ℕ) (m : Model) (rows : List Float) whe
   rows-back other saved left k p e few room bounds copied put =
       let fits = total-fits m rows few room in
       let end = totalRows plane (m .words) (m .numbers) * rowWidth in
-      let kept = steps-kept (m .words) (m .numbers) rows warm sweeps n (moment m rows) (record { words-kept = refl; numbers-kept = refl; past = refl }) in
+      let kept = steps-kept (m .words) (m .numbers) rows (bodyCount plane (m .bodies)) warm sweeps n (moment m rows) (record { words-kept = refl; numbers-kept = refl; past = refl; count = refl }) in
       let past : drop end (p .left .rows) ≡ drop end rows = rw e (kept .past) in
       put ∙ put-back rows other (p .left .rows) saved k (bounds .0) copied (drop-later (p .left .rows) rows end k (bounds .2 end (fits .0) (fits .1)) past)
 

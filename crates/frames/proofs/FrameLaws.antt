@@ -1,5 +1,5 @@
 -- A frame's parts as the program runs them: a substep by its calls, the loop over the substeps, and the frame's rules.
-use Prim.Native.Nat.{ℕ, suc, _+_, _-_, _≤_, _<_}
+use Prim.Native.Nat.{ℕ, zero, suc, _+_, _-_, _≤_, _<_}
 use mathlib.Core.Path.{_≡_, refl, sym, ap, _∙_}
 use mathlib.Core.Logic.{_≢_}
 use mathlib.Core.Bool.{Bool, true, false, _&&_}
@@ -88,6 +88,13 @@ module _ (warm : Warmstart) (sweeps i n : ℕ) (p : Progress) where
   next-substep g f e =
       let z : n - i ≡ suc (n - (i + 1)) = omega arith in
       rw (z, f, e)
+
+module _ (warm : Warmstart) (sweeps : ℕ) where
+  -- what stopped stays stopped
+  pub once-stopped : (n i : ℕ) (p : Progress) → p .finite ≡ false → substeps warm sweeps i n p .finite ≡ false
+  unfolding substeps
+  once-stopped zero i p e = e
+  once-stopped (suc n) i p e = rw e
 
 pub first-substep : (warm : Warmstart) (sweeps n : ℕ) (s : Moment) {p : Progress} → p ≡ substep warm sweeps 0 s → substeps warm sweeps 1 (n - 1) p ≡ stepsOf warm sweeps n s
 unfolding stepsOf

@@ -30,6 +30,7 @@ use Rattle.model.specs.Planar.{plane, planar}
 use Rattle.model.proofs.CallLaws.{few-rounds, is-built, seeds}
 use Rattle.model.proofs.PlanarLaws.{planar-laws}
 use Rattle.frames.specs.Frames.{withDt, substepOf, allSubsteps, grantedFrame, Moment, moment, leaves, movedMoment, Progress, beforeMove, moveOf, afterMove, substep, substeps, stepsOf}
+use Rattle.frames.proofs.FrameLaws.{once-stopped}
 use Rattle.frames.proofs.MovedLaws.{moved-rules}
 
 -- ---- a moment at which calls are granted
@@ -154,12 +155,6 @@ module _ (warm : Warmstart) (sweeps : ℕ) (w : finiteWarm warm ≡ true) (few :
       let t = beforeMove warm sweeps i s in
       by-cases (moveOf t .finite) (λ g. rw g (after-built (movedMoment t) (move-built t (before-built i s f b) g))) (λ g. absurd (false≢true (rw g at e)))
 
-  -- what stopped stays stopped
-  pub once-stopped : (n i : ℕ) (p : Progress) → p .finite ≡ false → substeps warm sweeps i n p .finite ≡ false
-  unfolding substeps
-  once-stopped zero i p e = e
-  once-stopped (suc n) i p e = rw e
-
   substeps-built : (n i : ℕ) (p : Progress) → p .finite ≡ true → Answered p → substeps warm sweeps i n p .finite ≡ true → Answered (substeps warm sweeps i n p)
   unfolding substeps
   substeps-built zero i p e a f = a
@@ -169,7 +164,7 @@ module _ (warm : Warmstart) (sweeps : ℕ) (w : finiteWarm warm ≡ true) (few :
       rw e
       (by-cases (q .finite)
       (λ d. substeps-built n (i + 1) q d (substep-built i (p .left) (a .0 .fine) (inl (a .0 .built)) d) g)
-      (λ d. absurd (false≢true (sym (once-stopped n (i + 1) q d) ∙ g))))
+      (λ d. absurd (false≢true (sym (once-stopped warm sweeps n (i + 1) q d) ∙ g))))
 
   pub steps-answered : (n : ℕ) (s : Moment) → Fine s → stepsOf warm sweeps n s .finite ≡ true → Answered (stepsOf warm sweeps n s)
   unfolding stepsOf
@@ -177,7 +172,7 @@ module _ (warm : Warmstart) (sweeps : ℕ) (w : finiteWarm warm ≡ true) (few :
       let q = substep warm sweeps 0 s in
       by-cases (q .finite)
       (λ d. substeps-built (n - 1) 1 q d (substep-built 0 s f (inr (reads-none warm)) d) e)
-      (λ d. absurd (false≢true (sym (once-stopped (n - 1) 1 q d) ∙ e)))
+      (λ d. absurd (false≢true (sym (once-stopped warm sweeps (n - 1) 1 q d) ∙ e)))
 
   -- a granted frame's answer is its last sweep's counts, and its write-back is granted
   module _ (n : ℕ) (m : Model) (rows : List Float) (f : Fine (moment (withDt m (substepOf (m .params .dt) n)) rows)) (e : allSubsteps warm sweeps n m rows .finite ≡ true) where

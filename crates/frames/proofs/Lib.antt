@@ -1,6 +1,9 @@
 pub mod MoveLaws
 pub mod FrameLaws
-pub mod BackLaws
 pub mod MovedLaws
+pub mod BackLaws
 pub mod InnerLaws
 pub mod StepLaws
+pub mod FrameRefused
+pub mod FrameStudies
+pub mod MovingStudies
