@@ -32,15 +32,19 @@ use Rattle.model.proofs.PlanarLaws.{planar-laws}
 use Rattle.model.specs.declared.header.Header.{Header}
 use Rattle.frames.specs.declared.frame.FrameAnswer.{FrameAnswer}
 use Rattle.frames.specs.Moving.{moved, moveFrom}
-use Rattle.frames.specs.Frames.{mostSubsteps, withDt, substepOf, Moment, moment, Progress, progress, beforeMove, moveOf, afterMove, substep, substeps, stepsOf, allSubsteps, substepsRule, ownRules, finiteFrame, frameRules, grantedFrame, runFrame, Filled, headerWithDt, refusedFrame, frameAnswer, frameCounts, isStep}
+use Rattle.frames.specs.Frames.{mostSubsteps, withDt, substepOf, Moment, moment, leaves, Progress, progress, beforeMove, moveOf, afterMove, substep, substeps, stepsOf, allSubsteps, substepsRule, ownRules, finiteFrame, frameRules, grantedFrame, runFrame, Filled, headerWithDt, refusedFrame, frameAnswer, frameCounts, isStep}
 
 -- ---- one substep
+
+-- what an outcome leaves
+abbrev leftBy : Outcome plane → Moment
+leftBy o = moment (o .after) (o .rows)
 
 module _ (warm : Warmstart) (sweeps i : ℕ) (s : Moment) where
   pub before-move : {m1 m2 m3 : Model} {r1 r2 r3 : List Float} {a1 a2 a3 : Answer plane} → outcome a1 m1 r1 ≡ run planar (build warm i) (s .model) (s .rows)
       → outcome a2 m2 r2 ≡ run planar warmStart m1 r1 → outcome a3 m3 r3 ≡ run planar (sweep sweeps) m2 r2 → moment m3 r3 ≡ beforeMove warm sweeps i s
   unfolding beforeMove
-  before-move e1 e2 e3 = rw (← e1, ← e2, ← e3)
+  before-move e1 e2 e3 = ap leftBy e3 ∙ ap (leaves (sweep sweeps)) (ap leftBy e2 ∙ ap (leaves warmStart) (ap leftBy e1))
 
   module _ {t : Moment} (e : t ≡ beforeMove warm sweeps i s) {b : List Float} where
     pub substep-stops : moved b false ≡ moveFrom (t .model .params .dt) 0 (bodyCount plane (t .model .bodies)) (t .model .bodies)
@@ -56,7 +60,8 @@ module _ (warm : Warmstart) (sweeps i : ℕ) (s : Moment) where
 pub after-move : (sweeps : ℕ) {m m2 : Model} (rows : List Float) {r1 r2 : List Float} {a1 a2 : Answer plane} → outcome a1 m r1 ≡ run planar removeBias m rows → outcome a2 m2 r2 ≡ run planar (sweep sweeps) m r1
     → progress true (moment m2 r2) a2 ≡ afterMove sweeps (moment m rows)
 unfolding afterMove
-after-move sweeps rows e1 e2 = rw (← e1, ← e2)
+after-move sweeps rows e1 e2 =
+    ap (λ (o : Outcome plane). progress true (leftBy o) (o .answer)) (e2 ∙ ap (λ (t : Moment). run planar (sweep sweeps) (t .model) (t .rows)) (ap leftBy e1))
 
 -- what a sweep answers is filled up, by both its promises
 pub last-filled : (joints : ℕ) {r : SweepAnswer} {m : Model} {rows : List Float} {o : Outcome plane} → outcome (sweepAnswer joints r) m rows ≡ o → r ≡ sweepAnswerOf (o .answer) → Filled joints r
@@ -183,12 +188,15 @@ module _ (warm : Warmstart) (sweeps n : ℕ) (header : Header) (bodies : List Fl
   pub start-steps : {h : Header} {q : Float} → h ≡ headerWithDt header (header .params .dt ⊘ q) → q ≡ ofInt binary32 (pos n)
       → stepsOf warm sweeps n (moment (modelOf h bodies words numbers) rows) ≡ allSubsteps warm sweeps n (modelOf header bodies words numbers) rows
   unfolding allSubsteps
-  start-steps e d = rw (e, d)
+  start-steps e d =
+      ap (λ (h : Header). stepsOf warm sweeps n (moment (modelOf h bodies words numbers) rows)) (e ∙ ap (λ (q : Float). headerWithDt header (header .params .dt ⊘ q)) d)
 
 pub granted-frame : (warm : Warmstart) (sweeps n : ℕ) (m : Model) (rows : List Float) {p : Progress} {a : Answer plane} {m2 : Model} {r2 : List Float} → p ≡ allSubsteps warm sweeps n m rows
     → outcome a m2 r2 ≡ run planar writeBack (p .left .model) (p .left .rows) → outcome (p .answer) (withDt m2 (m .params .dt)) r2 ≡ grantedFrame warm sweeps n m rows
 unfolding grantedFrame
-granted-frame warm sweeps n m rows e d = rw (← e, ← d)
+granted-frame warm sweeps n m rows {p} e d =
+    ap (λ (o : Outcome plane). outcome (p .answer) (withDt (o .after) (m .params .dt)) (o .rows)) d
+    ∙ ap (λ (p : Progress). let t = leaves writeBack (p .left) in outcome (p .answer) (withDt (t .model) (m .params .dt)) (t .rows)) e
 
 -- ---- both promises of a frame
 

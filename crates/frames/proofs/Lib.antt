@@ -7,3 +7,4 @@ pub mod StepLaws
 pub mod FrameRefused
 pub mod FrameStudies
 pub mod MovingStudies
+pub mod MovingPair
