@@ -26,6 +26,7 @@ extern "C" {
 #define KATYDIDZINC_MOST_BODIES 128
 #define KATYDIDZINC_MOST_JOINTS 128
 #define KATYDIDZINC_MOST_ROUNDS 64
+#define KATYDIDZINC_MOST_SUBSTEPS 16
 /* A joint has at most so many rows: row storage of 6 rows a joint is always enough. */
 #define KATYDIDZINC_MOST_ROWS 6
 
@@ -155,7 +156,7 @@ extern "C" {
 #define KATYDIDZINC_ROWS_GRANTED UINT64_C(4294967296)
 
 enum katydidzinc_refusal {
-    /* The model's rules: a call is refused with the number of the first that fails, in the order 1 to 6, 12, 7 to 11, 13 to 15. Each of 1 to 12 is tried
+    /* The model's rules: a call is refused with the number of the first that fails, in the order 1 to 6, 12, 7 to 11, 13 to 15, and of a frame 16 after 9 and its moves' 6 last. Each of 1 to 12 is tried
      * on the whole model before the next; 13 to 15, in this order, on one record of the motor table before the next record. A call that is handed no row
      * storage passes over 8. */
     KATYDIDZINC_TOO_MANY_BODIES = 1,   /* More than 128 bodies are given. */
@@ -165,7 +166,7 @@ enum katydidzinc_refusal {
     KATYDIDZINC_SAME_BODY = 5,         /* A joint names one body twice, the world included. */
     KATYDIDZINC_NOT_FINITE = 6,        /* A pose, mass, inertia, setting, centre, joint frame, softness or motor number, limit end or warm
                                         * coefficient is NaN or infinite; only limit ends and maximum forces may be infinite. Velocities
-                                        * and stored impulses are not looked at. */
+                                        * and stored impulses are not looked at. Or a frame would give a body a pose that is NaN or infinite. */
     KATYDIDZINC_NEGATIVE_DT = 7,       /* dt is below zero. */
     KATYDIDZINC_SMALL_STORAGE = 8,     /* Row storage holds fewer rows than the joints make, with the new masks where a call brings such. */
     KATYDIDZINC_TOO_MANY_ROUNDS = 9,   /* A sweep of more than 64 rounds is wanted. */
@@ -176,10 +177,10 @@ enum katydidzinc_refusal {
     KATYDIDZINC_BROKEN_TABLE = 13,     /* A motor table's bytes break RFC 4180's grammar, or hold more than 4096 records. */
     KATYDIDZINC_NOT_THREE_NUMBERS = 14, /* A record of the table is not exactly three whole numbers, each at most 8000000 in size. */
     KATYDIDZINC_ABSENT_AXIS = 15,      /* A record's joint or axis is absent. */
+    KATYDIDZINC_SUBSTEPS = 16,         /* A frame of no substep or of more than 16 is wanted. */
 
-    /* Tried after all of these by a read, and before all of these by a sweep. */
+    /* Tried after all of these by a read, and before all of these by a sweep and by a frame. */
     KATYDIDZINC_SHORT_SLICE = 1000,    /* The model grants the read, and a slice that the read is to write is too short for it; or the slice for a
-                                        * sweep's counts is. */
                                         * sweep's or a frame's counts is, or one that a model is drawn into. */
 
     /* Tried before all of these, by the checked calls alone. */
@@ -196,7 +197,7 @@ enum katydidzinc_refusal {
  * of their own. A slice that is not const may be written; where the call is refused it is not.
  *
  * The mark `built` says that the rows are those of a build: 0 no, any other number yes. The caller keeps it: a granted load or mask change clears it, a
- * granted build sets it, nothing else changes it. Place and every other change of the model leave the mark as it is.
+ * granted build or frame sets it, nothing else changes it. Place and every other change of the model leave the mark as it is.
  *
  * What a caller has to keep:
  * - A pointer is aligned and points to as many numbers as its length says. No pointer is NULL, of a slice of length 0 neither.
@@ -276,6 +277,15 @@ uint64_t katydidzinc_read_velocity(float dt, float length_unit, float normalized
 uint64_t katydidzinc_set_targets(float dt, float length_unit, float normalized_max_corrective_velocity, uint32_t built,
                                  const float *bodies, size_t bodies_len, const uint32_t *words, size_t words_len,
                                  float *numbers, size_t numbers_len, const uint8_t *table, size_t table_len);
+
+/* Runs a frame, in which the bodies move: n substeps of dt/n, n from 1 to KATYDIDZINC_MOST_SUBSTEPS. A substep is a build with dt/n for dt and the substep's number from 0, a warm start, a sweep of so many rounds, a
+ * move of every body by its velocity, bias removal, and a second sweep of as many rounds; after the last substep comes a write-back. `warm` and `coefficient` are those of the builds. Writes poses and velocities in `bodies`, `rows`, the stored impulses in
+ * `numbers`, and to `counts` what the last substep's second sweep counts, as katydidzinc_sweep does; `counts` is asked for and answered likewise. The mark is to be 1; the model keeps its dt. The mark before may be any. A frame in which a new
+ * pose is NaN or infinite is refused with KATYDIDZINC_NOT_FINITE: bodies and rows are put back, so that nothing is changed. For that a frame keeps copies of 60 KB on the stack; give a thread that runs one at least 128 KB. */
+uint64_t katydidzinc_frame(float dt, float length_unit, float normalized_max_corrective_velocity, uint32_t built,
+                           float *bodies, size_t bodies_len, const uint32_t *words, size_t words_len,
+                           float *numbers, size_t numbers_len, float *rows, size_t rows_len,
+                           uint32_t warm, float coefficient, uint32_t sweeps, uint32_t n, uint8_t *counts, size_t counts_len);
 
 /* ---- Reactions and residuals: functions of the rows that a row read wrote, no calls on a model. They refuse nothing: a joint that is not there counts as one of zeros between the world and the
  * world, a body as the world, a row as a row of zeros. */
@@ -386,6 +396,7 @@ static inline const char *katydidzinc_rule(uint64_t answer)
     case KATYDIDZINC_BROKEN_TABLE: return "a motor table breaks RFC 4180's grammar or holds more than 4096 records";
     case KATYDIDZINC_NOT_THREE_NUMBERS: return "a record is not exactly three whole numbers, each at most 8000000 in size";
     case KATYDIDZINC_ABSENT_AXIS: return "a record's joint or axis is absent";
+    case KATYDIDZINC_SUBSTEPS: return "a frame of no substep or of more than 16 is wanted";
     case KATYDIDZINC_SHORT_SLICE: return "a slice is too short for what is read, counted or drawn";
     case KATYDIDZINC_BAD_SLICE: return "a slice is NULL, not aligned or longer than memory";
     case KATYDIDZINC_OVERLAP: return "two slices overlap";
@@ -410,7 +421,7 @@ typedef struct katydidzinc_study {
     size_t numbers_len;
     float *rows;
     size_t rows_len;
-    uint8_t counts[KATYDIDZINC_MOST_JOINTS]; /* of the last granted sweep */
+    uint8_t counts[KATYDIDZINC_MOST_JOINTS]; /* of the last granted sweep or frame */
 } katydidzinc_study;
 
 /* Whether sums and quotients of the calling thread are those of IEEE 754, to nearest, with subnormal numbers. */
@@ -638,6 +649,19 @@ static inline uint64_t katydidzinc_study_seeded(katydidzinc_study *s, uint32_t s
         s->bodies_len = (size_t)katydidzinc_seeded_bodies(answer) * KATYDIDZINC_BODY_WIDTH;
         s->words_len = (size_t)katydidzinc_seeded_joints(answer) * KATYDIDZINC_WORDS_WIDTH;
         s->numbers_len = (size_t)katydidzinc_seeded_joints(answer) * KATYDIDZINC_NUMBERS_WIDTH;
+    }
+    return answer;
+}
+
+/* The counts go to the struct. */
+static inline uint64_t katydidzinc_study_frame(katydidzinc_study *s, uint32_t warm, float coefficient, uint32_t sweeps, uint32_t n)
+{
+    uint64_t answer = katydidzinc_study_check(s, NULL, 0, NULL, 0, NULL, 0);
+    if (answer == KATYDIDZINC_GRANTED) {
+        answer = katydidzinc_frame(KATYDIDZINC_MODEL_OF(s), KATYDIDZINC_ROWS_OF(s), warm, coefficient, sweeps, n, s->counts, KATYDIDZINC_MOST_JOINTS);
+        if (katydidzinc_granted(answer)) {
+            s->built = 1;
+        }
     }
     return answer;
 }

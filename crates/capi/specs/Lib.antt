@@ -1,4 +1,5 @@
 pub mod CallExports
+pub mod FrameExports
 pub mod MicroNumber
 pub mod ReactionExports
 pub mod SeedExports

@@ -63,7 +63,7 @@ fn flag_of(word: u32) -> bool
     word != 0
 }
 
-fn header(dt: f32, length_unit: f32, normalized: f32, built: u32) -> Header
+pub fn header(dt: f32, length_unit: f32, normalized: f32, built: u32) -> Header
     ensures { λ r. ⌜ r ≡ headerOf dt «length_unit» normalized built ⌝ }
 {
     Header {
@@ -130,7 +130,7 @@ fn rows_number(answer: Plain, n: usize, stored: bool) -> u64
     }
 }
 
-fn warm_of(warm: u32, coefficient: f32) -> Warmstart
+pub fn warm_of(warm: u32, coefficient: f32) -> Warmstart
     ensures { λ r. ⌜ r ≡ warmOf warm coefficient ⌝ }
 {
     if flag_of(warm) {
@@ -253,7 +253,7 @@ pub extern "C" fn katydidzinc_warm_start(
 }
 
 // The counts, stored.
-fn put_counts(out: &mut [u8], counts: [u8; 128])
+pub fn put_counts(out: &mut [u8], counts: [u8; 128])
     requires { ⌜ 128 ≤ length (now out) ⌝ }
     ensures { λ _. ⌜ now (out .exit) ≡ counts ++ drop 128 (now (out .entry)) ⌝ }
 {

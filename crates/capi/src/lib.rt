@@ -6,6 +6,7 @@ use floats::micro_report::MicroReport;
 use floats::micro_report::micro_report;
 
 pub mod calls;
+pub mod frame;
 pub mod reactions;
 pub mod seeds;
 pub mod stored;
