@@ -21,6 +21,8 @@ pub const WORLD: u32 = u32::MAX;
 pub const MOST_JOINTS: usize = 128;
 /// A sweep has at most so many rounds.
 pub const MOST_ROUNDS: u32 = 64;
+/// A frame has 1 to so many substeps.
+pub const MOST_SUBSTEPS: u32 = 16;
 
 /// Places in a joint's numbers that rule 6 looks at: frames, softness, centre and the motors'
 /// first four must be finite; limit ends and maximum forces may be infinite. The other nine are
@@ -79,9 +81,16 @@ pub enum Call {
         joint: u32,
         masks: [u32; 4],
     },
+    /// The coefficient counts if `warm`; both sweeps of a substep have `sweeps` rounds.
+    Frame {
+        warm: bool,
+        coefficient: f32,
+        sweeps: u32,
+        substeps: u32,
+    },
 }
 
-pub const KINDS: [&str; 11] = [
+pub const KINDS: [&str; 12] = [
     "load",
     "place",
     "build",
@@ -93,10 +102,11 @@ pub const KINDS: [&str; 11] = [
     "velocity read",
     "motor table",
     "mask change",
+    "frame",
 ];
 
-/// The refusals that a tally has columns for: none, then 1 to 15.
-pub const COLUMNS: usize = 16;
+/// The refusals that a tally has columns for: none, then 1 to 16.
+pub const COLUMNS: usize = 17;
 
 impl Call {
     /// Its place in `KINDS`.
@@ -113,6 +123,7 @@ impl Call {
             Call::ReadVelocity(_) => 8,
             Call::SetTargets(_) => 9,
             Call::SetMasks { .. } => 10,
+            Call::Frame { .. } => 11,
         }
     }
 
@@ -131,7 +142,7 @@ pub struct Answer {
     /// The refusal's number; where it is granted, 0, or `GRANTED` plus the number of rows.
     pub code: u64,
     pub out: Vec<f32>,
-    /// A row read's ids; a sweep's counts, zeros past the joints.
+    /// A row read's ids; a sweep's or a frame's counts, zeros past the joints.
     pub ids: Vec<u32>,
     /// Whether something was written outside the lent storage.
     pub outside: bool,
@@ -143,7 +154,7 @@ impl Answer {
         let (out, ids) = match call {
             Call::ReadRows(_) => (6 * ROW, 6),
             Call::ReadVelocity(_) => (3, 0),
-            Call::Sweep(_) => (0, MOST_JOINTS),
+            Call::Sweep(_) | Call::Frame { .. } => (0, MOST_JOINTS),
             _ => (0, 0),
         };
         Answer {
@@ -276,6 +287,11 @@ fn model_refusal(s: &Study, call: &Call) -> u64 {
             warm: true,
             coefficient,
             ..
+        }
+        | Call::Frame {
+            warm: true,
+            coefficient,
+            ..
         } => coefficient.is_finite(),
         _ => true,
     };
@@ -300,14 +316,22 @@ fn model_refusal(s: &Study, call: &Call) -> u64 {
     0
 }
 
-/// The first rule that refuses the call; 0 if none does.
+/// The first rule that refuses the call; 0 if none does. A frame may still meet a pose that is not finite.
 pub fn refusal(s: &Study, call: &Call) -> u64 {
     let by_model = model_refusal(s, call);
     if by_model != 0 {
         return by_model;
     }
-    if matches!(call, Call::Sweep(n) if *n > MOST_ROUNDS) {
+    let rounds = match call {
+        Call::Sweep(n) => *n,
+        Call::Frame { sweeps, .. } => *sweeps,
+        _ => 0,
+    };
+    if rounds > MOST_ROUNDS {
         return 9;
+    }
+    if matches!(call, Call::Frame { substeps, .. } if !(1..=MOST_SUBSTEPS).contains(substeps)) {
+        return 16;
     }
     let needs_built = match call {
         Call::Build { warm, substep, .. } => *warm && *substep > 0,
@@ -320,7 +344,8 @@ pub fn refusal(s: &Study, call: &Call) -> u64 {
         | Call::Place { .. }
         | Call::ReadVelocity(_)
         | Call::SetTargets(_)
-        | Call::SetMasks { .. } => false,
+        | Call::SetMasks { .. }
+        | Call::Frame { .. } => false,
     };
     if needs_built && !s.built {
         return 10;
@@ -344,6 +369,48 @@ pub fn refusal(s: &Study, call: &Call) -> u64 {
 /// With which number a model of so many joints refuses a table; 0 if it does not.
 pub fn table_refusal(table: &[u8], joints: usize) -> u64 {
     tables::read(table, joints as u32).map_or_else(u64::from, |_| 0)
+}
+
+/// The substeps of a frame that no rule refuses, and its write-back; the last sweep's counts. In which substep it meets a pose
+/// that is not finite, where it does: all is then to be put back.
+fn frame(s: &mut Study, warm: Option<f32>, sweeps: u32, substeps: u32) -> Result<Vec<u32>, u32> {
+    let (words, numbers) = (s.joint_count() * WORDS, s.joint_count() * JOINT);
+    let bodies = s.body_count() * BODY;
+    let (bodies, words) = (&mut s.bodies[..bodies], &s.words[..words]);
+    let numbers = &mut s.numbers[..numbers];
+    let seeds = paired(words, numbers);
+    let [dt, length_unit, normalized] = s.settings;
+    let h = dt / substeps as f32;
+    let settings = [h, length_unit, normalized];
+    let mut counts = Vec::new();
+    for substep in 0..substeps {
+        rust::build(&settings, bodies, words, &seeds, &mut s.rows, warm, substep);
+        rust::warmstart(bodies, words, &s.rows);
+        rust::solve(bodies, words, &mut s.rows, sweeps);
+        if !rust::advance(bodies, h) {
+            return Err(substep);
+        }
+        rust::remove_bias(words, &mut s.rows);
+        counts = rust::solve(bodies, words, &mut s.rows, sweeps);
+    }
+    rust::writeback(words, numbers, &s.rows);
+    s.built = true;
+    Ok(counts)
+}
+
+/// In which substep the frame meets a pose that is not finite; none where a rule before refuses it, or nothing.
+pub fn stopped_in(s: &Study, call: &Call) -> Option<u32> {
+    match *call {
+        Call::Frame {
+            warm,
+            coefficient,
+            sweeps,
+            substeps,
+        } if refusal(s, call) == 0 => {
+            frame(&mut s.clone(), warm.then_some(coefficient), sweeps, substeps).err()
+        }
+        _ => None,
+    }
 }
 
 /// Makes the call; a refused one changes nothing.
@@ -415,6 +482,22 @@ pub fn call(s: &mut Study, call: &Call) -> Answer {
             s.put_masks(joint, &masks);
             s.store_first_rows();
             s.built = false;
+        }
+        Call::Frame {
+            warm,
+            coefficient,
+            sweeps,
+            substeps,
+        } => {
+            let mut after = s.clone();
+            match frame(&mut after, warm.then_some(coefficient), sweeps, substeps) {
+                Ok(counts) => {
+                    *s = after;
+                    answer.ids.fill(0);
+                    answer.ids[..counts.len()].copy_from_slice(&counts);
+                }
+                Err(_) => answer.code = 6,
+            }
         }
     }
     answer

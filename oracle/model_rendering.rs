@@ -14,7 +14,7 @@ pub fn carry(number: u32) {
 }
 
 /// Fault k is entry k − 1.
-pub const FAULTS: [&str; 154] = [
+pub const FAULTS: [&str; 222] = [
     // The order of the rules.
     "rules 1 and 2 exchanged",
     "rules 2 and 3 exchanged",
@@ -182,6 +182,75 @@ pub const FAULTS: [&str; 154] = [
     "a build stores first rows",
     "a row read trusts the stored first row",
     "a build trusts the stored first rows",
+    // Frames.
+    "a frame: 16 is tried before 9",
+    "a frame: 16 is tried before 8",
+    "a frame of no substeps is not refused",
+    "a frame of 16 substeps is refused",
+    "a frame of 17 substeps is not refused",
+    "a frame of 64 rounds is refused",
+    "a frame of 65 rounds is not refused",
+    "a frame passes over 8",
+    "a frame with a coefficient needs a build",
+    "a frame: the coefficient is not looked at",
+    "a frame: the coefficient is looked at where none is given",
+    "a frame: 7 looks at dt/n",
+    "a frame: builds and moves by dt",
+    "a frame: builds by dt",
+    "a frame: moves by dt",
+    "a frame: dt times 1/n for dt/n",
+    "a frame: a velocity times dt, over n",
+    "a frame: substeps are numbered from 1",
+    "a frame: every substep is number 0",
+    "a frame: no warm start",
+    "a frame: no warm start without a coefficient",
+    "a frame: moves before the first sweep",
+    "a frame: moves before the warm start",
+    "a frame: moves after the second sweep",
+    "a frame: the second move is by the velocities of the first",
+    "a frame: no bias removal",
+    "a frame: bias is removed before the first sweep",
+    "a frame: the second sweep has one round",
+    "a frame: no first sweep",
+    "a frame: write-back in each substep",
+    "a frame: write-back before the last sweep",
+    "a frame: no write-back",
+    "a frame: the first sweep's counts are returned",
+    "a frame: the counts of all sweeps are added up",
+    "a frame: the counts of the first substep are returned",
+    "a move: the rotation is not divided",
+    "a move: the rotation is multiplied by 1/length",
+    "a move: the rotation is divided by its length's square",
+    "a move: the rotation turns the other way",
+    "a move: the new re counts for im",
+    "a move: a zero length is divided by",
+    "a move: the old rotation stays only if the new one is zero",
+    "a move: the old rotation stays if the length is not finite",
+    "a move: a length that is not finite is not finite as a pose",
+    "a move: the position is not moved",
+    "a move: the position is moved after the new rotation",
+    "a move: fused products",
+    "a move: a body of no inverse mass stays",
+    "a move: a body that no joint names stays",
+    "a move: only the first body moves",
+    "a move: the last body is not moved",
+    "a move: only positions are looked at",
+    "a move: only rotations are looked at",
+    "a frame that leaves a velocity which is not finite is refused",
+    "a move: a pose of the last substep is not looked at",
+    "a move: a pose of the first substep is not looked at",
+    "a move: 11 refuses a pose that is not finite",
+    "a refused frame: rows are not put back",
+    "a refused frame: bodies are not put back",
+    "a refused frame: velocities are not put back",
+    "a refused frame: bodies and rows are those of the last substep's start",
+    "a refused frame leaves the model built",
+    "a refused frame clears the mark",
+    "a refused frame: the new dt is kept",
+    "a refused frame: the counts are zeros",
+    "a granted frame: the new dt is kept",
+    "a granted frame leaves the mark as it was",
+    "a granted frame clears the mark",
 ];
 
 fn fault(number: u32) -> bool {
@@ -488,13 +557,26 @@ fn rules(s: &Study, call: &Call) -> Vec<(u64, bool)> {
             coefficient,
             substep,
         } => (*warm || fault(42)) && !coefficient.is_finite() && !(fault(43) && *substep == 0),
+        Call::Frame {
+            warm, coefficient, ..
+        } => (*warm || fault(165)) && !coefficient.is_finite() && !fault(164),
         _ => false,
     };
     let any_wild = wild(&s.settings[..or!(40, 3, 2)])
         || looked.iter().any(|n| body_wild(n))
         || all.iter().filter(looked_at).any(joint_wild)
         || asked;
-    let dt = s.settings[0];
+    // A frame's rounds and substeps.
+    let framed = match call {
+        Call::Frame {
+            sweeps, substeps, ..
+        } => Some((*sweeps, *substeps)),
+        _ => None,
+    };
+    let dt = match framed {
+        Some((_, n)) if fault(166) => s.settings[0] / n as f32,
+        _ => s.settings[0],
+    };
     let backwards =
         dt < 0.0 || fault(45) && dt.to_bits() == 0x8000_0000 || fault(46) && dt.to_bits() == 0;
 
@@ -521,12 +603,21 @@ fn rules(s: &Study, call: &Call) -> Vec<(u64, bool)> {
         Call::SetTargets(_) => fault(119),
         Call::Load => !fault(50),
         Call::SetMasks { .. } => !fault(138),
+        Call::Frame { .. } => !fault(162),
         _ => true,
     };
     let short = lent && (room < needed || fault(47) && room == needed);
 
     let most = or!(54, or!(53, 64, 63), 65);
-    let too_long = matches!(call, Call::Sweep(n) if *n > most);
+    let longest = or!(161, or!(160, 64, 63), 65);
+    let too_long = match (call, framed) {
+        (Call::Sweep(n), _) => *n > most,
+        (_, Some((rounds, _))) => rounds > longest,
+        _ => false,
+    };
+    let substeps_bad = framed.is_some_and(|(_, n)| {
+        n == 0 && !fault(157) || n > or!(159, or!(158, 16, 15), 17)
+    });
     let first_needed = match call {
         Call::Load | Call::ReadVelocity(_) => false,
         Call::Place { .. } => fault(57),
@@ -541,6 +632,7 @@ fn rules(s: &Study, call: &Call) -> Vec<(u64, bool)> {
         },
         Call::ReadRows(_) => !fault(55),
         Call::WriteBack => !fault(56),
+        Call::Frame { warm, .. } => *warm && fault(163),
         _ => true,
     };
     let unbuilt = first_needed && !s.built;
@@ -602,6 +694,7 @@ fn rules(s: &Study, call: &Call) -> Vec<(u64, bool)> {
         (13, faulty == 13),
         (14, faulty == 14),
         (15, faulty == 15),
+        (16, substeps_bad),
     ]);
     let mut exchange = |one: u64, two: u64| {
         let [one, two] = [one, two].map(|k| order.iter().position(|rule| rule.0 == k).unwrap());
@@ -620,6 +713,12 @@ fn rules(s: &Study, call: &Call) -> Vec<(u64, bool)> {
     }
     if fault(131) && brought.is_some() {
         exchange(8, 11);
+    }
+    if fault(155) {
+        exchange(9, 16);
+    }
+    if fault(156) {
+        exchange(8, 16);
     }
     order
 }
@@ -779,6 +878,167 @@ fn write_back(s: &mut Study, all: &[Joint]) {
     }
 }
 
+/// A body's numbers as they are after a time h of its own velocity.
+fn moved(n: &[f32], velocity: &[f32], h: f32, over: f32) -> [f32; 4] {
+    let turn = or!(193, 1.0, -1.0) * (velocity[2] * h / over);
+    let (c, s) = (n[0], n[1]);
+    let mut new = [c + -(turn * s), turn * c + s];
+    if fault(194) {
+        new[1] = s + turn * new[0];
+    }
+    if fault(201) {
+        new = [(-s).mul_add(turn, c), c.mul_add(turn, s)];
+    }
+    let square = new[0] * new[0] + new[1] * new[1];
+    let long = or!(192, square.sqrt(), square);
+    let kept = or!(196, long == 0.0, new == [0.0; 2])
+        || fault(197) && !long.is_finite();
+    let rotation = if kept && !fault(195) {
+        [c, s]
+    } else if fault(190) {
+        new
+    } else if fault(191) {
+        new.map(|x| x * (1.0 / long))
+    } else if fault(198) && !long.is_finite() {
+        [f32::NAN; 2]
+    } else {
+        new.map(|x| x / long)
+    };
+    let mut by = [velocity[0] * h / over, velocity[1] * h / over];
+    if fault(200) {
+        let [x, y] = by;
+        by = [rotation[0] * x - rotation[1] * y, rotation[1] * x + rotation[0] * y];
+    }
+    let mut place = [n[2] + by[0], n[3] + by[1]];
+    if fault(201) {
+        place = [velocity[0].mul_add(h, n[2]), velocity[1].mul_add(h, n[3])];
+    }
+    if fault(199) {
+        place = [n[2], n[3]];
+    }
+    [rotation[0], rotation[1], place[0], place[1]]
+}
+
+/// Moves every body; whether all new poses are finite.
+fn move_bodies(s: &mut Study, all: &[Joint], velocities: &[f32], h: f32, over: f32) -> bool {
+    let count = s.bodies.len() / 10;
+    let mut finite = true;
+    for (i, n) in s.bodies.chunks_exact_mut(10).enumerate() {
+        let massless = n[5] == 0.0 && n[6] == 0.0;
+        let named = all.iter().any(|j| j.words[..2].contains(&(i as u32)));
+        let stays = fault(202) && massless
+            || fault(203) && !named
+            || fault(204) && i > 0
+            || fault(205) && i + 1 == count;
+        if stays {
+            continue;
+        }
+        let new = moved(n, &velocities[10 * i + 7..][..3], h, over);
+        finite &= !(wild(&new[..2]) && !fault(206)
+            || wild(&new[2..]) && !fault(207));
+        n[..4].copy_from_slice(&new);
+    }
+    finite
+}
+
+/// The counts of a frame that every rule before the moves grants, or the number that refuses it.
+fn frame(s: &mut Study, all: &[Joint], warm: Option<f32>, rounds: u32, n: u32) -> Result<Vec<u32>, u64> {
+    let start = s.clone();
+    let dt = s.settings[0];
+    let part = or!(170, dt / n as f32, dt * (1.0 / n as f32));
+    let part = or!(167, part, dt);
+    let moves_by = or!(169, part, dt);
+    let (moves_by, over) = or!(171, (moves_by, 1.0), (dt, n as f32));
+    let mut counts = vec![0; all.len()];
+    let mut velocities = s.bodies.clone();
+    for i in 0..n {
+        let entered = s.clone();
+        s.settings[0] = or!(168, part, dt);
+        let number = or!(173, or!(172, i, i + 1), 0);
+        build(s, all, warm, number);
+        s.built = true;
+        let mut finite = true;
+        if fault(177) {
+            velocities.clone_from(&s.bodies);
+            finite = move_bodies(s, all, &velocities, moves_by, over);
+        }
+        let started = or!(175, true, warm.is_some());
+        for joint in all.iter().filter(|_| started && !fault(174)) {
+            pass(s, joint, rendering::warmstart);
+        }
+        if fault(176) {
+            velocities.clone_from(&s.bodies);
+            finite = move_bodies(s, all, &velocities, moves_by, over);
+        }
+        let removed = |s: &mut Study| {
+            for row in s.rows.chunks_exact_mut(18).take(count_of(all)) {
+                rendering::remove_bias(row);
+            }
+        };
+        if fault(181) {
+            removed(s);
+        }
+        let first = sweep(s, all, or!(183, rounds, 0));
+        if !fault(176) && !fault(177) && !fault(178) {
+            if i == 0 || !fault(179) {
+                velocities.clone_from(&s.bodies);
+            }
+            finite = move_bodies(s, all, &velocities, moves_by, over);
+        }
+        let unseen = fault(209) && i + 1 == n
+            || fault(210) && i == 0;
+        if !finite && !unseen {
+            let reached = s.clone();
+            s.bodies = or!(215, start.bodies, entered.bodies);
+            s.rows = or!(215, start.rows, entered.rows);
+            s.settings[0] = or!(218, dt, part);
+            s.built = or!(216, start.built, true) && !fault(217);
+            if fault(212) {
+                s.rows = reached.rows;
+            }
+            for (to, from) in s.bodies.chunks_exact_mut(10).zip(reached.bodies.chunks_exact(10)) {
+                let kept = or!(214, or!(213, 10, 0), 7);
+                to[kept..].copy_from_slice(&from[kept..]);
+            }
+            return Err(or!(211, 6, 11));
+        }
+        if i + 1 == n && fault(185) {
+            write_back(s, all);
+        }
+        if !fault(180) {
+            removed(s);
+        }
+        let last = sweep(s, all, or!(182, rounds, rounds.min(1)));
+        if fault(178) {
+            velocities.clone_from(&s.bodies);
+            if !move_bodies(s, all, &velocities, moves_by, over) {
+                *s = start;
+                return Err(6);
+            }
+        }
+        for (j, count) in counts.iter_mut().enumerate() {
+            if fault(188) {
+                *count += first[j] + last[j];
+            } else if i == 0 || !fault(189) {
+                *count = or!(187, last[j], first[j]);
+            }
+        }
+        if fault(184) {
+            write_back(s, all);
+        }
+    }
+    if fault(208) && s.bodies.chunks_exact(10).any(|n| wild(&n[7..])) {
+        *s = start;
+        return Err(6);
+    }
+    if !fault(185) && !fault(186) {
+        write_back(s, all);
+    }
+    s.settings[0] = or!(220, dt, part);
+    s.built = or!(221, true, start.built) && !fault(222);
+    Ok(counts)
+}
+
 pub fn call(s: &mut Study, call: &Call) -> Answer {
     let mut answer = Answer::none(call);
     if let Some((rule, _)) = rules(s, call).into_iter().find(|(_, refuses)| *refuses) {
@@ -877,6 +1137,25 @@ pub fn call(s: &mut Study, call: &Call) -> Answer {
             store_first_rows(s, or!(146, usize::MAX, j + 1));
             s.built = s.built && (fault(142) || fault(143) && same);
         }
+        Call::Frame {
+            warm,
+            coefficient,
+            sweeps,
+            substeps,
+        } => match frame(s, &all, warm.then_some(coefficient), sweeps, substeps) {
+            Ok(counts) => {
+                answer.ids.fill(0);
+                for (to, count) in answer.ids.iter_mut().zip(counts) {
+                    *to = count;
+                }
+            }
+            Err(rule) => {
+                answer.code = rule;
+                if fault(219) {
+                    answer.ids.fill(0);
+                }
+            }
+        },
     }
     s.rows.truncate(length);
     answer

@@ -5,6 +5,7 @@
 //!   model compare SEED CALLS        against the Rattle library (built with RATTLE_LIB)
 //!   model pairs SEED COUNT          two studies side by side, by the Rattle library or, without
 //!                                   it, by the oracle
+//!   model frames SEED COUNT         frames against the lists of calls that they are, by the same side
 //!   model reactions SEED COUNT      how far bodies' momenta are from their joints' reactions
 //!   model seeded SEED COUNT         models drawn from seeds, by the library and by a second rendering, and a step on each
 //!   model answers                   a fixed list of calls with the oracle's answers
@@ -28,6 +29,8 @@ mod bits;
 mod cases;
 mod draw;
 mod fenced;
+#[path = "model/frames.rs"]
+mod frames;
 #[path = "model/generator.rs"]
 mod generator;
 #[path = "model/leg.rs"]
@@ -74,6 +77,10 @@ fn main() {
         }),
     };
     let calls = 100_000;
+    let (side, by) = match library::RATTLE {
+        Some(rattle) => (rattle, "the Rattle library"),
+        None => (library::ORACLE, "the oracle"),
+    };
     match arguments.first().map(String::as_str) {
         Some("cases") => cases::cases(),
         Some("compare") => match library::RATTLE {
@@ -83,13 +90,8 @@ fn main() {
                 exit(2)
             }
         },
-        Some("pairs") => {
-            let (side, by) = match library::RATTLE {
-                Some(rattle) => (rattle, "the Rattle library"),
-                None => (library::ORACLE, "the oracle"),
-            };
-            pairs::pairs(side, by, number(1, 1), number(2, 10_000))
-        }
+        Some("pairs") => pairs::pairs(side, by, number(1, 1), number(2, 10_000)),
+        Some("frames") => frames::by_hands(side, by, number(1, 1), number(2, 10_000)),
         Some("reactions") => reactions::measure(number(1, 1), number(2, calls)),
         #[cfg(rattle)]
         Some("seeded") => seeded::compare(number(1, 1), number(2, calls)),
@@ -139,7 +141,7 @@ fn main() {
         Some("faults") => run::faults(number(1, 1), number(2, calls), number(3, 1_000)),
         _ => {
             eprintln!(
-                "model: cases | compare SEED CALLS | pairs SEED COUNT | reactions SEED COUNT | seeded SEED COUNT | answers | replay | leg | bench [SEED...] | study PROGRAM FILE... | reading FILE... | damaged PROGRAM SEED COUNT FILE... | \
+                "model: cases | compare SEED CALLS | pairs SEED COUNT | frames SEED COUNT | reactions SEED COUNT | seeded SEED COUNT | answers | replay | leg | bench [SEED...] | study PROGRAM FILE... | reading FILE... | damaged PROGRAM SEED COUNT FILE... | \
                  rendering SEED CALLS | fault NUMBER SEED CALLS | faults SEED CALLS PAIRS"
             );
             exit(2)

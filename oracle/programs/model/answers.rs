@@ -756,7 +756,7 @@ pub fn answers() {
     let w = made();
     print!("{}", w.text);
     eprintln!("{} lines, {} bytes", w.lines, w.text.len());
-    eprintln!("granted, then refused by 1 to 15:");
+    eprintln!("granted, then refused by 1 to 16:");
     for (kind, by) in KINDS.iter().zip(&w.by_kind) {
         eprintln!("  {kind:13} {by:?}");
     }

@@ -808,6 +808,146 @@ impl Cases {
     }
 }
 
+const fn frame(warm: Option<f32>, sweeps: u32, substeps: u32) -> Call {
+    let (warm, coefficient) = match warm {
+        Some(coefficient) => (true, coefficient),
+        None => (false, 0.0),
+    };
+    Call::Frame {
+        warm,
+        coefficient,
+        sweeps,
+        substeps,
+    }
+}
+
+impl Cases {
+    /// Frames: their rules in order, dt/n, the moves, and what a refused one leaves.
+    fn frames(&mut self) {
+        for (warm, sweeps, n) in [(None, 0, 1), (None, 1, 16), (Some(0.5), 64, 2), (Some(1.0), 3, 3)] {
+            let call = frame(warm, sweeps, n);
+            for s in [leg(), self.built(leg())] {
+                let mut s = s;
+                let dt = s.settings[0];
+                self.done(&mut s, &call);
+                self.expect("a frame marks the model built", s.built);
+                self.expect("the model keeps its dt", s.settings[0] == dt);
+            }
+        }
+        let bad = [0, 17, 18, 256, 65536, 1 << 24, u32::MAX];
+        for n in bad {
+            self.refused("substeps", &leg(), &frame(None, 1, n), 16);
+            self.refused("substeps", &leg(), &frame(Some(1.0), 64, n), 16);
+            self.refused("9 before 16", &leg(), &frame(None, 65, n), 9);
+            let mut short = leg();
+            short.rows.pop();
+            self.refused("8 before 9 and 16", &short, &frame(None, 65, n), 8);
+            short.settings[0] = -1.0e-45;
+            self.refused("7 before 8", &short, &frame(None, 65, n), 7);
+            self.refused("6 before 7", &short, &frame(Some(f32::NAN), 65, n), 6);
+            short.words[2] = 8;
+            self.refused("3 before 6", &short, &frame(Some(f32::NAN), 65, n), 3);
+        }
+        for rounds in [65, 66, 256, u32::MAX] {
+            self.refused("rounds", &leg(), &frame(None, rounds, 1), 9);
+        }
+        for bad in [f32::NAN, INF, -INF] {
+            self.refused("a coefficient", &leg(), &frame(Some(bad), 1, 1), 6);
+            let cold = Call::Frame {
+                warm: false,
+                coefficient: bad,
+                sweeps: 1,
+                substeps: 1,
+            };
+            self.granted("no coefficient", &leg(), &cold);
+        }
+        let mut back = leg();
+        back.settings[0] = -1.0e-45;
+        self.refused("dt below zero, though dt/16 is not", &back, &frame(None, 1, 16), 7);
+
+        // A body alone, by a velocity.
+        let alone = |dt: f32, body: [f32; BODY]| {
+            let mut s = study(0, &[]);
+            s.settings[0] = dt;
+            s.bodies = body.to_vec();
+            s
+        };
+        let third = f32::from_bits(0x3EAA_AAAB);
+        for (dt, n, x) in [
+            (1.0, 1, 1.0),
+            (1.0, 3, third + third + third),
+            (1.0, 4, 1.0),
+            (0.0, 3, 0.0),
+            (-0.0, 3, 0.0),
+        ] {
+            let mut s = alone(dt, [1.0, 0.0, 0.0, -0.0, 0.0, 0.0, 0.0, 1.0, -1.0, 0.0]);
+            self.done(&mut s, &frame(None, 4, n));
+            self.expect("x and y", s.bodies[2] == x && s.bodies[3] == -x);
+            self.expect("the settings", s.settings[0].to_bits() == f32::to_bits(dt));
+        }
+        let turn = |of: [f32; 2], velocity: f32, to: [f32; 2], cases: &mut Cases| {
+            let mut s = alone(1.0, [of[0], of[1], 0.0, 0.0, 1.0, 1.0, 1.0, 0.0, 0.0, velocity]);
+            cases.done(&mut s, &frame(None, 1, 1));
+            cases.expect(&format!("{of:?} turned by {velocity}"), same(&s.bodies[..2], &to));
+        };
+        for (of, velocity, to) in [
+            ([1.0, 0.0], 0.0, [1.0, 0.0]),
+            ([1.0, 0.0], 1.0, [1.0 / 2.0f32.sqrt(); 2]),
+            ([1.0, 0.0], 3.0e38, [0.0, 0.0]),
+            ([0.0, 0.0], 1.0, [0.0, 0.0]),
+            ([-0.0, 0.0], 1.0, [-0.0, 0.0]),
+            ([1.0e-30, 0.0], 1.0, [1.0e-30, 0.0]),
+            ([1.0e-30, 2.0e-30], 0.5, [1.0e-30, 2.0e-30]),
+            ([1.0e30, 0.0], 0.0, [0.0, 0.0]),
+            ([-0.0, 1.0], 0.0, [-0.0, 1.0]),
+            ([2.0, 0.0], 0.0, [1.0, 0.0]),
+            ([0.0, -0.25], 0.0, [0.0, -1.0]),
+        ] {
+            turn(of, velocity, to, self);
+        }
+        for velocity in [f32::NAN, INF, -INF] {
+            for place in 7..10 {
+                let mut body = [1.0, 0.0, 0.0, 0.0, 1.0, 1.0, 1.0, 0.0, 0.0, 0.0];
+                body[place] = velocity;
+                for dt in [1.0, 0.0] {
+                    self.refused("a velocity", &alone(dt, body), &frame(None, 1, 2), 6);
+                }
+            }
+        }
+
+        // Past the largest number in one of four substeps, or after them: all is as it was, in storage longer than any model's rows too.
+        for (k, length) in [(0, 6 * ROW), (1, 7 * ROW + 5), (2, 20_000), (3, 6 * ROW + 1), (4, 6 * ROW)] {
+            for built in [false, true] {
+                let mut s = leg();
+                s.settings[0] = 1.0;
+                s.bodies.extend([1.0, 0.0, 0.0, 0.0, 0.0, 0.0, 0.0, f32::MAX, 0.0, 0.0]);
+                s.bodies[2 * BODY + 2] = f32::MAX * (0.875 - 0.25 * k as f32);
+                s.bodies.extend([f32::NAN; 7]);
+                s.rows = (0..length).map(|i| i as f32).collect();
+                s.built = built;
+                if k < 4 {
+                    self.refused("past the largest number", &s, &frame(Some(0.5), 2, 4), 6);
+                } else {
+                    self.granted("just not past the largest number", &s, &frame(Some(0.5), 2, 4));
+                }
+            }
+        }
+        let mut s = leg();
+        s.settings[0] = 64.0;
+        s.bodies[8] = 3.0e38;
+        self.refused("a velocity of 3e38", &s, &frame(None, 0, 1), 6);
+
+        // Counts are those of the last sweep; no rounds, no counts.
+        let mut s = leg();
+        s.numbers[JOINT + 17 + 12] = 1000.0;
+        let mut none = s.clone();
+        let counts = self.done(&mut s, &frame(None, 1, 2)).ids;
+        self.expect("a motor at its bound", counts[1] == 1 && counts[2..].iter().all(|n| *n == 0));
+        let counts = self.done(&mut none, &frame(None, 0, 2)).ids;
+        self.expect("no rounds", counts.iter().all(|n| *n == 0));
+    }
+}
+
 pub fn cases() {
     for (name, side) in sides() {
         let mut cases = Cases {
@@ -822,6 +962,7 @@ pub fn cases() {
         cases.angles();
         cases.switched_off();
         cases.masks();
+        cases.frames();
         println!("{} cases by {name}", cases.count);
     }
 }

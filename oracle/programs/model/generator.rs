@@ -485,6 +485,93 @@ impl Generator {
         }
     }
 
+    /// Any call, one in nine a frame.
+    pub fn any_call(&mut self, s: &Study) -> Call {
+        if self.d.one_in(9) {
+            self.frame()
+        } else {
+            self.call(s)
+        }
+    }
+
+    /// Mostly few rounds and few substeps.
+    pub fn frame(&mut self) -> Call {
+        let warm = !self.d.one_in(3);
+        let coefficient = if !warm || self.d.one_in(32) {
+            self.d.number()
+        } else {
+            studies::coefficient(&mut self.d)
+        };
+        let sweeps = match self.d.below(64) {
+            0 => 64,
+            1 => 65,
+            2 => self.d.pick(&[66, 1000, u32::MAX]),
+            3 => self.d.below(66) as u32,
+            _ => self.d.pick(&[0, 1, 1, 1, 2, 2, 4]),
+        };
+        let substeps = match self.d.below(32) {
+            0 => 0,
+            1 => 17,
+            2 => self.d.pick(&[18, 32, 1000, 1 << 24, u32::MAX]),
+            3 => 16,
+            4 => self.d.below(18) as u32,
+            _ => self.d.pick(&[1, 1, 1, 2, 2, 3, 3, 4, 5]),
+        };
+        Call::Frame {
+            warm,
+            coefficient,
+            sweeps,
+            substeps,
+        }
+    }
+
+    /// What a caller may do before a frame: velocities that are numbers, rotations whose length is zero, infinite or nearly so,
+    /// and a body that leaves the finite numbers in one of the substeps, where no joint holds it.
+    pub fn throw(&mut self, s: &mut Study, call: &Call) {
+        let Call::Frame { substeps, .. } = *call else {
+            return;
+        };
+        let count = s.body_count();
+        if count == 0 {
+            return;
+        }
+        if s.bodies.iter().any(|x| !x.is_finite()) && !self.d.one_in(6) {
+            for n in s.bodies.chunks_exact_mut(BODY) {
+                n[7..].copy_from_slice(&[0.0; 3].map(|_| self.d.tame()));
+            }
+        }
+        if self.d.one_in(8) {
+            let at = self.at(count) * BODY;
+            let rotation = self.d.pick(&[
+                [0.0, 0.0],
+                [-0.0, 0.0],
+                [-0.0, 1.0],
+                [1.0e-30, 0.0],
+                [1.0e-23, -1.0e-23],
+                [1.0e-45, 1.0e-45],
+                [1.0e30, 0.0],
+                [1.8e19, -1.0e19],
+                [f32::MAX, f32::MAX],
+            ]);
+            s.bodies[at..at + 2].copy_from_slice(&rotation);
+        }
+        if self.d.one_in(6) && (1..=16).contains(&substeps) {
+            let held = |i: usize| {
+                let joints = s.words.chunks_exact(WORDS).take(s.joint_count());
+                joints.flat_map(|w| &w[..2]).any(|b| *b == i as u32)
+            };
+            let free: Vec<usize> = (0..count).filter(|i| !held(*i)).collect();
+            let i = if free.is_empty() { self.at(count) } else { self.d.pick(&free) };
+            let axis = self.at(2);
+            let velocity = self.d.pick(&[f32::MAX, -f32::MAX, 1.0e38, -1.0e38]);
+            let step = velocity * (s.settings[0] / substeps as f32);
+            let left = (self.d.below(substeps as u64) as f32 + 0.5) * step;
+            let place = (f32::MAX.copysign(velocity) - left).clamp(-f32::MAX, f32::MAX);
+            s.bodies[i * BODY + 2 + axis] = if place.is_nan() { 0.0 } else { place };
+            s.bodies[i * BODY + 7 + axis] = velocity;
+        }
+    }
+
     /// New masks of a joint: any, or those that it has with some of them changed.
     pub fn set_masks(&mut self, s: &Study) -> Call {
         let joint = self.index(s.joint_count());
@@ -598,10 +685,14 @@ impl Generator {
         Call::SetTargets(text.leak())
     }
 
-    /// Breaks one to three rules.
+    /// Breaks one to three rules; of a frame 16 too.
     pub fn break_some(&mut self, s: &mut Study, call: &mut Call) {
         for _ in 0..1 + self.d.below(3) {
-            let rule = 1 + self.d.below(12);
+            let rule = if matches!(call, Call::Frame { .. }) && self.d.one_in(4) {
+                16
+            } else {
+                1 + self.d.below(12)
+            };
             self.break_rule(rule, s, call);
         }
     }
@@ -666,7 +757,7 @@ impl Generator {
             }
             6 => self.break_six(s, call),
             7 => {
-                s.settings[0] = self.d.pick(&[-1.0, -1.0e-40, -f32::MAX, -1.0 / 64.0]);
+                s.settings[0] = self.d.pick(&[-1.0, -1.0e-40, -1.0e-45, -f32::MAX, -1.0 / 64.0]);
             }
             8 => {
                 let whole = total(s) * ROW;
@@ -678,7 +769,18 @@ impl Generator {
                     s.rows.truncate(to);
                 }
             }
-            9 => *call = Call::Sweep(self.d.pick(&[65, 65, 66, 1000, 1001, u32::MAX])),
+            9 => {
+                let rounds = self.d.pick(&[65, 65, 66, 1000, 1001, u32::MAX]);
+                match call {
+                    Call::Frame { sweeps, .. } => *sweeps = rounds,
+                    _ => *call = Call::Sweep(rounds),
+                }
+            }
+            16 => {
+                if let Call::Frame { substeps, .. } = call {
+                    *substeps = self.d.pick(&[0, 0, 17, 17, 18, u32::MAX]);
+                }
+            }
             10 => {
                 s.built = false;
                 let joint = self.index(joints);
@@ -733,6 +835,9 @@ impl Generator {
             4 | 5 => match call {
                 Call::Place { pose, .. } => pose[self.d.below(4) as usize] = bad,
                 Call::Build {
+                    warm, coefficient, ..
+                }
+                | Call::Frame {
                     warm, coefficient, ..
                 } => {
                     *warm = true;

@@ -230,9 +230,29 @@ mod exported {
             motor: u32,
             coupled: u32,
         ) -> u64;
+        fn katydidzinc_frame(
+            dt: f32,
+            length_unit: f32,
+            normalized: f32,
+            built: u32,
+            bodies: *mut f32,
+            bodies_len: usize,
+            words: *const u32,
+            words_len: usize,
+            numbers: *mut f32,
+            numbers_len: usize,
+            rows: *mut f32,
+            rows_len: usize,
+            warm: u32,
+            coefficient: f32,
+            sweeps: u32,
+            substeps: u32,
+            counts: *mut u8,
+            counts_len: usize,
+        ) -> u64;
     }
 
-    /// The mark follows from the answer: a granted load or mask change clears it, a granted build sets it.
+    /// The mark follows from the answer: a granted load or mask change clears it, a granted build or frame sets it.
     pub fn call(s: &mut Study, call: &Call) -> Answer {
         let mut answer = Answer::none(call);
         let mut bodies_in = Fenced::new(&s.bodies, 12345.678);
@@ -322,6 +342,31 @@ mod exported {
                     dt, unit, most, built, b, bs, w, ws, n, ns, r, rs, joint, locked, limit,
                     motor, coupled,
                 ),
+                Call::Frame {
+                    warm,
+                    coefficient,
+                    sweeps,
+                    substeps,
+                } => katydidzinc_frame(
+                    dt,
+                    unit,
+                    most,
+                    built,
+                    b,
+                    bs,
+                    w,
+                    ws,
+                    n,
+                    ns,
+                    r,
+                    rs,
+                    warm as u32,
+                    coefficient,
+                    sweeps,
+                    substeps,
+                    cs,
+                    cs_len,
+                ),
             }
         };
         answer.outside = bodies_in.taken_back(&mut s.bodies)
@@ -331,7 +376,7 @@ mod exported {
             | out_in.taken_back(&mut answer.out)
             | ids_in.taken_back(&mut answer.ids)
             | counts_in.taken_back(&mut counts);
-        if let Call::Sweep(_) = call {
+        if let Call::Sweep(_) | Call::Frame { .. } = call {
             if answer.granted() {
                 answer.ids = counts.iter().map(|n| u32::from(*n)).collect();
             } else {
@@ -340,7 +385,7 @@ mod exported {
         }
         match call {
             Call::Load | Call::SetMasks { .. } if answer.granted() => s.built = false,
-            Call::Build { .. } if answer.granted() => s.built = true,
+            Call::Build { .. } | Call::Frame { .. } if answer.granted() => s.built = true,
             _ => {}
         }
         answer

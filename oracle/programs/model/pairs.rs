@@ -38,6 +38,8 @@ struct Tally {
     inside: u64,
     outside: u64,
     unlike: u64,
+    /// Frames that one study alone would grant: left out, or the list's end, where numbers drawn anew make it so.
+    unlike_frames: [u64; 2],
 }
 
 /// One call of a list, and the storage that each study is lent for it, where that is another one.
@@ -238,7 +240,7 @@ impl Pair {
                 return Some("the refusal".into());
             }
         }
-        if let Call::Sweep(_) = call {
+        if let Call::Sweep(_) | Call::Frame { .. } = call {
             for (j, own) in self.own.iter().enumerate() {
                 if *own && a.ids.get(j) != b.ids.get(j) {
                     return Some(format!("the count of joint {j}"));
@@ -294,7 +296,11 @@ impl Pair {
             let answers = [side(one, call), side(two, call)];
             t.calls += 1;
             let granted = answers[0].granted();
-            made |= granted && matches!(call, Call::Build { .. });
+            if matches!(call, Call::Frame { .. }) && granted != answers[1].granted() {
+                t.unlike_frames[1] += 1;
+                return None;
+            }
+            made |= granted && matches!(call, Call::Build { .. } | Call::Frame { .. });
             let by = if granted {
                 &mut t.granted
             } else {
@@ -390,7 +396,7 @@ fn other_study(g: &mut Generator, one: &Study, set: &[bool], own: &[bool]) -> St
 }
 
 /// Calls as they may come; each is drawn for the first study as the calls before it left it. A table that only one
-/// of the studies refuses is left out, and so is a mask change that only one of them grants.
+/// of the studies refuses is left out, and so is a mask change or a frame that only one of them grants.
 fn draw_list(g: &mut Generator, mut now: [Study; 2], own: &[bool], t: &mut Tally) -> List {
     let builds = !g.d.one_in(8);
     let mut list = List {
@@ -399,8 +405,8 @@ fn draw_list(g: &mut Generator, mut now: [Study; 2], own: &[bool], t: &mut Tally
         made: false,
     };
     for _ in 0..4 + g.d.below(28) {
-        let call = g.call(&now[0]);
-        if matches!(call, Call::Build { .. }) && !builds {
+        let call = g.any_call(&now[0]);
+        if matches!(call, Call::Build { .. } | Call::Frame { .. }) && !builds {
             continue;
         }
         if let Call::SetTargets(table) = call {
@@ -429,7 +435,11 @@ fn draw_list(g: &mut Generator, mut now: [Study; 2], own: &[bool], t: &mut Tally
             t.inside += (granted && inside) as u64;
             t.outside += (granted && !inside) as u64;
         }
-        if granted && matches!(call, Call::Build { .. }) {
+        if matches!(call, Call::Frame { .. }) && granted != answers[1].granted() {
+            t.unlike_frames[0] += 1;
+            continue;
+        }
+        if granted && matches!(call, Call::Build { .. } | Call::Frame { .. }) {
             list.made = true;
             for (j, named) in list.named.iter_mut().enumerate() {
                 named.extend(now[0].ids(j));
@@ -548,6 +558,8 @@ pub fn pairs(side: Side, by: &str, seed: u64, count: u64) {
         "mask changes granted: {} of joints of sets, {} of others; {} that one study alone would grant left out",
         t.inside, t.outside, t.unlike
     );
+    let [left_out, ended] = t.unlike_frames;
+    println!("frames that one study alone would grant: {left_out} left out, {ended} ended a list");
     for (kind, (granted, refused)) in KINDS.iter().zip(t.granted.iter().zip(t.refused)) {
         println!("  {kind:13} {granted} granted, {refused} refused");
     }

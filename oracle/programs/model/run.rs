@@ -5,7 +5,7 @@ use crate::bits::{bits, hex};
 use crate::generator::{Generator, total};
 use crate::library::{ORACLE, RENDERING, Side, same_answer, same_study};
 use crate::model::{
-    Answer, CHOICE, COLUMNS, Call, ENABLED, FIRST, KINDS, ROW, Study, WORDS, refusal,
+    Answer, CHOICE, COLUMNS, Call, ENABLED, FIRST, KINDS, ROW, Study, WORDS, refusal, stopped_in,
 };
 use crate::model_rendering;
 use crate::motor_table_rendering;
@@ -49,6 +49,14 @@ struct Tally {
     /// Granted calls beside load and mask changes on a model in which a first row is not the sum; granted loads and mask
     /// changes on such a model.
     altered: [u64; 2],
+    /// Granted frames by their number of substeps; those on a model that was not built; those with a coefficient; those that left a
+    /// velocity that is not finite.
+    frames: [u64; 17],
+    frames_unbuilt: u64,
+    frames_warm: u64,
+    frames_wild: u64,
+    /// Frames that met a pose which is not finite: in their only substep, in the first, a middle and the last of several.
+    stopped: [u64; 4],
 }
 
 /// A call on which the sides differ: what was handed over, and what each side answered and left.
@@ -92,6 +100,11 @@ impl Run {
                 missing_short: 0,
                 old_mask: 0,
                 altered: [0; 2],
+                frames: [0; 17],
+                frames_unbuilt: 0,
+                frames_warm: 0,
+                frames_wild: 0,
+                stopped: [0; 4],
             },
             limit,
         }
@@ -112,6 +125,7 @@ impl Run {
         }
         self.count(&here, call, &answer);
         self.count_changes(s, call, &answer);
+        self.count_frame(s, &here, call, &answer);
         *s = here;
         Ok(())
     }
@@ -151,6 +165,35 @@ impl Run {
             }
             8 if there => t.by_new_total[1] += (s.row_capacity() >= s.total()) as u64,
             8 => t.missing_short += 1,
+            _ => {}
+        }
+    }
+
+    /// What a frame met; `s` is the study before it.
+    fn count_frame(&mut self, s: &Study, after: &Study, call: &Call, answer: &Answer) {
+        let t = &mut self.tally;
+        let Call::Frame { warm, substeps, .. } = *call else {
+            return;
+        };
+        match answer.code {
+            0 => {
+                t.frames[substeps as usize] += 1;
+                t.frames_unbuilt += !s.built as u64;
+                t.frames_warm += warm as u64;
+                let wild = |n: &[f32]| n[7..].iter().any(|x| !x.is_finite());
+                t.frames_wild += after.bodies.chunks_exact(10).any(wild) as u64;
+            }
+            6 => {
+                if let Some(i) = stopped_in(s, call) {
+                    let place = match i {
+                        _ if substeps == 1 => 0,
+                        0 => 1,
+                        i if i + 1 < substeps => 2,
+                        _ => 3,
+                    };
+                    t.stopped[place] += 1;
+                }
+            }
             _ => {}
         }
     }
@@ -231,7 +274,7 @@ impl Run {
                 // Broken for a while, then as it was.
                 let mut broken = s.clone();
                 for _ in 0..1 + g.d.below(2) {
-                    let mut call = g.call(&broken);
+                    let mut call = g.any_call(&broken);
                     g.break_some(&mut broken, &mut call);
                     self.both(&mut broken, &call)?;
                 }
@@ -239,7 +282,8 @@ impl Run {
                     s = broken;
                 }
             }
-            let call = g.call(&s);
+            let call = g.any_call(&s);
+            g.throw(&mut s, &call);
             let own = s.rows.clone();
             if !g.d.one_in(3) {
                 g.lend(&mut s, &call);
@@ -344,7 +388,7 @@ pub fn compare(other: Side, seed: u64, calls: u64) {
         "{} calls on {} studies, {} alterations, no difference, seed {seed}",
         t.calls, t.studies, t.alterations
     );
-    println!("granted, then refused by 1 to 15:");
+    println!("granted, then refused by 1 to 16:");
     for (kind, by) in KINDS.iter().zip(&t.by_kind) {
         println!("  {kind:13} {by:?}");
     }
@@ -383,6 +427,16 @@ pub fn compare(other: Side, seed: u64, calls: u64) {
     let [others, stores] = t.altered;
     println!(
         "granted where a first row was not the sum: {stores} loads and mask changes, {others} other calls"
+    );
+    let by_substeps: Vec<String> = t.frames[1..].iter().map(u64::to_string).collect();
+    println!("frames granted, by 1 to 16 substeps: {}", by_substeps.join(" "));
+    println!(
+        "  {} with a coefficient, {} on a model that was not built, {} that left a velocity which is not finite",
+        t.frames_warm, t.frames_unbuilt, t.frames_wild
+    );
+    let [only, first, middle, last] = t.stopped;
+    println!(
+        "  refused by a new pose: {only} in their only substep, {first} in the first, {middle} in a middle one, {last} in the last of several"
     );
 }
 

@@ -9,7 +9,8 @@ use crate::dynamics::solver::joint_constraint::{
     JointConstraint, JointConstraintBuilder, WritebackId, tried,
 };
 use crate::dynamics::solver::solver_body::SolverBodies;
-use crate::math::Real;
+use crate::math::{Real, Vector};
+use crate::utils::SimdLength;
 
 /// A body's numbers as in `records`, then its velocity.
 pub const BODY: usize = records::BODY + VEL;
@@ -151,6 +152,31 @@ pub fn solve(bodies: &mut [Real], words: &[u32], rows: &mut [Real], rounds: u32)
     put_rows(&own, rows);
     put_vels(&all, bodies);
     counts
+}
+
+/// Every body's new pose after a time h, by the stand-ins for vectors, in ascending order; false at the first that is not
+/// finite, which ends it.
+pub fn advance(bodies: &mut [Real], h: Real) -> bool {
+    for n in bodies.chunks_exact_mut(BODY) {
+        let pose = records::body(n);
+        let vel = records::vel(&n[records::BODY..]);
+        let a = vel.angular * h;
+        let [re, im] = [pose.rotation.re, pose.rotation.im];
+        let turned = Vector::new(re - im * a, im + re * a);
+        let length = turned.simd_length();
+        let rotation = if length == 0.0 {
+            Vector::new(re, im)
+        } else {
+            turned / length
+        };
+        let translation = pose.translation + vel.linear * h;
+        let new = [rotation.x, rotation.y, translation.x, translation.y];
+        if !new.iter().all(|x| x.is_finite()) {
+            return false;
+        }
+        n[..4].copy_from_slice(&new);
+    }
+    true
 }
 
 pub fn remove_bias(words: &[u32], rows: &mut [Real]) {
