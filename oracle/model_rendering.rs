@@ -714,10 +714,10 @@ fn rules(s: &Study, call: &Call) -> Vec<(u64, bool)> {
     if fault(131) && brought.is_some() {
         exchange(8, 11);
     }
-    if fault(155) {
+    if fault(155) && framed.is_some() {
         exchange(9, 16);
     }
-    if fault(156) {
+    if fault(156) && framed.is_some() {
         exchange(8, 16);
     }
     order

@@ -10,13 +10,14 @@ use crate::model::{
 use std::fmt::Write;
 
 const SEED: u64 = 20;
-const STUDIES: usize = 140;
+const STUDIES: usize = 141;
 
 /// The opcode of a motor table, and the largest one that is stored.
 const TABLE: u32 = 11;
 const LARGEST: usize = 400;
-/// The opcode of a mask change.
+/// The opcodes of a mask change and of a frame.
 const MASKS: u32 = 12;
+const FRAME: u32 = 13;
 
 /// One line of a list.
 #[derive(Copy, Clone)]
@@ -75,6 +76,12 @@ impl Line {
                         let [locked, limit, motor, coupled] = masks;
                         [MASKS, joint, locked, limit, motor, coupled]
                     }
+                    Call::Frame {
+                        warm,
+                        coefficient,
+                        sweeps,
+                        substeps,
+                    } => [FRAME, warm as u32, bits(coefficient), sweeps, substeps, 0],
                     _ => [op, 0, 0, 0, 0, 0],
                 }
             }
@@ -117,6 +124,12 @@ impl Line {
             MASKS => Call::SetMasks {
                 joint: a,
                 masks: [b, c, d, e],
+            },
+            FRAME => Call::Frame {
+                warm: a != 0,
+                coefficient: f32::from_bits(b),
+                sweeps: c,
+                substeps: d,
             },
             9 => {
                 return Line::Set {
@@ -217,7 +230,7 @@ impl Held {
                 };
                 answer.out[..numbers].iter().for_each(|x| add(bits(*x)));
                 let words = match call {
-                    Call::Sweep(_) => answer.ids.len(),
+                    Call::Sweep(_) | Call::Frame { .. } => answer.ids.len(),
                     _ => count,
                 };
                 answer.ids[..words].iter().for_each(|x| add(*x));
@@ -725,6 +738,106 @@ fn masks(g: &mut Generator, w: &mut Writer) {
     });
 }
 
+/// Frames of a chain of two bodies with a motor and a stop, beside a third that no joint holds: warm and cold, of few and of many rounds and
+/// substeps, on a model that is built or not; the rules in order; rotations of no length, of a tiny and of a huge one; the third body past
+/// the largest number in each of four substeps.
+fn frames(g: &mut Generator, w: &mut Writer) {
+    let joints = [[WORLD, 0, 3, 0, 4, 0], [0, 1, 3, 4, 0, 0]];
+    let mut s = g.study_of(Size {
+        bodies: 3,
+        joints: joints.len(),
+    });
+    for n in s.bodies.chunks_exact_mut(BODY) {
+        for x in n {
+            *x = g.d.tame();
+        }
+    }
+    for (words, joint) in s.words.chunks_exact_mut(WORDS).zip(joints) {
+        words[..6].copy_from_slice(&joint);
+        words[ENABLED] = 0;
+        words[CHOICE] = 0;
+    }
+    for n in s.numbers.chunks_exact_mut(JOINT) {
+        for x in n {
+            *x = g.d.tame();
+        }
+    }
+    s.settings = [1.0 / 64.0, 1.0, 10.0];
+    s.rows = g.storage(7);
+    let frame = |warm: Option<f32>, sweeps, substeps| {
+        Line::Call(Call::Frame {
+            warm: warm.is_some(),
+            coefficient: warm.unwrap_or(0.0),
+            sweeps,
+            substeps,
+        })
+    };
+    w.study(s, |w, h| {
+        let start = h.all.bodies.clone();
+        let back = |w: &mut Writer, h: &mut Held| {
+            for (i, x) in start.iter().enumerate() {
+                if bits(h.all.bodies[i]) != bits(*x) {
+                    w.line(h, set(Slice::Bodies, i, bits(*x)));
+                }
+            }
+        };
+        w.line(h, Line::Call(Call::Load));
+        for warm in [None, Some(0.5), Some(1.0)] {
+            for (sweeps, substeps) in [(1, 1), (0, 2), (4, 3), (2, 16), (64, 1), (65, 1), (65, 17), (1, 0), (1, 17), (64, u32::MAX)] {
+                w.line(h, frame(warm, sweeps, substeps));
+            }
+            for call in [Call::ReadRows(0), Call::ReadRows(1), Call::ReadVelocity(1), Call::Sweep(1), Call::WriteBack] {
+                w.line(h, Line::Call(call));
+            }
+            back(w, h);
+            w.line(h, set(Slice::Mark, 0, 0));
+        }
+        // Rules before 16: 8, 7 and 6; dt of either zero.
+        let all = h.lengths.map(|x| x as u32);
+        let short = (total(&h.handed()) * ROW - 1) as u32;
+        w.line(h, Line::Hand([all[0], all[1], all[2], short]));
+        w.line(h, frame(None, 65, 17));
+        w.line(h, frame(None, 1, 1));
+        w.line(h, set(Slice::Settings, 0, bits(-1.0e-45)));
+        w.line(h, frame(None, 65, 17));
+        w.line(h, frame(Some(f32::NAN), 65, 17));
+        w.line(h, Line::Hand(all));
+        w.line(h, frame(None, 1, 16));
+        for dt in [-0.0, 0.0, 1.0] {
+            w.line(h, set(Slice::Settings, 0, bits(dt)));
+            w.line(h, frame(Some(0.5), 2, 3));
+            back(w, h);
+        }
+        for rotation in [[0.0, 0.0], [-0.0, 1.0], [1.0e-30, 0.0], [1.0e-23, 1.0e-23], [1.0e30, 0.0], [3.0e38, -3.0e38]] {
+            for body in [0, 2] {
+                for (k, x) in rotation.into_iter().enumerate() {
+                    w.line(h, set(Slice::Bodies, body * BODY + k, bits(x)));
+                }
+                w.line(h, frame(Some(0.5), 1, 2));
+                back(w, h);
+            }
+        }
+        for built in [0, 1] {
+            for k in 0..5 {
+                w.line(h, set(Slice::Mark, 0, built));
+                w.line(h, set(Slice::Bodies, 2 * BODY + 2, bits(f32::MAX * (0.875 - 0.25 * k as f32))));
+                w.line(h, set(Slice::Bodies, 2 * BODY + 7, bits(f32::MAX)));
+                w.line(h, frame(Some(0.5), 2, 4));
+                back(w, h);
+            }
+        }
+        for x in [f32::NAN, f32::INFINITY] {
+            for place in [7, BODY + 8, 2 * BODY + 9] {
+                w.line(h, set(Slice::Bodies, place, bits(x)));
+                w.line(h, frame(None, 1, 2));
+                back(w, h);
+            }
+        }
+        w.line(h, frame(Some(1.0), 4, 4));
+        w.line(h, Line::Call(Call::ReadRows(1)));
+    });
+}
+
 /// The text, and what was met.
 fn made() -> Writer {
     let g = &mut Generator::new(SEED);
@@ -738,13 +851,14 @@ fn made() -> Writer {
     world_reads_zero(g, &mut w);
     finite(g, &mut w);
     masks(g, &mut w);
-    for _ in 4..STUDIES {
+    for _ in 5..STUDIES {
         let size = g.small();
         let mut s = g.study_of(size);
         s.rows = g.storage(total(&s));
         g.leftovers(&mut s);
         w.study(s, |w, h| any_list(g, w, h));
     }
+    frames(g, &mut w);
     w
 }
 
