@@ -16,7 +16,7 @@ use Rattle.study_reader.specs.Words.{nextWord, isEmpty, isWord, wholeOf}
 use Rattle.study_reader.specs.Numbers.{numberIn, numberFault, valueOf}
 use Rattle.study_reader.specs.Names.{ABSENT}
 use Rattle.study_reader.specs.Keywords.{callKeyword}
-use Rattle.study_reader.specs.Calls.{bareCall, wrong, withWord, withNumber, withPose, withRotation, withWarm, first, second, ofNumber, ofWhole, ofNamed, readWhole, rotationOf, readRotation, poseOf, readPose, readSubstep, buildOf, maskStep, maskSteps, readMost, settleOf, arguments, readCall}
+use Rattle.study_reader.specs.Calls.{bareCall, wrong, withWord, withNumber, withPose, withRotation, withWarm, first, second, ofNumber, ofWhole, ofNamed, readWhole, rotationOf, readRotation, poseOf, readPose, readSubstep, buildOf, readSweeps, frameOf, maskStep, maskSteps, readMost, settleOf, arguments, readCall}
 use Rattle.study_reader.specs.declared.words.Word.{Word}
 use Rattle.study_reader.specs.declared.words.Whole.{Whole}
 use Rattle.study_reader.specs.declared.calls.Line.{Line}
@@ -123,6 +123,17 @@ module _ (text : List ℕ) (l : Line) (v w : Word) (a : Reading) (fault : ℕ) (
   pub warm-is : isWord text v (ascii "warm") ≡ true → fault ≡ 0 → (x : Float) → x ≡ valueOf a → readSubstep text (withWarm l x (w .end)) ≡ buildOf text l v w
   unfolding buildOf
   warm-is e z x d = number-is l w _ text a fault p q z x d ∙ true-is _ _ _ e
+
+-- ---- `warm` of a frame
+
+module _ (text : List ℕ) (l : Line) (v w : Word) (a : Reading) (fault : ℕ) (p : a ≡ numberIn text w) (q : fault ≡ numberFault a) where
+  pub frame-warm-not : isWord text v (ascii "warm") ≡ true → (fault ≡ 0 → ⊥) → wrong l fault (w .start) ≡ frameOf text l v w
+  unfolding frameOf
+  frame-warm-not e z = number-not l w _ text a fault p q z ∙ true-is _ _ _ e
+
+  pub frame-warm-is : isWord text v (ascii "warm") ≡ true → fault ≡ 0 → (x : Float) → x ≡ valueOf a → readSweeps text (withWarm l x (w .end)) ≡ frameOf text l v w
+  unfolding frameOf
+  frame-warm-is e z x d = number-is l w _ text a fault p q z x d ∙ true-is _ _ _ e
 
 -- ---- `settle`
 

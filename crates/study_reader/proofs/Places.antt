@@ -14,8 +14,8 @@ use Rattle.study_reader.specs.Words.{isBlank, endsWord, runOf, lineCount
 use Rattle.study_reader.specs.Numbers.{numberIn}
 use Rattle.study_reader.specs.Names.{ABSENT, findBody, findJoint}
 use Rattle.study_reader.specs.Faults.{faultNested, faultNoRepeat}
-use Rattle.study_reader.specs.Keywords.{readRowsKeyword, readVelocityKeyword, setTargetsKeyword, repeatKeyword, endKeyword, tableKeyword, masksKeyword, settleKeyword, placeKeyword, buildKeyword, sweepKeyword}
-use Rattle.study_reader.specs.Calls.{noMask, bareCall, wrong, withWord, withNumber, withPlace, withPose, withRotation, withWarm, first, second, ofNumber, ofWhole, ofNamed, readBody, readSubstep, rotationOf, poseOf, placeOf, substepOf, buildOf, csvOf, readMost, mostOf, settleOf, fileOf, readRepeat, readEnd, withMask, withAxes, maskNamed, bitsOf, ofBits, maskWord, maskStep, maskSteps, otherArguments, arguments, readCall}
+use Rattle.study_reader.specs.Keywords.{readRowsKeyword, readVelocityKeyword, setTargetsKeyword, repeatKeyword, endKeyword, tableKeyword, masksKeyword, frameKeyword, settleKeyword, placeKeyword, buildKeyword, sweepKeyword}
+use Rattle.study_reader.specs.Calls.{noMask, bareCall, wrong, withWord, withNumber, withPlace, withPose, withRotation, withWarm, withSweeps, first, second, ofNumber, ofWhole, ofNamed, readBody, readSubstep, rotationOf, poseOf, placeOf, substepOf, buildOf, readSubsteps, substepsOf, afterRounds, readSweeps, sweepsOf, frameOf, csvOf, readMost, mostOf, settleOf, fileOf, readRepeat, readEnd, withMask, withAxes, maskNamed, bitsOf, ofBits, maskWord, maskStep, maskSteps, otherArguments, arguments, readCall}
 use Rattle.study_reader.specs.declared.words.Word.{Word}
 use Rattle.study_reader.specs.declared.words.Whole.{Whole}
 use Rattle.study_reader.specs.declared.calls.Line.{Line}
@@ -126,6 +126,34 @@ module _ (text : List ℕ) where
       within-cond (isWord text v (ascii "warm")) _ _
       (within-number l w (numberIn text w) _ s h (λ c. within-substep (withWarm l c (w .end)) (record { at = e; fault = h .fault }))) (within-substep l h)
 
+  within-substeps : (l : Line) → Within text l → Within text (readSubsteps text l)
+  unfolding substepsOf
+  within-substeps l h =
+      let s = start-inside text (l .at) (h .at) in
+      let e = end-inside text (l .at) (h .at) in
+      within-cond (isWord text (first text l) (ascii "substeps")) _ _
+      (within-whole (withPlace l (first text l .end)) _ _ (start-inside text _ e) (end-inside text _ e) (record { at = e; fault = h .fault }))
+      (record { at = h .at; fault = s })
+
+  within-rounds : (r : Line) → Within text r → Within text (afterRounds text r)
+  unfolding afterRounds
+  within-rounds r h = within-cond (eqb (r .fault) 0) _ _ (within-substeps (withSweeps r) (record { at = h .at; fault = h .fault })) h
+
+  within-sweeps : (l : Line) → Within text l → Within text (readSweeps text l)
+  unfolding sweepsOf
+  within-sweeps l h =
+      let s = start-inside text (l .at) (h .at) in
+      let e = end-inside text (l .at) (h .at) in
+      within-cond (isWord text (first text l) (ascii "sweeps")) _ _
+      (within-rounds _ (within-whole (withPlace l (first text l .end)) _ _ (start-inside text _ e) (end-inside text _ e) (record { at = e; fault = h .fault })))
+      (record { at = h .at; fault = s })
+
+  within-frame : (l : Line) (v w : Word) → w .start ≤ length text → w .end ≤ length text → Within text l → Within text (frameOf text l v w)
+  unfolding frameOf
+  within-frame l v w s e h =
+      within-cond (isWord text v (ascii "warm")) _ _
+      (within-number l w (numberIn text w) _ s h (λ x. within-sweeps (withWarm l x (w .end)) (record { at = e; fault = h .fault }))) (within-sweeps l h)
+
   within-csv : (l : Line) (w : Word) → w .start ≤ length text → w .end ≤ length text → Within text l → Within text (csvOf text l w)
   unfolding csvOf
   within-csv l w s e h =
@@ -188,7 +216,8 @@ module _ (text : List ℕ) where
         (within-cond (eqb (l .keyword) endKeyword) _ _ (within-cond repeats _ _ h (wrong-within faultNoRepeat place p))
         (within-cond (eqb (l .keyword) tableKeyword) _ _ (within-csv l _ s1 e1 h)
         (within-cond (eqb (l .keyword) settleKeyword) _ _ (within-settle l _ s1 e1 h)
-        (within-cond (eqb (l .keyword) masksKeyword) _ _ (within-mask-steps 16 _ (within-named l _ _ _ s1 e1 h)) h)))))))
+        (within-cond (eqb (l .keyword) masksKeyword) _ _ (within-mask-steps 16 _ (within-named l _ _ _ s1 e1 h))
+        (within-cond (eqb (l .keyword) frameKeyword) _ _ (within-frame l _ _ (start-inside text _ e1) (end-inside text _ e1) h) h))))))))
 
     within-arguments : (names : List ℕ) (bodies joints : ℕ) (repeats : Bool) (place : ℕ) → place ≤ length text → Within text (arguments text names bodies joints repeats l place)
     unfolding arguments

@@ -12,11 +12,11 @@ use Rattle.decimals.specs.declared.number.Reading.{Reading}
 use Rattle.decimals.specs.declared.number.Reading.the-variants.{Number, TooManyDigits, NotANumber}
 use Rattle.texts.specs.Ascii.{ascii}
 use Rattle.rows.specs.declared.generic_joint.Masks.{Masks}
-use Rattle.study_reader.specs.Faults.{faultNumber, faultDigits, faultNoBody, faultNoJoint, faultWholeNumber, faultNoRepeat, faultNested, faultWarm, faultCsv, faultFileName, faultMask}
+use Rattle.study_reader.specs.Faults.{faultNumber, faultDigits, faultNoBody, faultNoJoint, faultWholeNumber, faultNoRepeat, faultNested, faultWarm, faultCsv, faultFileName, faultMask, faultSubsteps}
 use Rattle.study_reader.specs.Words.{nextWord, isEmpty, isWord, wholeOf}
 use Rattle.study_reader.specs.Numbers.{numberIn}
 use Rattle.study_reader.specs.Names.{ABSENT, findBody, findJoint}
-use Rattle.study_reader.specs.Keywords.{placeKeyword, buildKeyword, sweepKeyword, readRowsKeyword, readVelocityKeyword, setTargetsKeyword, repeatKeyword, endKeyword, tableKeyword, masksKeyword, settleKeyword, callKeyword, axisOf, itemKeyword, lockKeyword, motorModelKeyword}
+use Rattle.study_reader.specs.Keywords.{placeKeyword, buildKeyword, sweepKeyword, readRowsKeyword, readVelocityKeyword, setTargetsKeyword, repeatKeyword, endKeyword, tableKeyword, masksKeyword, frameKeyword, settleKeyword, callKeyword, axisOf, itemKeyword, lockKeyword, motorModelKeyword}
 use Rattle.study_reader.specs.declared.words.Word.{Word}
 use Rattle.study_reader.specs.declared.words.Whole.{Whole}
 use Rattle.study_reader.specs.declared.calls.Line.{Line}
@@ -33,47 +33,52 @@ noMask = 4
 -- no argument: the line is read up to the end of its keyword
 abbrev pub bareCall : ℕ → ℕ → Line
 bareCall keyword at =
-    record { keyword = keyword; number = 0; masks = noMasks; mask = noMask; warm = false; csv = false; x = bits 0; y = bits 0; re = bits 0x3f800000; im = bits 0; start = at; end = at; at = at; fault = 0; «fault_at» = 0 }
+    record { keyword = keyword; number = 0; sweeps = 0; masks = noMasks; mask = noMask; warm = false; csv = false; x = bits 0; y = bits 0; re = bits 0x3f800000; im = bits 0; start = at; end = at; at = at; fault = 0; «fault_at» = 0 }
 
 -- a fault and its place
 abbrev pub wrong : Line → ℕ → ℕ → Line
 wrong l fault place =
-    record { keyword = l .keyword; number = l .number; masks = l .masks; mask = l .mask; warm = l .warm; csv = l .csv; x = l .x; y = l .y; re = l .re; im = l .im; start = l .start; end = l .end; at = l .at; fault = fault; «fault_at» = place }
+    record { keyword = l .keyword; number = l .number; sweeps = l .sweeps; masks = l .masks; mask = l .mask; warm = l .warm; csv = l .csv; x = l .x; y = l .y; re = l .re; im = l .im; start = l .start; end = l .end; at = l .at; fault = fault; «fault_at» = place }
 
 -- the first argument
 abbrev pub withWord : Line → Word → Line
 withWord l w =
-    record { keyword = l .keyword; number = l .number; masks = l .masks; mask = l .mask; warm = l .warm; csv = l .csv; x = l .x; y = l .y; re = l .re; im = l .im; start = w .start; end = w .end; at = w .end; fault = l .fault; «fault_at» = l .«fault_at» }
+    record { keyword = l .keyword; number = l .number; sweeps = l .sweeps; masks = l .masks; mask = l .mask; warm = l .warm; csv = l .csv; x = l .x; y = l .y; re = l .re; im = l .im; start = w .start; end = w .end; at = w .end; fault = l .fault; «fault_at» = l .«fault_at» }
 
--- a body, a joint, a count or a substep
+-- a body, a joint, a count, a substep or how many substeps
 abbrev pub withNumber : Line → ℕ → Line
 withNumber l n =
-    record { keyword = l .keyword; number = n; masks = l .masks; mask = l .mask; warm = l .warm; csv = l .csv; x = l .x; y = l .y; re = l .re; im = l .im; start = l .start; end = l .end; at = l .at; fault = l .fault; «fault_at» = l .«fault_at» }
+    record { keyword = l .keyword; number = n; sweeps = l .sweeps; masks = l .masks; mask = l .mask; warm = l .warm; csv = l .csv; x = l .x; y = l .y; re = l .re; im = l .im; start = l .start; end = l .end; at = l .at; fault = l .fault; «fault_at» = l .«fault_at» }
 
 abbrev pub withPlace : Line → ℕ → Line
 withPlace l place =
-    record { keyword = l .keyword; number = l .number; masks = l .masks; mask = l .mask; warm = l .warm; csv = l .csv; x = l .x; y = l .y; re = l .re; im = l .im; start = l .start; end = l .end; at = place; fault = l .fault; «fault_at» = l .«fault_at» }
+    record { keyword = l .keyword; number = l .number; sweeps = l .sweeps; masks = l .masks; mask = l .mask; warm = l .warm; csv = l .csv; x = l .x; y = l .y; re = l .re; im = l .im; start = l .start; end = l .end; at = place; fault = l .fault; «fault_at» = l .«fault_at» }
 
 abbrev pub withPose : Line → Float → Float → ℕ → Line
 withPose l x y place =
-    record { keyword = l .keyword; number = l .number; masks = l .masks; mask = l .mask; warm = l .warm; csv = l .csv; x = x; y = y; re = l .re; im = l .im; start = l .start; end = l .end; at = place; fault = l .fault; «fault_at» = l .«fault_at» }
+    record { keyword = l .keyword; number = l .number; sweeps = l .sweeps; masks = l .masks; mask = l .mask; warm = l .warm; csv = l .csv; x = x; y = y; re = l .re; im = l .im; start = l .start; end = l .end; at = place; fault = l .fault; «fault_at» = l .«fault_at» }
 
 abbrev pub withRotation : Line → Float → Float → ℕ → Line
 withRotation l re im place =
-    record { keyword = l .keyword; number = l .number; masks = l .masks; mask = l .mask; warm = l .warm; csv = l .csv; x = l .x; y = l .y; re = re; im = im; start = l .start; end = l .end; at = place; fault = l .fault; «fault_at» = l .«fault_at» }
+    record { keyword = l .keyword; number = l .number; sweeps = l .sweeps; masks = l .masks; mask = l .mask; warm = l .warm; csv = l .csv; x = l .x; y = l .y; re = re; im = im; start = l .start; end = l .end; at = place; fault = l .fault; «fault_at» = l .«fault_at» }
 
 abbrev pub withWarm : Line → Float → ℕ → Line
 withWarm l x place =
-    record { keyword = l .keyword; number = l .number; masks = l .masks; mask = l .mask; warm = true; csv = l .csv; x = x; y = l .y; re = l .re; im = l .im; start = l .start; end = l .end; at = place; fault = l .fault; «fault_at» = l .«fault_at» }
+    record { keyword = l .keyword; number = l .number; sweeps = l .sweeps; masks = l .masks; mask = l .mask; warm = true; csv = l .csv; x = x; y = l .y; re = l .re; im = l .im; start = l .start; end = l .end; at = place; fault = l .fault; «fault_at» = l .«fault_at» }
 
 abbrev pub withCsv : Line → Line
 withCsv l =
-    record { keyword = l .keyword; number = l .number; masks = l .masks; mask = l .mask; warm = l .warm; csv = true; x = l .x; y = l .y; re = l .re; im = l .im; start = l .start; end = l .end; at = l .at; fault = l .fault; «fault_at» = l .«fault_at» }
+    record { keyword = l .keyword; number = l .number; sweeps = l .sweeps; masks = l .masks; mask = l .mask; warm = l .warm; csv = true; x = l .x; y = l .y; re = l .re; im = l .im; start = l .start; end = l .end; at = l .at; fault = l .fault; «fault_at» = l .«fault_at» }
+
+-- the rounds of a frame's sweeps: the number that was read last
+abbrev pub withSweeps : Line → Line
+withSweeps l =
+    record { keyword = l .keyword; number = l .number; sweeps = l .number; masks = l .masks; mask = l .mask; warm = l .warm; csv = l .csv; x = l .x; y = l .y; re = l .re; im = l .im; start = l .start; end = l .end; at = l .at; fault = l .fault; «fault_at» = l .«fault_at» }
 
 -- the axes that follow are of mask i
 abbrev pub withMask : Line → ℕ → ℕ → Line
 withMask l i place =
-    record { keyword = l .keyword; number = l .number; masks = l .masks; mask = i; warm = l .warm; csv = l .csv; x = l .x; y = l .y; re = l .re; im = l .im; start = l .start; end = l .end; at = place; fault = l .fault; «fault_at» = l .«fault_at» }
+    record { keyword = l .keyword; number = l .number; sweeps = l .sweeps; masks = l .masks; mask = i; warm = l .warm; csv = l .csv; x = l .x; y = l .y; re = l .re; im = l .im; start = l .start; end = l .end; at = place; fault = l .fault; «fault_at» = l .«fault_at» }
 
 -- mask k with the bits b where mask i gets them
 abbrev pub withBits : ℕ → ℕ → ℕ → ℕ → ℕ
@@ -90,7 +95,7 @@ masksWith m i b = record {
 -- the mask that was named last, with bits
 abbrev pub withAxes : Line → ℕ → ℕ → Line
 withAxes l b place =
-    record { keyword = l .keyword; number = l .number; masks = masksWith (l .masks) (l .mask) b; mask = l .mask; warm = l .warm; csv = l .csv; x = l .x; y = l .y; re = l .re; im = l .im; start = l .start; end = l .end; at = place; fault = l .fault; «fault_at» = l .«fault_at» }
+    record { keyword = l .keyword; number = l .number; sweeps = l .sweeps; masks = masksWith (l .masks) (l .mask) b; mask = l .mask; warm = l .warm; csv = l .csv; x = l .x; y = l .y; re = l .re; im = l .im; start = l .start; end = l .end; at = place; fault = l .fault; «fault_at» = l .«fault_at» }
 
 -- ---- one argument
 
@@ -166,6 +171,32 @@ buildOf text l v w =
 
 abbrev pub readBuild : List ℕ → Line → Line
 readBuild text l = buildOf text l (first text l) (second text l)
+
+-- `substeps N`
+unfoldable pub substepsOf : List ℕ → Line → Word → Line
+substepsOf text l v = cond (isWord text v (ascii "substeps")) (readWhole text (withPlace l (v .end))) (wrong l faultSubsteps (v .start))
+
+abbrev pub readSubsteps : List ℕ → Line → Line
+readSubsteps text l = substepsOf text l (first text l)
+
+-- after rounds that were read
+unfoldable pub afterRounds : List ℕ → Line → Line
+afterRounds text r = cond (eqb (r .fault) 0) (readSubsteps text (withSweeps r)) r
+
+-- `sweeps N`, then `substeps N`
+unfoldable pub sweepsOf : List ℕ → Line → Word → Line
+sweepsOf text l v = cond (isWord text v (ascii "sweeps")) (afterRounds text (readWhole text (withPlace l (v .end)))) (wrong l faultSubsteps (v .start))
+
+abbrev pub readSweeps : List ℕ → Line → Line
+readSweeps text l = sweepsOf text l (first text l)
+
+-- `frame`, then `warm C` or nothing, then `sweeps N` and `substeps N`
+unfoldable pub frameOf : List ℕ → Line → Word → Word → Line
+frameOf text l v w =
+    cond (isWord text v (ascii "warm")) (ofNumber l w (numberIn text w) (λ c. readSweeps text (withWarm l c (w .end)))) (readSweeps text l)
+
+abbrev pub readFrame : List ℕ → Line → Line
+readFrame text l = frameOf text l (first text l) (second text l)
 
 -- `table`, then `csv` or nothing
 unfoldable pub csvOf : List ℕ → Line → Word → Line
@@ -252,7 +283,8 @@ otherArguments text names bodies joints repeats l place =
     (cond (eqb (l .keyword) endKeyword) (readEnd repeats l place)
     (cond (eqb (l .keyword) tableKeyword) (readCsv text l)
     (cond (eqb (l .keyword) settleKeyword) (readSettle text l)
-    (cond (eqb (l .keyword) masksKeyword) (readMasks text names joints l) l)))))))
+    (cond (eqb (l .keyword) masksKeyword) (readMasks text names joints l)
+    (cond (eqb (l .keyword) frameKeyword) (readFrame text l) l))))))))
 
 unfoldable pub arguments : List ℕ → List ℕ → ℕ → ℕ → Bool → Line → ℕ → Line
 arguments text names bodies joints repeats l place =

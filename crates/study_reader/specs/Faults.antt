@@ -75,3 +75,6 @@ faultPlainName = 24
 
 abbrev pub faultMask : ℕ
 faultMask = 25
+
+abbrev pub faultSubsteps : ℕ
+faultSubsteps = 26

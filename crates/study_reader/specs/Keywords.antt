@@ -248,6 +248,9 @@ settleKeyword = 44
 abbrev pub masksKeyword : ℕ
 masksKeyword = 45
 
+abbrev pub frameKeyword : ℕ
+frameKeyword = 46
+
 abbrev pub callWords : List (Named ℕ)
 callWords =
     named "load" loadKeyword ∷
@@ -269,6 +272,7 @@ readWords =
     named "table" tableKeyword ∷
     named "settle" settleKeyword ∷
     named "masks" masksKeyword ∷
+    named "frame" frameKeyword ∷
     []
 
 abbrev pub callKeyword : List ℕ → Word → ℕ

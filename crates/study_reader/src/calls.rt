@@ -1,6 +1,6 @@
 // The line of a call: what it asks for.
 ghost use mathlib.Core.Path.{_≡_};
-ghost use Rattle.study_reader.specs.Calls.{bareCall, wrong, withWord, withNumber, withPlace, withPose, withRotation, withWarm, withCsv, readWhole, readBody, readJoint, readPose, readRotation, readBuild, readSubstep, readCsv, readMost, readSettle, readFile, readRepeat, readEnd, readPlace, withBits, masksWith, withMask, withAxes, maskNamed, bitOf, bitsOf, maskWord, maskStep, readMasks, otherArguments, readCall};
+ghost use Rattle.study_reader.specs.Calls.{bareCall, wrong, withWord, withNumber, withPlace, withPose, withRotation, withWarm, withCsv, withSweeps, readWhole, readBody, readJoint, readPose, readRotation, readBuild, readSubstep, readSubsteps, afterRounds, readSweeps, readFrame, readCsv, readMost, readSettle, readFile, readRepeat, readEnd, readPlace, withBits, masksWith, withMask, withAxes, maskNamed, bitOf, bitsOf, maskWord, maskStep, readMasks, otherArguments, readCall};
 use crate::faults::CSV;
 use crate::faults::FILE_NAME;
 use crate::faults::MASK;
@@ -8,10 +8,12 @@ use crate::faults::NESTED;
 use crate::faults::NO_BODY;
 use crate::faults::NO_JOINT;
 use crate::faults::NO_REPEAT;
+use crate::faults::SUBSTEPS;
 use crate::faults::WARM;
 use crate::faults::WHOLE_NUMBER;
 use crate::keywords::BUILD;
 use crate::keywords::END;
+use crate::keywords::FRAME;
 use crate::keywords::LOCK;
 use crate::keywords::MASKS;
 use crate::keywords::MOTOR_MODEL;
@@ -44,11 +46,12 @@ use rows::generic_joint::Masks;
 // The locked, limited, driven and coupled axes are masks 0 to 3; none of them is 4.
 const NO_MASK: u32 = 4;
 
-// A call, with its numbers: a body, a joint, a count or a substep; a pose; a warm coefficient, where there is one; a tolerance, as x. `start` and `end` are those of its
+// A call, with its numbers: a body, a joint, a count, a substep or how many substeps; the rounds of a frame's sweeps; a pose; a warm coefficient, where there is one; a tolerance, as x. `start` and `end` are those of its
 // first argument, `at` is where what was read of it ends. Of new masks, `mask` is the one that the axes that follow belong to.
 pub struct Line {
     pub keyword: u32,
     pub number: u32,
+    pub sweeps: u32,
     pub masks: Masks,
     pub mask: u32,
     pub warm: bool,
@@ -72,6 +75,7 @@ fn bare_call(keyword: u32, at: usize) -> Line
     Line {
         keyword,
         number: 0,
+        sweeps: 0,
         masks: Masks {
             locked_axes: 0,
             limit_axes: 0,
@@ -164,6 +168,15 @@ fn with_csv(l: Line) -> Line
 {
     let mut r = l;
     r.csv = true;
+    r
+}
+
+// The rounds of a frame's sweeps are the number that was read last.
+fn with_sweeps(l: Line) -> Line
+    ensures { λ r. ⌜ r ≡ withSweeps l ⌝ }
+{
+    let mut r = l;
+    r.sweeps = l.number;
     r
 }
 
@@ -311,6 +324,55 @@ fn read_build(text: &[u8], l: Line) -> Line
         return read_substep(text, with_warm(l, value_of(c), w.end));
     }
     read_substep(text, l)
+}
+
+fn read_substeps(text: &[u8], l: Line) -> Line
+    ensures { λ r. ⌜ r ≡ readSubsteps (now (text .entry)) l ⌝ }
+{
+    let v = next_word(text, l.at);
+    if is(text, v, b"substeps") {
+        return read_whole(text, with_place(l, v.end));
+    }
+    wrong(l, SUBSTEPS, v.start)
+}
+
+// What stands after rounds that were read.
+fn after_rounds(text: &[u8], l: Line) -> Line
+    ensures { λ r. ⌜ r ≡ afterRounds (now (text .entry)) l ⌝ }
+{
+    if l.fault == 0 {
+        return read_substeps(text, with_sweeps(l));
+    }
+    l
+}
+
+// `sweeps N`, then `substeps N`.
+fn read_sweeps(text: &[u8], l: Line) -> Line
+    ensures { λ r. ⌜ r ≡ readSweeps (now (text .entry)) l ⌝ }
+{
+    let v = next_word(text, l.at);
+    if is(text, v, b"sweeps") {
+        let r = read_whole(text, with_place(l, v.end));
+        return after_rounds(text, r);
+    }
+    wrong(l, SUBSTEPS, v.start)
+}
+
+// `warm C` or nothing, then the rounds and the substeps.
+fn read_frame(text: &[u8], l: Line) -> Line
+    ensures { λ r. ⌜ r ≡ readFrame (now (text .entry)) l ⌝ }
+{
+    let v = next_word(text, l.at);
+    if is(text, v, b"warm") {
+        let w = next_word(text, v.end);
+        let c = number_in(text, w);
+        let fault = number_fault(c);
+        if fault != 0 {
+            return wrong(l, fault, w.start);
+        }
+        return read_sweeps(text, with_warm(l, value_of(c), w.end));
+    }
+    read_sweeps(text, l)
 }
 
 fn read_csv(text: &[u8], l: Line) -> Line
@@ -504,6 +566,9 @@ fn read_other_call(
     }
     if keyword == MASKS {
         return read_masks(text, names, joints, l);
+    }
+    if keyword == FRAME {
+        return read_frame(text, l);
     }
     l
 }

@@ -48,3 +48,5 @@ pub const LONG_NAME: u32 = 23;
 pub const PLAIN_NAME: u32 = 24;
 
 pub const MASK: u32 = 25;
+
+pub const SUBSTEPS: u32 = 26;

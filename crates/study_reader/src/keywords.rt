@@ -74,6 +74,8 @@ pub const SETTLE: u32 = 44;
 
 pub const MASKS: u32 = 45;
 
+pub const FRAME: u32 = 46;
+
 // The word that starts an item or gives what is no plain number.
 pub fn item_keyword(text: &[u8], w: Word) -> u32
     ensures { λ r. ⌜ r ≡ itemKeyword (now (text .entry)) w ⌝ }
@@ -127,6 +129,7 @@ pub fn call_keyword(text: &[u8], w: Word) -> u32
         table 43\n\
         settle 44\n\
         masks 45\n\
+        frame 46\n\
         ",
         NO_KEYWORD,
         text,

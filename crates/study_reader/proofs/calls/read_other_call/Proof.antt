@@ -63,9 +63,16 @@ returns-8 : tie.Need-returns-8
 unfolding otherArguments
 returns-8 c = c .read-masks .ensures ∙ true-is _ _ _ (eq-eqb _ _ (c .before .if8 .taken)) ∙ false-is _ _ _ (ne-eqb _ _ (c .before .before .if7 .left)) ∙ false-is _ _ _ (ne-eqb _ _ (c .before .before .before .if6 .left)) ∙ false-is _ _ _ (ne-eqb _ _ (c .before .before .before .before .if5 .left)) ∙ false-is _ _ _ (ne-eqb _ _ (c .before .before .before .before .before .if4 .left)) ∙ false-is _ _ _ (ne-eqb _ _ (c .before .before .before .before .before .before .if3 .left)) ∙ false-is _ _ _ (ne-eqb _ _ (c .before .before .before .before .before .before .before .if2 .left)) ∙ false-is _ _ _ (ne-eqb _ _ (c .before .before .before .before .before .before .before .before .if1 .left))
 
+read-frame-requires : tie.Need-read-frame-requires
+read-frame-requires c κs = search needs
+
 returns-9 : tie.Need-returns-9
 unfolding otherArguments
-returns-9 c = false-is _ _ _ (ne-eqb _ _ (c .if8 .left)) ∙ false-is _ _ _ (ne-eqb _ _ (c .before .if7 .left)) ∙ false-is _ _ _ (ne-eqb _ _ (c .before .before .if6 .left)) ∙ false-is _ _ _ (ne-eqb _ _ (c .before .before .before .if5 .left)) ∙ false-is _ _ _ (ne-eqb _ _ (c .before .before .before .before .if4 .left)) ∙ false-is _ _ _ (ne-eqb _ _ (c .before .before .before .before .before .if3 .left)) ∙ false-is _ _ _ (ne-eqb _ _ (c .before .before .before .before .before .before .if2 .left)) ∙ false-is _ _ _ (ne-eqb _ _ (c .before .before .before .before .before .before .before .if1 .left))
+returns-9 c = c .read-frame .ensures ∙ true-is _ _ _ (eq-eqb _ _ (c .before .if9 .taken)) ∙ false-is _ _ _ (ne-eqb _ _ (c .before .before .if8 .left)) ∙ false-is _ _ _ (ne-eqb _ _ (c .before .before .before .if7 .left)) ∙ false-is _ _ _ (ne-eqb _ _ (c .before .before .before .before .if6 .left)) ∙ false-is _ _ _ (ne-eqb _ _ (c .before .before .before .before .before .if5 .left)) ∙ false-is _ _ _ (ne-eqb _ _ (c .before .before .before .before .before .before .if4 .left)) ∙ false-is _ _ _ (ne-eqb _ _ (c .before .before .before .before .before .before .before .if3 .left)) ∙ false-is _ _ _ (ne-eqb _ _ (c .before .before .before .before .before .before .before .before .if2 .left)) ∙ false-is _ _ _ (ne-eqb _ _ (c .before .before .before .before .before .before .before .before .before .if1 .left))
+
+returns-10 : tie.Need-returns-10
+unfolding otherArguments
+returns-10 c = false-is _ _ _ (ne-eqb _ _ (c .if9 .left)) ∙ false-is _ _ _ (ne-eqb _ _ (c .before .if8 .left)) ∙ false-is _ _ _ (ne-eqb _ _ (c .before .before .if7 .left)) ∙ false-is _ _ _ (ne-eqb _ _ (c .before .before .before .if6 .left)) ∙ false-is _ _ _ (ne-eqb _ _ (c .before .before .before .before .if5 .left)) ∙ false-is _ _ _ (ne-eqb _ _ (c .before .before .before .before .before .if4 .left)) ∙ false-is _ _ _ (ne-eqb _ _ (c .before .before .before .before .before .before .if3 .left)) ∙ false-is _ _ _ (ne-eqb _ _ (c .before .before .before .before .before .before .before .if2 .left)) ∙ false-is _ _ _ (ne-eqb _ _ (c .before .before .before .before .before .before .before .before .if1 .left))
 
 pub read-other-call-spec : {M : Type 1} → statement M
 read-other-call-spec =
@@ -87,4 +94,6 @@ read-other-call-spec =
     returns-7
     read-masks-requires
     returns-8
-    returns-9)
+    read-frame-requires
+    returns-9
+    returns-10)
