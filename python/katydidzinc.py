@@ -35,7 +35,7 @@ except ImportError:
 # ---- the header's numbers
 
 WORLD = 4294967295
-MOST_BODIES, MOST_JOINTS, MOST_ROUNDS, MOST_ROWS = 128, 128, 64, 6
+MOST_BODIES, MOST_JOINTS, MOST_ROUNDS, MOST_SUBSTEPS, MOST_ROWS = 128, 128, 64, 16, 6
 POSE_RE, POSE_IM, POSE_X, POSE_Y = range(4)
 BODY_WIDTH = 10
 POSE, INERTIA, MASS_X, MASS_Y, VELOCITY_X, VELOCITY_Y, VELOCITY_ANGULAR = 0, 4, 5, 6, 7, 8, 9
@@ -63,7 +63,7 @@ MICRO_OVER, MICRO_NAN = 4294967296, 8589934592
 
 TOO_MANY_BODIES, TOO_MANY_JOINTS, LARGE_MASK, ABSENT_BODY, SAME_BODY, NOT_FINITE = range(1, 7)
 NEGATIVE_DT, SMALL_STORAGE, TOO_MANY_ROUNDS, NOT_BUILT, ABSENT, LARGE_ANGLE = range(7, 13)
-BROKEN_TABLE, NOT_THREE_NUMBERS, ABSENT_AXIS = range(13, 16)
+BROKEN_TABLE, NOT_THREE_NUMBERS, ABSENT_AXIS, SUBSTEPS = range(13, 17)
 SHORT_SLICE, BAD_SLICE, OVERLAP, FLOAT_MODE = range(1000, 1004)
 
 RULES = {
@@ -82,6 +82,7 @@ RULES = {
     BROKEN_TABLE: "a motor table breaks RFC 4180's grammar or holds more than 4096 records",
     NOT_THREE_NUMBERS: "a record is not exactly three whole numbers, each at most 8000000 in size",
     ABSENT_AXIS: "a record's joint or axis is absent",
+    SUBSTEPS: "a frame of no substep or of more than 16 is wanted",
     SHORT_SLICE: "a slice is too short for what is read, counted or drawn",
     BAD_SLICE: "a slice is NULL, not aligned or longer than memory",
     OVERLAP: "two slices overlap",
@@ -139,6 +140,7 @@ _ARGUMENTS = {
     "read_rows": _model + _numbers + (_u32,) + _numbers + _words,
     "read_velocity": _model + (_u32,) + _numbers,
     "set_targets": _model + _bytes,
+    "frame": _model + _numbers + (_u32, _f32, _u32, _u32) + _bytes,
     "reaction": _numbers + _words + _numbers + (_u32,) + _numbers + (_u32,) + _numbers,
     "seeded": (_u32,) + _numbers + _numbers + _words + _numbers,
     "motor_table_read": _bytes + (_u32,),
@@ -416,7 +418,7 @@ def _shown(x):
 
 
 class Study:
-    """A model with its row storage. `built` is the mark: load and a mask change clear it and build sets it."""
+    """A model with its row storage. `built` is the mark: load and a mask change clear it, and build and frame set it."""
 
     def __init__(self, bodies=(), joints=(), dt=1.0 / 60.0, length_unit=1.0, normalized_max_corrective_velocity=3.0):
         self.dt, self.length_unit, self.normalized_max_corrective_velocity = dt, length_unit, normalized_max_corrective_velocity
@@ -509,8 +511,18 @@ class Study:
 
     def sweep(self, n=1):
         """Solves each row n times, joints ascending. A list, a number a joint: how many of its motor rows were at a bound in the last round."""
+        return self._counted("sweep", _word(n))
+
+    def frame(self, sweeps=4, substeps=1, warm=None):
+        """Moves the study on by dt, in substeps of dt/substeps: each builds, with the warm coefficient where one is given, warm starts, sweeps so many rounds, moves every body by its velocity, takes the
+        bias from each row and sweeps again; after the last comes a write-back. Sets the mark. A list as of the last sweep. Where a body would leave the finite numbers it is refused, and nothing has moved."""
+        counts = self._counted("frame", int(warm is not None), 0.0 if warm is None else warm, _word(sweeps), _word(substeps))
+        self.built = True
+        return counts
+
+    def _counted(self, name, *arguments):
         counts = (ctypes.c_uint8 * MOST_JOINTS)()
-        self._call("sweep", True, _word(n), of_bytes=(counts, MOST_JOINTS))
+        self._call(name, True, *arguments, of_bytes=(counts, MOST_JOINTS))
         joints = min(memoryview(self.words).nbytes // (4 * WORDS_WIDTH), memoryview(self.numbers).nbytes // (4 * NUMBERS_WIDTH))
         return list(counts[:joints])
 

@@ -223,6 +223,36 @@ class Calls(unittest.TestCase):
         s.load()
         self.assertEqual(firsts(), [0, 2])
 
+    def test_frame(self):
+        f32 = lambda x: struct.unpack("f", struct.pack("f", x))[0]
+
+        def moved(n, h):
+            """A body's new pose, each operation rounded once."""
+            a = f32(n[9] * h)
+            re, im = f32(n[0] - f32(n[1] * a)), f32(n[1] + f32(n[0] * a))
+            length = f32(math.sqrt(f32(f32(re * re) + f32(im * im))))
+            re, im = (f32(re / length), f32(im / length)) if length else (n[0], n[1])
+            return f32(n[2] + f32(n[7] * h)), f32(n[3] + f32(n[8] * h)), re, im
+
+        for warm, sweeps, substeps in ((None, 1, 1), (0.75, 4, 3), (1.0, 0, 2), (None, 64, 16)):
+            whole, parts = pendulum(), pendulum()
+            dt = parts.dt
+            for _ in range(3):
+                told = whole.frame(sweeps, substeps, warm)
+                parts.dt = f32(f32(dt) / substeps)
+                for i in range(substeps):
+                    parts.build(warm, i)
+                    parts.warm_start()
+                    parts.sweep(sweeps)
+                    parts.place("bob", *moved(list(memoryview(parts.bodies).cast("B").cast("f")), parts.dt))
+                    parts.remove_bias()
+                    counts = parts.sweep(sweeps)
+                parts.write_back()
+                parts.dt = dt
+                self.assertEqual((told, held(whole)), (counts, held(parts)))
+                self.assertTrue(whole.built)
+                self.assertEqual(whole.dt, dt)
+
     def test_motor_table(self):
         records = [(0, 2, -1500), (127, 0, 8000000), (3, 1, 0)]
         text = kz.write_motor_table(records)
@@ -338,6 +368,16 @@ class Refusals(unittest.TestCase):
         ):
             self.refused(kz.ABSENT, s, call)
         self.refused(kz.LARGE_MASK, s, lambda: s.set_masks(1, 8))
+        for substeps in (0, 17, 2**32 - 1):
+            self.refused(kz.SUBSTEPS, s, lambda: s.frame(64, substeps))
+            self.refused(kz.TOO_MANY_ROUNDS, s, lambda: s.frame(65, substeps))
+        self.refused(kz.NOT_FINITE, s, lambda: s.frame(4, 1, math.nan))
+        # a body that leaves the finite numbers in the second of four substeps, and what it had done before is undone
+        free = kz.Study([kz.Body("bob", (1.0, 0.0), (1.0, 0.0), 10.0, (1.0, 1.0), (0.0, -1.0)), kz.Body("stone", (kz.MAX * 0.625, 0.0), velocity=(kz.MAX, 0.0))],
+                        [kz.Joint("pin", "world", "bob", kz.LIN_X | kz.LIN_Y, frame2=kz.Pose(x=-1.0))], dt=1.0)
+        for _ in range(2):
+            self.refused(kz.NOT_FINITE, free, lambda: free.frame(4, 4, 1.0))
+            free.build()
         s.rows = array.array("f", [0.0] * 72)
         self.refused(kz.SMALL_STORAGE, s, lambda: s.set_masks(0, limit_axes=kz.LIN_X | kz.ANG_X, locked_axes=0, motor_axes=kz.ALL_AXES))
         s.rows = array.array("f", [0.0] * 71)
@@ -360,6 +400,7 @@ class Refusals(unittest.TestCase):
         for n in (0, 127):
             counts = (ctypes.c_uint8 * 128)(*[7] * 128)
             self.refused(kz.SHORT_SLICE, s, lambda: s._call("sweep", True, 1, of_bytes=(counts, n)))
+            self.refused(kz.SHORT_SLICE, s, lambda: s._call("frame", True, 0, 0.0, 1, 1, of_bytes=(counts, n)))
             self.assertEqual(set(counts), {7})
         out = array.array("f", [7.0] * 2)
         self.refused(kz.SHORT_SLICE, s, lambda: s._call("read_velocity", False, 0, out=out))
@@ -369,7 +410,7 @@ class Refusals(unittest.TestCase):
         s = pendulum()
         s.load()
         s.build()
-        for call in (lambda: s.sweep(2**32), lambda: s.read_rows(2**32), lambda: s.read_velocity(-1), lambda: s.set_masks(0, 2**32)):
+        for call in (lambda: s.sweep(2**32), lambda: s.read_rows(2**32), lambda: s.read_velocity(-1), lambda: s.set_masks(0, 2**32), lambda: s.frame(1, -1)):
             with self.assertRaises(OverflowError):
                 call()
         whole = array.array("f", [0.0] * 200)

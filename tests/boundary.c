@@ -5,7 +5,7 @@
  * Each slice lies in a page of its own between two pages that cannot be read, flush with one of them, and the rest of its page holds a pattern. So a
  * number or byte read or written past an end of a slice that is flush there ends the program; one that is written elsewhere breaks the pattern. A refused call, and one whose
  * slice is too short, must leave every slice as it was; a granted one may change only the slices that the header names, a build and a row read only so
- * many rows as they answer, a sweep only the first 128 of the bytes for its counts, a load only first rows, a mask change these and four masks. The program itself is to be compiled with -fsanitize=address,undefined.
+ * many rows as they answer, a sweep and a frame only the first 128 of the bytes for their counts, a frame no mass and no part of a record, a load only first rows, a mask change these and four masks. The program itself is to be compiled with -fsanitize=address,undefined.
  */
 #define _DEFAULT_SOURCE
 #include "katydidzinc.h"
@@ -20,7 +20,7 @@
 #define BODIES 3
 #define MOST 512 /* words in a page that a slice may take */
 #define BYTES 200  /* bytes of a motor table, at most */
-#define COUNTS 160 /* bytes for a sweep's counts are fewer */
+#define COUNTS 160 /* bytes for the counts of a sweep or a frame are fewer */
 #define GUARD 16
 #define PATTERN UINT32_C(0x7FEDCBA9)
 
@@ -33,14 +33,14 @@ static const size_t whole[SLICES] = {BODIES * KATYDIDZINC_BODY_WIDTH,
                                      KATYDIDZINC_READ_NUMBERS,
                                      KATYDIDZINC_READ_IDS};
 
-enum { LOAD, PLACE, BUILD, WARM_START, SWEEP, REMOVE_BIAS, WRITE_BACK, READ_ROWS, READ_VELOCITY, SET_TARGETS, SET_MASKS, REACTION, RESIDUAL, CALLS };
+enum { LOAD, PLACE, BUILD, WARM_START, SWEEP, REMOVE_BIAS, WRITE_BACK, READ_ROWS, READ_VELOCITY, SET_TARGETS, SET_MASKS, FRAME, REACTION, RESIDUAL, CALLS };
 static const char *const call_names[CALLS] = {"load",          "place",       "build",       "warm start", "sweep",   "bias removal", "write-back", "row read",
-                                              "velocity read", "motor table", "mask change", "reaction",   "residual"};
+                                              "velocity read", "motor table", "mask change", "frame",      "reaction", "residual"};
 /* which slices a granted call may write */
 static const unsigned writes[CALLS] = {1 << IN_WORDS, 1 << IN_BODIES, 1 << IN_ROWS, 1 << IN_BODIES, 1 << IN_BODIES | 1 << IN_ROWS,
-                                       1 << IN_ROWS, 1 << IN_NUMBERS, 1 << IN_OUT | 1 << IN_IDS, 1 << IN_OUT, 1 << IN_NUMBERS, 1 << IN_WORDS, 1 << IN_OUT, 0};
+                                       1 << IN_ROWS, 1 << IN_NUMBERS, 1 << IN_OUT | 1 << IN_IDS, 1 << IN_OUT, 1 << IN_NUMBERS, 1 << IN_WORDS, 1 << IN_BODIES | 1 << IN_NUMBERS | 1 << IN_ROWS, 1 << IN_OUT, 0};
 
-/* A slice of bytes beside those: a sweep's counts, or a motor table. */
+/* A slice of bytes beside those: the counts of a sweep or a frame, or a motor table. */
 static unsigned char *byte_page;
 static unsigned char byte_model[BYTES];
 static unsigned char byte_lengths_seen[COUNTS];
@@ -48,11 +48,12 @@ static unsigned char byte_lengths_seen[COUNTS];
 static uint32_t *pages[SLICES];
 static size_t page_words;
 static uint32_t model[SLICES][MOST]; /* what a slice holds before the call */
-static uint64_t answers[CALLS][17]; /* granted, refused with 1 to 15, short */
-#define SHORT 16
+static uint64_t answers[CALLS][18]; /* granted, refused with 1 to 16, short */
+#define SHORT 17
 static unsigned char lengths_seen[SLICES][MOST];
 
-static uint64_t motors_at_bound; /* counted by granted sweeps */
+static uint64_t motors_at_bound; /* counted by granted sweeps and frames */
+static uint64_t moves;           /* bodies that granted frames moved */
 static uint64_t first_rows;      /* above 0, stored by granted loads and mask changes */
 static uint64_t tables_read;
 static uint64_t models_drawn, models_short;
@@ -277,7 +278,7 @@ static void one_call(void)
     }
     bytes_len = call == SET_TARGETS ? draw_table() : draw_counts();
     bytes_at = lend_bytes(bytes_len, at_end);
-    if (call == SWEEP) {
+    if (call == SWEEP || call == FRAME) {
         byte_lengths_seen[bytes_len] = 1;
     }
     for (i = 0; i < SLICES; i++) {
@@ -305,6 +306,16 @@ static void one_call(void)
     case READ_VELOCITY: answer = katydidzinc_study_read_velocity(&s, index, (float *)(void *)at[IN_OUT], lens[IN_OUT]); break;
     case SET_TARGETS: answer = katydidzinc_study_set_targets(&s, bytes_at, bytes_len); break;
     case SET_MASKS: answer = katydidzinc_study_set_masks(&s, index, masks[0], masks[1], masks[2], masks[3]); break;
+    case FRAME:
+        if (bytes_len == KATYDIDZINC_MOST_JOINTS && draw(2)) {
+            memcpy(s.counts, bytes_at, KATYDIDZINC_MOST_JOINTS);
+            answer = katydidzinc_study_frame(&s, draw(2), 0.5f, n, draw(8) == 0 ? 17 * draw(2) : 1 + draw(3));
+            memcpy(bytes_at, s.counts, KATYDIDZINC_MOST_JOINTS);
+        } else {
+            answer = katydidzinc_frame(KATYDIDZINC_MODEL_OF(&s), KATYDIDZINC_ROWS_OF(&s), draw(2), 0.5f, n, draw(8) == 0 ? 17 * draw(2) : 1 + draw(3), bytes_at, bytes_len);
+            s.built = katydidzinc_granted(answer) ? 1 : s.built;
+        }
+        break;
     /* no calls on a model: any rows, any joint, any number of rows, and nothing is refused */
     case REACTION:
         answer = katydidzinc_reaction(s.bodies, s.bodies_len, s.words, s.words_len, s.numbers, s.numbers_len, index, s.rows, s.rows_len, draw(2) ? draw(9) : KATYDIDZINC_WORLD,
@@ -318,7 +329,7 @@ static void one_call(void)
         if ((call == BUILD || call == READ_ROWS) != (answer >= KATYDIDZINC_ROWS_GRANTED)) {
             fail("a wrong kind of answer", call, SLICES, answer, lens);
         }
-        before = call == LOAD || call == SET_MASKS ? 0 : call == BUILD ? 1 : mark;
+        before = call == LOAD || call == SET_MASKS ? 0 : call == BUILD || call == FRAME ? 1 : mark;
         if ((call == LOAD || call == SET_MASKS) && !right_words(at[IN_WORDS], lens, call == SET_MASKS, index, masks)) {
             fail("other words than first rows and new masks", call, IN_WORDS, answer, lens);
         }
@@ -333,10 +344,10 @@ static void one_call(void)
         if (call == READ_ROWS       ? lens[IN_OUT] >= KATYDIDZINC_READ_NUMBERS && lens[IN_IDS] >= KATYDIDZINC_READ_IDS
             : call == READ_VELOCITY ? lens[IN_OUT] >= KATYDIDZINC_VELOCITY_NUMBERS
             : call == REACTION      ? lens[IN_OUT] >= KATYDIDZINC_REACTION_NUMBERS
-                                    : call != SWEEP || bytes_len >= KATYDIDZINC_MOST_JOINTS) {
+                                    : (call != SWEEP && call != FRAME) || bytes_len >= KATYDIDZINC_MOST_JOINTS) {
             fail("no slice is short", call, IN_OUT, answer, lens);
         }
-    } else if (call != REACTION && answer >= 1 && answer <= (call == SET_TARGETS ? 15 : 12)) {
+    } else if (call != REACTION && ((answer >= 1 && answer <= (call == SET_TARGETS ? 15 : 12)) || (call == FRAME && answer == KATYDIDZINC_SUBSTEPS))) {
         answers[call][answer]++;
     } else {
         fail("no answer of the model", call, SLICES, answer, lens);
@@ -344,11 +355,11 @@ static void one_call(void)
     if (s.built != before) {
         fail("a wrong mark", call, SLICES, answer, lens);
     }
-    if (call == SWEEP && (bytes_len < KATYDIDZINC_MOST_JOINTS) != (answer == KATYDIDZINC_SHORT_SLICE)) {
-        fail("a sweep's counts: too short a slice, or not", call, SLICES, answer, lens);
+    if ((call == SWEEP || call == FRAME) && (bytes_len < KATYDIDZINC_MOST_JOINTS) != (answer == KATYDIDZINC_SHORT_SLICE)) {
+        fail("counts: too short a slice, or not", call, SLICES, answer, lens);
     }
     for (k = 0; k < bytes_len; k++) {
-        int counted = call == SWEEP && katydidzinc_granted(answer) && k < KATYDIDZINC_MOST_JOINTS;
+        int counted = (call == SWEEP || call == FRAME) && katydidzinc_granted(answer) && k < KATYDIDZINC_MOST_JOINTS;
         if (counted ? bytes_at[k] > (k < JOINTS ? 3 : 0) : bytes_at[k] != byte_model[k]) {
             fail("bytes written where none may be, or no count", call, SLICES, answer, lens);
         }
@@ -372,6 +383,16 @@ static void one_call(void)
         for (k = from; k < lens[i]; k++) {
             if (at[i][k] != model[i][k]) {
                 fail("written where nothing may be", call, i, answer, lens);
+            }
+        }
+        if (i == IN_BODIES && call == FRAME && katydidzinc_granted(answer)) {
+            for (k = 0; k < lens[i]; k++) {
+                size_t place = k % KATYDIDZINC_BODY_WIDTH;
+                int may = k / KATYDIDZINC_BODY_WIDTH < lens[i] / KATYDIDZINC_BODY_WIDTH && (place < KATYDIDZINC_INERTIA || place >= KATYDIDZINC_VELOCITY_X);
+                if (!may && at[i][k] != model[i][k]) {
+                    fail("neither a pose nor a velocity", call, i, answer, lens);
+                }
+                moves += place == KATYDIDZINC_POSE_X && at[i][k] != model[i][k];
             }
         }
         /* what a build left is the next call's row storage */
@@ -487,7 +508,7 @@ static void one_seeded(void)
 }
 
 /* What the checked calls find before they make a call. */
-#define CHECKS 21
+#define CHECKS 24
 static void checks(void)
 {
     static float bodies[KATYDIDZINC_BODY_WIDTH], numbers[KATYDIDZINC_NUMBERS_WIDTH], rows[KATYDIDZINC_ROW_WIDTH], out[KATYDIDZINC_READ_NUMBERS + 1];
@@ -514,7 +535,10 @@ static void checks(void)
                                         KATYDIDZINC_NOT_BUILT,
                                         KATYDIDZINC_OVERLAP,
                                         KATYDIDZINC_BAD_SLICE,
-                                        KATYDIDZINC_ABSENT};
+                                        KATYDIDZINC_ABSENT,
+                                        0,
+                                        KATYDIDZINC_SUBSTEPS,
+                                        KATYDIDZINC_OVERLAP};
     static const uint8_t table[] = "0,2,1\n0,2\r\n0,2,1";
     int i;
     katydidzinc_default_body(bodies);
@@ -545,6 +569,11 @@ static void checks(void)
     got[19] = katydidzinc_study_residuals(&s, 0, NULL, KATYDIDZINC_MOST_ROWS);
     t = s, t.built = 1;
     got[20] = katydidzinc_study_residuals(&t, 0, out, KATYDIDZINC_MOST_ROWS);
+    t = s;
+    got[21] = katydidzinc_study_frame(&t, 0, 0.0f, 4, KATYDIDZINC_MOST_SUBSTEPS);
+    got[22] = katydidzinc_study_frame(&t, 0, 0.0f, 4, 0);
+    t.rows = bodies + 1, t.rows_len = 1;
+    got[23] = katydidzinc_study_frame(&t, 0, 0.0f, 4, 1);
     (void)ids;
     for (i = 0; i < CHECKS; i++) {
         if (got[i] != wanted[i]) {
@@ -595,7 +624,7 @@ int main(int argc, char **argv)
         one_seeded();
     }
     printf("%-14s %8s", "", "granted");
-    for (k = 1; k <= 15; k++) {
+    for (k = 1; k <= 16; k++) {
         printf(" %6zu", k);
     }
     printf("  short\n");
@@ -620,8 +649,8 @@ int main(int argc, char **argv)
             return count >= 100000;
         }
     }
-    printf("%" PRIu64 " motors at a bound in the last rounds; %" PRIu64 " residuals that are not 0; %" PRIu64 " motor tables read, written and read again; %" PRIu64 " first rows above 0 stored\n",
-           motors_at_bound, residuals, tables_read, first_rows);
+    printf("%" PRIu64 " motors at a bound in the last rounds; %" PRIu64 " bodies moved by frames; %" PRIu64 " residuals that are not 0; %" PRIu64 " motor tables read, written and read again; %" PRIu64 " first rows above 0 stored\n",
+           motors_at_bound, moves, residuals, tables_read, first_rows);
     printf("%" PRIu64 " models drawn from seeds, and %" PRIu64 " of which nothing is written, since a slice is too short\n", models_drawn, models_short);
     printf("%ld calls, every length from 0 to two past the last record, no guard broken\n", count);
     return 0;

@@ -1,5 +1,5 @@
 /* Faults at the boundary, each of which tests/boundary.c must find: the library's functions with one of them, which the variable FAULT names; 0 is
- * none. Linked with --wrap for load, set_masks, build, read_rows and read_velocity. */
+ * none. Linked with --wrap for load, set_masks, build, read_rows, read_velocity and frame. */
 #include "katydidzinc.h"
 
 #include <stdlib.h>
@@ -21,6 +21,13 @@ uint64_t __real_katydidzinc_read_rows(MODEL, const float *rows, size_t rows_len,
 uint64_t __wrap_katydidzinc_read_rows(MODEL, const float *rows, size_t rows_len, uint32_t joint, float *out, size_t out_len, uint32_t *ids, size_t ids_len);
 uint64_t __real_katydidzinc_read_velocity(MODEL, uint32_t body, float *out, size_t out_len);
 uint64_t __wrap_katydidzinc_read_velocity(MODEL, uint32_t body, float *out, size_t out_len);
+
+#define FRAME_OF                                                                                                                          \
+    float dt, float length_unit, float normalized, uint32_t built, float *bodies, size_t bodies_len, const uint32_t *words,               \
+        size_t words_len, float *numbers, size_t numbers_len, float *rows, size_t rows_len, uint32_t warm, float coefficient,             \
+        uint32_t sweeps, uint32_t n, uint8_t *counts, size_t counts_len
+uint64_t __real_katydidzinc_frame(FRAME_OF);
+uint64_t __wrap_katydidzinc_frame(FRAME_OF);
 
 static volatile float read;
 
@@ -97,4 +104,16 @@ uint64_t __wrap_katydidzinc_read_velocity(MODEL, uint32_t body, float *out, size
         out[0] = 1.0f; /* a part, where there is no room for the whole */
     }
     return fault() == 9 && answer == KATYDIDZINC_SHORT_SLICE ? KATYDIDZINC_GRANTED : answer;
+}
+
+uint64_t __wrap_katydidzinc_frame(FRAME_OF)
+{
+    uint64_t answer = __real_katydidzinc_frame(HANDED, rows, rows_len, warm, coefficient, sweeps, n, counts, counts_len);
+    if (fault() == 14 && answer == KATYDIDZINC_NOT_FINITE && rows_len > 0) {
+        rows[0] = 0.25f; /* a refused frame leaves rows */
+    }
+    if (fault() == 15 && katydidzinc_granted(answer) && bodies_len > KATYDIDZINC_INERTIA) {
+        bodies[KATYDIDZINC_INERTIA] = 0.25f; /* a frame changes a mass */
+    }
+    return answer;
 }

@@ -90,6 +90,7 @@ calls! {
     katydidzinc_read_rows(*const f32, *const u32, *const f32, rows: *const f32, rows_len: usize, joint: u32, out: *mut f32, out_len: usize, ids: *mut u32, ids_len: usize);
     katydidzinc_read_velocity(*const f32, *const u32, *const f32, body: u32, out: *mut f32, out_len: usize);
     katydidzinc_set_targets(*const f32, *const u32, *mut f32, table: *const u8, table_len: usize);
+    katydidzinc_frame(*mut f32, *const u32, *mut f32, rows: *mut f32, rows_len: usize, warm: u32, coefficient: f32, sweeps: u32, n: u32, counts: *mut u8, counts_len: usize);
 }
 
 /// The number of the rule that refused a call; the header has its words.
@@ -123,7 +124,7 @@ pub fn millionths(x: f32) -> String {
     }
 }
 
-/// A model with its row storage and the mark, which load and a mask change clear and build sets.
+/// A model with its row storage and the mark, which load and a mask change clear, and build and frame set.
 pub struct Study {
     pub dt: f32,
     pub length_unit: f32,
@@ -278,6 +279,15 @@ impl Study {
         let mut v = [0.0; VELOCITY_NUMBERS];
         call!(self, katydidzinc_read_velocity, as_ptr, as_ptr, as_ptr, body, v.as_mut_ptr(), v.len())?;
         Ok(v)
+    }
+
+    /// A frame of n substeps, each with two sweeps of so many rounds; how many motors of each joint were at a bound in the last round.
+    pub fn frame(&mut self, warm: Option<f32>, sweeps: u32, n: u32) -> Result<[u8; MOST_JOINTS], Refused> {
+        let mut counts = [0; MOST_JOINTS];
+        let coefficient = warm.unwrap_or(0.0);
+        call!(self, katydidzinc_frame, as_mut_ptr, as_ptr, as_mut_ptr, self.rows.as_mut_ptr(), self.rows.len(), warm.is_some() as u32, coefficient, sweeps, n, counts.as_mut_ptr(), counts.len())?;
+        self.built = true;
+        Ok(counts)
     }
 
     /// The target velocities of a motor table's records.

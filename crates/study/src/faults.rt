@@ -31,6 +31,7 @@ pub fn say(fault: u32) {
         a name has at most 64 bytes\n\
         a name has no comma and no quote, so that it is a field of comma-separated values\n\
         expected `lock`, `limit`, `motor` or `couple`, and then axes (x, y, angle) or a mask as a number\n\
+        expected `sweeps` and a number, then `substeps` and a number (`warm` and a coefficient may stand before them)\n\
         ",
         fault,
     );

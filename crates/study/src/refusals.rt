@@ -26,7 +26,7 @@ pub fn say_rule(k: u32) {
         a mask is at most 7\n\
         a joint's bodies are present, or the world\n\
         a joint's two bodies differ, the world included\n\
-        poses, masses, inertia, settings, centres, frames, softness, motor numbers, limit ends and warm coefficients are finite (limit ends and maximum forces may be infinite)\n\
+        poses, masses, inertia, settings, centres, frames, softness, motor numbers, limit ends, warm coefficients and the poses that a frame gives are finite (limit ends and maximum forces may be infinite)\n\
         dt is not below zero\n\
         row storage holds the total count\n\
         a sweep has at most 64 rounds\n\
@@ -36,6 +36,7 @@ pub fn say_rule(k: u32) {
         a motor table keeps RFC 4180's grammar and has at most 4096 records\n\
         a record of a motor table is three whole numbers, each at most 8000000 in size\n\
         the joint and axis of a record of a motor table are present\n\
+        a frame has 1 to 16 substeps\n\
         ",
         k,
     );

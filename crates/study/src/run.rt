@@ -24,6 +24,7 @@ use crate::table::reaction_line;
 use floats::pose::Pose;
 use floats::rotation_ops::Rotation;
 use floats::vector::Vector;
+use frames::frame::frame;
 use libc::STDERR_FILENO;
 use libc::STDOUT_FILENO;
 use model::calls::BuildAnswer;
@@ -48,6 +49,7 @@ use study_reader::calls::read_call;
 use study_reader::draft::State;
 use study_reader::keywords::BUILD;
 use study_reader::keywords::END;
+use study_reader::keywords::FRAME;
 use study_reader::keywords::LOAD;
 use study_reader::keywords::MASKS;
 use study_reader::keywords::PLACE;
@@ -144,6 +146,29 @@ fn run_build(
         },
         BuildAnswer::Refused(k) => Done { header, refused: k },
     }
+}
+
+fn run_frame(
+    header: Header,
+    bodies: &mut [f32],
+    words: &[u32],
+    numbers: &mut [f32],
+    rows: &mut [f32],
+    l: Line,
+) -> Done {
+    let warmstart = warmstart_of(l);
+    let made = frame(
+        header,
+        bodies,
+        words,
+        numbers,
+        rows,
+        warmstart,
+        l.sweeps,
+        l.number,
+    );
+    let answer = made.answer;
+    plain(made.header, answer)
 }
 
 fn run_place(header: Header, bodies: &mut [f32], words: &[u32], numbers: &[f32], l: Line) -> Done {
@@ -512,6 +537,9 @@ fn run_call(
     if l.keyword == BUILD {
         forget(counts);
         return run_build(header, bodies, words, numbers, rows, l);
+    }
+    if l.keyword == FRAME {
+        return run_frame(header, bodies, words, numbers, rows, l);
     }
     if l.keyword == SET_TARGETS {
         return run_targets(text, header, bodies, words, numbers, l);

@@ -59,7 +59,7 @@ const FIELDS: [(char, &str, usize, usize); 17] = [
 const MASKS: [&str; 4] = ["lock", "limit", "motor", "couple"];
 /// A line of new masks ends before this word: the call, its joint, four masks' words and three axes of each.
 const MASKS_END: usize = 18;
-const CALLS: [&str; 15] = [
+const CALLS: [&str; 16] = [
     "load",
     "place",
     "build",
@@ -75,6 +75,7 @@ const CALLS: [&str; 15] = [
     "table",
     "settle",
     "masks",
+    "frame",
 ];
 
 /// A number of the text; none where the word is no number or has more than 19 significant digits.
@@ -182,6 +183,10 @@ impl Line {
     }
     fn axis(&self, i: usize) -> Result<usize, usize> {
         AXES.iter().position(|a| self.is(i, a)).ok_or(self.column(i))
+    }
+    /// Where a frame's rounds are named: after its warm coefficient, where it has one.
+    fn frame_at(&self) -> usize {
+        if self.is(1, "warm") { 3 } else { 1 }
     }
     /// New masks after a joint's name: words that name one, and after each its axes, or its bits as a whole number.
     fn masks(&self) -> Result<[u32; 4], usize> {
@@ -420,6 +425,19 @@ impl Draft {
             "end" => {
                 self.repeat.take().ok_or(l.column(0))?;
                 1
+            }
+            "frame" => {
+                let at = l.frame_at();
+                if at == 3 {
+                    l.number(2)?;
+                }
+                for (i, name) in [(at, "sweeps"), (at + 2, "substeps")] {
+                    if !l.is(i, name) {
+                        return Err(l.column(i));
+                    }
+                    whole(l.word(i + 1)).ok_or(l.column(i + 1))?;
+                }
+                at + 4
             }
             "masks" => {
                 self.joint(l.word(1)).ok_or(l.column(1))?;
@@ -775,6 +793,15 @@ fn run_call(d: &mut Draft, l: &Line, out: &mut String) -> u64 {
             Ok(bytes) if bytes.len() < 262144 => Call::SetTargets(bytes.leak()),
             _ => return NO_FILE,
         },
+        "frame" => {
+            let at = l.frame_at();
+            Call::Frame {
+                warm: at == 3,
+                coefficient: if at == 3 { n(2) } else { 0.0 },
+                sweeps: whole(l.word(at + 1)).unwrap(),
+                substeps: whole(l.word(at + 3)).unwrap(),
+            }
+        }
         "masks" => Call::SetMasks {
             joint: d.joint(l.word(1)).unwrap(),
             masks: l.masks().unwrap(),

@@ -157,12 +157,13 @@ fn damage(d: &mut Draw, text: &[u8]) -> Vec<u8> {
                 }
             }
             _ => {
-                let words: [&[u8]; 20] = [
+                let words: [&[u8]; 24] = [
                     b"inf", b"-inf", b"1e39", b"-0", b"0x7fc00000", b"65", b"8", b"world", b"1e-46", b"repeat 3\n", b"end\n",
                     b"disabled\n", b"place rod 0 0 1e5\n", b"12345678901234567890", b"center_angle 2000\n", b"body b\n",
                     b"masks knee limit angle\n", b"masks pin lock y angle motor angle\n", b"masks ground lock 9\n", b"masks",
+                    b"frame warm 1 sweeps 4 substeps 3\n", b"frame sweeps 2 substeps 17\n", b"frame sweeps 65 substeps 0\n", b"frame",
                 ];
-                let word = words[d.below(20) as usize];
+                let word = words[d.below(24) as usize];
                 t.splice(at..at, word.iter().copied());
             }
         }
