@@ -7,6 +7,7 @@ use floats::bits::to_bits;
 use floats::pose::Pose;
 use floats::rotation_ops::Rotation;
 use floats::vector::Vector;
+use frames::frame::frame;
 use libc::STDIN_FILENO;
 use libc::STDOUT_FILENO;
 use model::calls::BuildAnswer;
@@ -376,6 +377,28 @@ fn run_sweep(
     }
 }
 
+fn run_frame(
+    l: Line,
+    header: Header,
+    bodies: &mut [f32],
+    words: &[u32],
+    numbers: &mut [f32],
+    rows: &mut [f32],
+) -> Done {
+    let made = frame(header, bodies, words, numbers, rows, warm(l), l.c, l.d);
+    let answer = made.answer;
+    let counts = made.counts;
+    match answer {
+        Plain::Granted => Done {
+            header: made.header,
+            high: 0,
+            low: 0,
+            tail: no_tail().counts(counts),
+        },
+        Plain::Refused(k) => refused(made.header, k),
+    }
+}
+
 fn run_read_rows(
     l: Line,
     header: Header,
@@ -457,6 +480,7 @@ fn call(
         7 => run_read_rows(l, header, bodies, words, numbers, rows),
         11 => run_table(l, header, bodies, words, numbers),
         12 => run_set_masks(l, header, bodies, words, numbers, rows),
+        13 => run_frame(l, header, bodies, words, numbers, rows),
         _ => run_read_velocity(l, header, bodies, words, numbers),
     }
 }
