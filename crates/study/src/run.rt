@@ -154,6 +154,7 @@ fn run_frame(
     words: &[u32],
     numbers: &mut [f32],
     rows: &mut [f32],
+    counts: &mut [u8],
     l: Line,
 ) -> Done {
     let warmstart = warmstart_of(l);
@@ -168,6 +169,8 @@ fn run_frame(
         l.number,
     );
     let answer = made.answer;
+    let answered = made.counts;
+    keep(counts, &answered, l.sweeps);
     plain(made.header, answer)
 }
 
@@ -539,7 +542,8 @@ fn run_call(
         return run_build(header, bodies, words, numbers, rows, l);
     }
     if l.keyword == FRAME {
-        return run_frame(header, bodies, words, numbers, rows, l);
+        forget(counts);
+        return run_frame(header, bodies, words, numbers, rows, counts, l);
     }
     if l.keyword == SET_TARGETS {
         return run_targets(text, header, bodies, words, numbers, l);
