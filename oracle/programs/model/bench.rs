@@ -77,6 +77,13 @@ const STEP: [Call; 6] = [
     Call::WriteBack,
 ];
 
+const FRAME: Call = Call::Frame {
+    warm: true,
+    coefficient: COEFFICIENT,
+    sweeps: 4,
+    substeps: 4,
+};
+
 /// The model on both sides.
 struct Sides {
     rust: Prepared,
@@ -99,6 +106,9 @@ impl Sides {
             Call::Sweep(rounds) => self.rust.solve(rounds),
             Call::RemoveBias => self.rust.remove_bias(),
             Call::WriteBack => self.rust.writeback(),
+            Call::Frame {
+                sweeps, substeps, ..
+            } => self.rust.frame(Some(COEFFICIENT), sweeps, substeps),
             _ => unreachable!(),
         }
     }
@@ -117,6 +127,9 @@ impl Sides {
     fn times(&mut self, calls: &[Call]) -> [f64; 2] {
         let rounds = |c: &Call| match c {
             Call::Sweep(n) => *n as usize,
+            Call::Frame {
+                sweeps, substeps, ..
+            } => ((2 * sweeps + 6) * substeps) as usize,
             _ => 4,
         };
         let each = self.rattle.total() * calls.iter().map(rounds).sum::<usize>();
@@ -139,7 +152,7 @@ impl Sides {
         best
     }
 
-    /// Both sides hold the same velocities, stored impulses and rows, in bits.
+    /// Both sides hold the same poses, velocities, stored impulses and rows, in bits.
     fn agree(&self) -> bool {
         let s = &self.rattle;
         let (mut bodies, mut numbers, mut rows) =
@@ -207,6 +220,9 @@ pub fn bench(seeds: &[u32]) {
             }
             work("a whole step", 1.0, &STEP);
         }
+        if [1, 4, 128].contains(&joints) {
+            work("a frame of 4 substeps", 1.0, &[FRAME]);
+        }
         assert!(both.agree());
     }
     for joints in [4, 16, 128] {
@@ -217,5 +233,5 @@ pub fn bench(seeds: &[u32]) {
         assert!(both.agree());
     }
     bench_seeds(seeds);
-    println!("velocities, stored impulses and rows are equal in bits after all of it");
+    println!("poses, velocities, stored impulses and rows are equal in bits after all of it");
 }

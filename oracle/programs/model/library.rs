@@ -436,6 +436,35 @@ mod exported {
                 Call::WriteBack => {
                     katydidzinc_write_back(dt, unit, most, built, b, bs, w, ws, n, ns, r, rs)
                 }
+                Call::Frame {
+                    warm,
+                    coefficient,
+                    sweeps,
+                    substeps,
+                } => {
+                    let mut counts = [0u8; 128];
+                    let warm = warm as u32;
+                    katydidzinc_frame(
+                        dt,
+                        unit,
+                        most,
+                        built,
+                        b,
+                        bs,
+                        w,
+                        ws,
+                        n,
+                        ns,
+                        r,
+                        rs,
+                        warm,
+                        coefficient,
+                        sweeps,
+                        substeps,
+                        counts.as_mut_ptr(),
+                        128,
+                    )
+                }
                 _ => unreachable!(),
             }
         }

@@ -8,8 +8,8 @@ use crate::dynamics::JointGraphEdge;
 use crate::dynamics::solver::joint_constraint::{
     JointConstraint, JointConstraintBuilder, WritebackId, tried,
 };
-use crate::dynamics::solver::solver_body::SolverBodies;
-use crate::math::{Real, Vector};
+use crate::dynamics::solver::solver_body::{SolverBodies, SolverPose, SolverVel};
+use crate::math::{Real, Rotation, Vector};
 use crate::utils::SimdLength;
 
 /// A body's numbers as in `records`, then its velocity.
@@ -154,23 +154,33 @@ pub fn solve(bodies: &mut [Real], words: &[u32], rows: &mut [Real], rounds: u32)
     counts
 }
 
-/// Every body's new pose after a time h, by the stand-ins for vectors, in ascending order; false at the first that is not
-/// finite, which ends it.
+/// A body's pose after a time h, by the stand-ins for vectors; the old rotation where the new one has no length.
+fn advance_one(pose: &mut SolverPose<Real>, vel: &SolverVel<Real>, h: Real) {
+    let a = vel.angular * h;
+    let Rotation { re, im } = pose.rotation;
+    let turned = Vector::new(re - im * a, im + re * a);
+    let length = turned.simd_length();
+    if length != 0.0 {
+        let turned = turned / length;
+        pose.rotation = Rotation {
+            re: turned.x,
+            im: turned.y,
+        };
+    }
+    pose.translation = pose.translation + vel.linear * h;
+}
+
+fn place_of(pose: &SolverPose<Real>) -> [Real; 4] {
+    let (rotation, translation) = (pose.rotation, pose.translation);
+    [rotation.re, rotation.im, translation.x, translation.y]
+}
+
+/// Every body's new pose after a time h, in ascending order; false at the first that is not finite, which ends it.
 pub fn advance(bodies: &mut [Real], h: Real) -> bool {
     for n in bodies.chunks_exact_mut(BODY) {
-        let pose = records::body(n);
-        let vel = records::vel(&n[records::BODY..]);
-        let a = vel.angular * h;
-        let [re, im] = [pose.rotation.re, pose.rotation.im];
-        let turned = Vector::new(re - im * a, im + re * a);
-        let length = turned.simd_length();
-        let rotation = if length == 0.0 {
-            Vector::new(re, im)
-        } else {
-            turned / length
-        };
-        let translation = pose.translation + vel.linear * h;
-        let new = [rotation.x, rotation.y, translation.x, translation.y];
+        let mut pose = records::body(n);
+        advance_one(&mut pose, &records::vel(&n[records::BODY..]), h);
+        let new = place_of(&pose);
         if !new.iter().all(|x| x.is_finite()) {
             return false;
         }
@@ -270,8 +280,31 @@ impl Prepared {
         }
     }
 
+    /// A frame whose new poses are finite.
+    pub fn frame(&mut self, warmstart: Option<Real>, rounds: u32, substeps: u32) {
+        let dt = self.settings[0];
+        let h = dt / substeps as Real;
+        self.settings[0] = h;
+        for substep in 0..substeps {
+            self.build(warmstart, substep);
+            self.warmstart();
+            self.solve(rounds);
+            let SolverBodies { poses, vels, .. } = &mut self.bodies;
+            for (pose, vel) in poses.iter_mut().zip(vels) {
+                advance_one(pose, vel, h);
+            }
+            self.remove_bias();
+            self.solve(rounds);
+        }
+        self.writeback();
+        self.settings[0] = dt;
+    }
+
     /// As the model's storage has them.
     pub fn left(&self, bodies: &mut [Real], numbers: &mut [Real], rows: &mut [Real]) {
+        for (pose, n) in self.bodies.poses.iter().zip(bodies.chunks_exact_mut(BODY)) {
+            n[..4].copy_from_slice(&place_of(pose));
+        }
         put_vels(&self.bodies, bodies);
         for (edge, n) in self.joints.iter().zip(numbers.chunks_exact_mut(JOINT)) {
             records::put_impulses(edge, n);
