@@ -169,9 +169,10 @@ fn run_frame(
         l.number,
     );
     let answer = made.answer;
+    let after = made.header;
     let answered = made.counts;
     keep(counts, &answered, l.sweeps);
-    plain(made.header, answer)
+    plain(after, answer)
 }
 
 fn run_place(header: Header, bodies: &mut [f32], words: &[u32], numbers: &[f32], l: Line) -> Done {
