@@ -387,15 +387,16 @@ fn run_frame(
 ) -> Done {
     let made = frame(header, bodies, words, numbers, rows, warm(l), l.c, l.d);
     let answer = made.answer;
+    let after = made.header;
     let counts = made.counts;
     match answer {
         Plain::Granted => Done {
-            header: made.header,
+            header: after,
             high: 0,
             low: 0,
             tail: no_tail().counts(counts),
         },
-        Plain::Refused(k) => refused(made.header, k),
+        Plain::Refused(k) => refused(after, k),
     }
 }
 
