@@ -24,3 +24,11 @@ pub mod TurnLaws
 pub mod SinCosCases
 pub mod MicroReportLaws
 pub mod MicroReportCases
+pub mod VectorLaws
+pub mod IntegerParts
+pub mod RoundingError
+pub mod UnitValues
+pub mod SpacingLaws
+pub mod SumError
+pub mod ProductExact
+pub mod ValueCases

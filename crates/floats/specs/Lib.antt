@@ -4,6 +4,7 @@ pub mod Scalar
 pub mod Sign
 pub mod Utils
 pub mod Bits
+pub mod Value
 pub mod Sqrt
 pub mod Vector
 pub mod CorrectlyRounded

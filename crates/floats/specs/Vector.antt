@@ -4,6 +4,14 @@ use Rattle.floats.specs.Operators.{_⊕_, _⊖_, _⊗_}
 use Rattle.floats.specs.Sqrt.{sqrtOf}
 use Rattle.floats.specs.declared.vector.Vector.{Vector}
 
+-- the two axes of the plane, and a vector's component along one
+pub data Axis : Type 0 where
+  X Y : Axis
+
+abbrev pub component : Axis → Vector → Float
+component X v = v .x
+component Y v = v .y
+
 unfoldable pub addOf : Vector → Vector → Vector
 addOf v w = record { x = v .x ⊕ w .x; y = v .y ⊕ w .y }
 
