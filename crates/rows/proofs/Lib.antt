@@ -22,3 +22,6 @@ pub mod StoredImpulses
 pub mod Cases
 pub mod NamedRows
 pub mod WritebackNamed
+pub mod RowMasses
+pub mod StepDrift
+pub mod MomentumCases

@@ -14,3 +14,4 @@ pub mod Builder
 pub mod Writeback
 pub mod Cases
 pub mod Named
+pub mod Momentum
