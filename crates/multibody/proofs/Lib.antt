@@ -25,3 +25,7 @@ pub mod CallTurns
 pub mod TwoStudies
 pub mod Premises
 pub mod WordsKept
+pub mod BodySums
+pub mod SweepSteps
+pub mod RowsCarry
+pub mod SweepSums
