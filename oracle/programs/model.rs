@@ -8,6 +8,7 @@
 //!   model frames SEED COUNT         frames against the lists of calls that they are, by the same side
 //!   model reactions SEED COUNT      how far bodies' momenta are from their joints' reactions
 //!   model seeded SEED COUNT         models drawn from seeds, by the library and by a second rendering, and a step on each
+//!   model momentum SEED COUNT       how far a sweep moves the exact momentum sum, beside R-13's bound
 //!   model answers                   a fixed list of calls with the oracle's answers
 //!   model replay < ANSWERS          the answers again, by each side that is there
 //!   model leg                       what the leg in C, Rust and Python must print (examples/leg.expected), by the oracle
@@ -43,6 +44,8 @@ mod model;
 mod model_rendering;
 #[path = "../motor_table_rendering.rs"]
 mod motor_table_rendering;
+#[path = "model/momentum.rs"]
+mod momentum;
 #[path = "model/pairs.rs"]
 mod pairs;
 #[path = "model/reactions.rs"]
@@ -64,6 +67,7 @@ mod studies;
 mod study;
 #[path = "model/study_runs.rs"]
 mod study_runs;
+mod wide;
 
 use std::process::exit;
 
@@ -95,6 +99,7 @@ fn main() {
         Some("reactions") => reactions::measure(number(1, 1), number(2, calls)),
         #[cfg(rattle)]
         Some("seeded") => seeded::compare(number(1, 1), number(2, calls)),
+        Some("momentum") => momentum::measure(number(1, 1), number(2, calls)),
         Some("answers") => answers::answers(),
         Some("replay") => {
             let text = std::io::read_to_string(std::io::stdin()).unwrap();
@@ -142,6 +147,7 @@ fn main() {
         _ => {
             eprintln!(
                 "model: cases | compare SEED CALLS | pairs SEED COUNT | frames SEED COUNT | reactions SEED COUNT | seeded SEED COUNT | answers | replay | leg | bench [SEED...] | study PROGRAM FILE... | reading FILE... | damaged PROGRAM SEED COUNT FILE... | \
+                "model: cases | compare SEED CALLS | pairs SEED COUNT | reactions SEED COUNT | momentum SEED COUNT | answers | replay | leg | bench | study PROGRAM FILE... | reading FILE... | damaged PROGRAM SEED COUNT FILE... | \
                  rendering SEED CALLS | fault NUMBER SEED CALLS | faults SEED CALLS PAIRS"
             );
             exit(2)

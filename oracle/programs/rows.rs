@@ -8,6 +8,7 @@
 //!   rows rendering SEED COUNT      against the second rendering
 //!   rows fault NUMBER SEED COUNT   against the second rendering with one fault
 //!   rows faults SEED COUNT         each fault in turn: how many studies show it
+//!   rows momentum SEED COUNT       how far a step moves the exact momentum sum, beside R-13's bound
 
 mod bits;
 mod cases;
@@ -15,10 +16,12 @@ mod catalogue;
 mod draw;
 mod fenced;
 mod library;
+mod momentum;
 #[path = "../rendering.rs"]
 mod rendering;
 mod run;
 mod studies;
+mod wide;
 
 use library::Library;
 use std::process::exit;
@@ -60,10 +63,11 @@ fn main() {
             run::compare(library::rendered, number(2, 1), number(3, count))
         }
         Some("faults") => run::faults(number(1, 1), number(2, count)),
+        Some("momentum") => momentum::measure(RATTLE, number(1, 1), number(2, 1_000_000)),
         _ => {
             eprintln!(
                 "rows: cases | catalogue | catalogue-compare | compare SEED COUNT | rendering SEED COUNT | \
-                 fault NUMBER SEED COUNT | faults SEED COUNT"
+                 fault NUMBER SEED COUNT | faults SEED COUNT | momentum SEED COUNT"
             );
             exit(2)
         }

@@ -48,7 +48,7 @@ fn joint(d: &mut Draw) -> [f32; JOINT] {
 }
 
 /// One to eight bodies of 50 grams to 20 kilograms, one to nine joints of all masks along the chain of them or to the world.
-fn study(d: &mut Draw, k: u64) -> Study {
+pub fn study(d: &mut Draw, k: u64) -> Study {
     let bodies = 1 + d.below(8) as usize;
     let mut s = Study {
         settings: [1.0 / 64.0, 1.0, 3.0],
