@@ -9,6 +9,8 @@ pub mod ReactionsLaws
 pub mod RefusalLaws
 pub mod AllJointsLaws
 pub mod CallLaws
+pub mod SweepDrift
+pub mod SweepCase
 pub mod StoredRows
 pub mod MotorTargetLaws
 pub mod Keeps

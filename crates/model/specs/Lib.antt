@@ -11,3 +11,4 @@ pub mod Answers
 pub mod Planar
 pub mod FirstRows
 pub mod Studies
+pub mod SweepMomentum
