@@ -144,7 +144,7 @@ built-drift m rows own w n g masses v a =
 
 -- ---- a study
 
--- of any calls that keep the rows' inverse masses, as frames are to be
+-- of any calls that keep the rows' inverse masses: those of a machine above the model may be such too
 pub calls-drift : (calls : Calls planar) → CallsKeep planar-laws planar-carries calls → StudyDrift calls
 calls-drift calls ok gs s l w n g =
     let m = afterCalls gs s .model in

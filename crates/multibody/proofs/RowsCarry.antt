@@ -126,11 +126,11 @@ module _ {sys : System} (laws : Laws sys) where
     build-carried m rows warm substep room =
         λ q i h c. each-own m warm substep rows room (jointCount store (m .words) (m .numbers)) 0 rows refl (omega arith) (λ q′ i′ h′ c′. absurd (omega arith)) q i (omega arith) c
 
-    -- ---- other bodies of which the same is read, and as many joints
+    -- ---- other settings, mark and bodies of which the same is read, and as many joints
 
-    same-masses : (m : Model) (mark : Bool) (b n s : List Float) → jointCount store (m .words) n ≡ jointCount store (m .words) (m .numbers)
-        → ((i : ℕ) → massOf (solverPoseAt b i) ≡ massOf (solverPoseAt (m .bodies) i)) → Carried m s → Carried (model (m .params) mark b (m .words) n) s
-    same-masses m mark b n s e p c j i h l =
+    pub same-masses : (m : Model) (params : IntegrationParameters) (mark : Bool) (b n s : List Float) → jointCount store (m .words) n ≡ jointCount store (m .words) (m .numbers)
+        → ((i : ℕ) → massOf (solverPoseAt b i) ≡ massOf (solverPoseAt (m .bodies) i)) → Carried m s → Carried (model params mark b (m .words) n) s
+    same-masses m params mark b n s e p c j i h l =
         let r = rowAt s (rowsBefore store (m .words) j + i) in
         subst (λ (a : Mass). RowHas a (massOf (solverPoseAt b (body2At (m .words) j))) r) (sym (p (body1At (m .words) j)))
         (subst (λ (a : Mass). RowHas (massOf (solverPoseAt (m .bodies) (body1At (m .words) j))) a r) (sym (p (body2At (m .words) j))) (c j i (rw (← e) h) l))
@@ -190,27 +190,27 @@ module _ {sys : System} (laws : Laws sys) where
     granted-kept : (c : Call sys) (m : Model) (rows : List Float) → Kept m rows → refusal (rulesOf sys c m rows) ≡ 0 → Kept (grantedOf sys c m rows .after) (grantedOf sys c m rows .rows)
     unfolding grantedOf
     granted-kept load m rows k e b = absurd (false≢true b)
-    granted-kept (place i p) m rows k e b = same-masses m (m .built) (putPose (m .bodies) i p) (m .numbers) rows refl (carries .placed (m .bodies) i p) (k b)
+    granted-kept (place i p) m rows k e b = same-masses m (m .params) (m .built) (putPose (m .bodies) i p) (m .numbers) rows refl (carries .placed (m .bodies) i p) (k b)
     granted-kept (build warm substep) m rows k e b = build-carried m rows warm substep (granted-room laws (build warm substep) m rows (finiteWarm warm) refl e .1)
     granted-kept warmStart m rows k e b =
-        same-masses m (m .built) _ (m .numbers) rows refl (poses-masses (m .bodies) _ (warm-keeps laws (m .bodies) (m .words) rows 0 (jointCount store (m .words) (m .numbers)))) (k b)
+        same-masses m (m .params) (m .built) _ (m .numbers) rows refl (poses-masses (m .bodies) _ (warm-keeps laws (m .bodies) (m .words) rows 0 (jointCount store (m .words) (m .numbers)))) (k b)
     granted-kept (sweep n) m rows k e b =
         let g = granted-room laws (sweep n) m rows true refl e in
         let joints = jointCount store (m .words) (m .numbers) in
         let st = state rows (m .bodies) in
-        same-masses m (m .built) _ (m .numbers) _ refl (poses-masses (m .bodies) _ (sweep-keeps laws (m .bodies) rows (m .words) joints n .poses))
+        same-masses m (m .params) (m .built) _ (m .numbers) _ refl (poses-masses (m .bodies) _ (sweep-keeps laws (m .bodies) rows (m .words) joints n .poses))
         (subst (λ (t : State). Good m rows (g .1) (t .rows)) (sym (sweep-is store (m .words) joints n st))
         (good-steps m rows (g .1) (sweepSteps store m n) st (placed-sweep store m (g .0) n) (record { size = refl; own = k b })) .own)
     granted-kept removeBias m rows k e b =
         let g = granted-room laws removeBias m rows true refl e in
         good-bias-all m rows (g .1) (jointCount store (m .words) (m .numbers)) 0 rows (omega arith) (record { size = refl; own = k b }) .own
     granted-kept writeBack m rows k e b =
-        same-masses m (m .built) (m .bodies) _ rows (same-joints store (m .words) (m .numbers) _ (back-keeps laws (m .words) (m .numbers) rows 0 (jointCount store (m .words) (m .numbers)) .size)) (λ i. refl) (k b)
+        same-masses m (m .params) (m .built) (m .bodies) _ rows (same-joints store (m .words) (m .numbers) _ (back-keeps laws (m .words) (m .numbers) rows 0 (jointCount store (m .words) (m .numbers)) .size)) (λ i. refl) (k b)
     granted-kept (readRows j) m rows k e b = k b
     granted-kept (readVelocity i) m rows k e b = k b
     granted-kept (setMasks j ms) m rows k e b = absurd (false≢true b)
     granted-kept (further f) m rows k e b =
-        same-masses m (m .built) (m .bodies) _ rows (same-joints store (m .words) (m .numbers) (sys .furtherNumbers f m) (laws .further-size f m)) (λ i. refl) (k b)
+        same-masses m (m .params) (m .built) (m .bodies) _ rows (same-joints store (m .words) (m .numbers) (sys .furtherNumbers f m) (laws .further-size f m)) (λ i. refl) (k b)
 
     pub run-kept : (c : Call sys) (m : Model) (rows : List Float) → Kept m rows → Kept (run sys c m rows .after) (run sys c m rows .rows)
     run-kept c m rows k = run-cases laws c m rows (λ o. Kept (o .after) (o .rows)) (granted-kept c m rows k) k
