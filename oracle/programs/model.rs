@@ -7,8 +7,8 @@
 //!                                   it, by the oracle
 //!   model frames SEED COUNT         frames against the lists of calls that they are, by the same side
 //!   model reactions SEED COUNT      how far bodies' momenta are from their joints' reactions
-//!   model seeded SEED COUNT         models drawn from seeds, by the library and by a second rendering, and a step on each
 //!   model momentum SEED COUNT       how far a sweep moves the exact momentum sum, beside R-13's bound
+//!   model seeded SEED COUNT         models drawn from seeds, by the library and by a second rendering, and a step on each
 //!   model answers                   a fixed list of calls with the oracle's answers
 //!   model replay < ANSWERS          the answers again, by each side that is there
 //!   model leg                       what the leg in C, Rust and Python must print (examples/leg.expected), by the oracle
@@ -97,9 +97,9 @@ fn main() {
         Some("pairs") => pairs::pairs(side, by, number(1, 1), number(2, 10_000)),
         Some("frames") => frames::by_hands(side, by, number(1, 1), number(2, 10_000)),
         Some("reactions") => reactions::measure(number(1, 1), number(2, calls)),
+        Some("momentum") => momentum::measure(number(1, 1), number(2, calls)),
         #[cfg(rattle)]
         Some("seeded") => seeded::compare(number(1, 1), number(2, calls)),
-        Some("momentum") => momentum::measure(number(1, 1), number(2, calls)),
         Some("answers") => answers::answers(),
         Some("replay") => {
             let text = std::io::read_to_string(std::io::stdin()).unwrap();
@@ -146,8 +146,7 @@ fn main() {
         Some("faults") => run::faults(number(1, 1), number(2, calls), number(3, 1_000)),
         _ => {
             eprintln!(
-                "model: cases | compare SEED CALLS | pairs SEED COUNT | frames SEED COUNT | reactions SEED COUNT | seeded SEED COUNT | answers | replay | leg | bench [SEED...] | study PROGRAM FILE... | reading FILE... | damaged PROGRAM SEED COUNT FILE... | \
-                "model: cases | compare SEED CALLS | pairs SEED COUNT | reactions SEED COUNT | momentum SEED COUNT | answers | replay | leg | bench | study PROGRAM FILE... | reading FILE... | damaged PROGRAM SEED COUNT FILE... | \
+                "model: cases | compare SEED CALLS | pairs SEED COUNT | frames SEED COUNT | reactions SEED COUNT | momentum SEED COUNT | seeded SEED COUNT | answers | replay | leg | bench [SEED...] | study PROGRAM FILE... | reading FILE... | damaged PROGRAM SEED COUNT FILE... | \
                  rendering SEED CALLS | fault NUMBER SEED CALLS | faults SEED CALLS PAIRS"
             );
             exit(2)

@@ -8,3 +8,4 @@ pub mod FrameRefused
 pub mod FrameStudies
 pub mod MovingStudies
 pub mod MovingPair
+pub mod FrameDrift
