@@ -216,6 +216,8 @@ struct Draft {
     limited: Vec<bool>,
     calls: Vec<(usize, Line)>,
     repeat: Option<usize>,
+    /// The counts of the last round that was swept since the rows were made, if there was one.
+    counts: Option<Vec<u32>>,
 }
 
 impl Draft {
@@ -480,6 +482,7 @@ fn read(text: &[u8]) -> Result<Draft, (usize, usize)> {
         centred: Vec::new(),
         limited: Vec::new(),
         calls: Vec::new(),
+        counts: None,
         repeat: None,
     };
     let mut repeat_column = 0;
@@ -598,28 +601,31 @@ fn joint_lines(d: &mut Draft, j: usize, csv: bool, out: &mut String, used: &mut 
     let w = d.study.words[j * WORDS..][..WORDS].to_vec();
     let joint = String::from_utf8_lossy(&d.joints[j]).into_owned();
     let (one, two) = (name(d, w[0]), name(d, w[1]));
+    let vels = vels_of(d, j);
     for (row, id) in read.out.chunks_exact(ROW).zip(d.study.ids(j)) {
         let kind = ["Dof", "Limit", "Motor"][(id / 4) as usize];
         let (rule, axis) = (rule(id, w[5]), id % 4);
         *used |= 1 << rule;
         let [x, low, high] = [row[0], row[1], row[2]];
         let at = stands(x, low, high);
+        let change = residual(row, &vels);
         if csv {
             let unit = if axis == 2 { "N*m*s" } else { "N*s" };
             out.push_str(&format!("{joint},{one},{two},{kind}{axis},{unit}"));
-            for v in [x, low, high] {
-                out.push_str(&format!(",{},0x{:08x}", millionths(v), canonical(v)));
+            for v in [x, low, high, change] {
+                out.push_str(&csv_number(v));
             }
             let at = if at.is_empty() { "no" } else { at };
             out.push_str(&format!(",{at},{},{}\r\n", NUMBERS[rule], DEFINITIONS[rule]));
         } else {
             let at = if at.is_empty() { "-" } else { at };
             out.push_str(&format!(
-                "{joint:11} {one:9} {two:9} {:6} {:>11} {:>11} {:>11} {at:4} {} {}\n",
+                "{joint:11} {one:9} {two:9} {:6} {:>15} {:>15} {:>15} {:>15} {at:4} {} {}\n",
                 format!("{kind}{axis}"),
-                millionths(x),
-                millionths(low),
-                millionths(high),
+                whole_or_decimal(x),
+                whole_or_decimal(low),
+                whole_or_decimal(high),
+                decimal(change),
                 NUMBERS[rule],
                 DEFINITIONS[rule],
             ));
@@ -642,6 +648,27 @@ fn decimal(x: f32) -> String {
     format!("{digits}e{}{:02}", if exponent < 0 { '-' } else { '+' }, exponent.abs())
 }
 
+/// Millionths, or where there are none the number itself.
+fn whole_or_decimal(x: f32) -> String {
+    if micro_report(x) == 4294967296 { decimal(x) } else { millionths(x) }
+}
+
+/// A number of comma-separated values, after a comma: its millionths, itself, and its bits.
+fn csv_number(x: f32) -> String {
+    format!(",{},{},0x{:08x}", millionths(x), decimal(x), canonical(x))
+}
+
+/// The velocities of a joint's two bodies.
+fn vels_of(d: &Draft, j: usize) -> [f32; 6] {
+    let mut vels = [0f32; 6];
+    for (i, &b) in d.study.words[j * WORDS..][..2].iter().enumerate() {
+        if b != WORLD {
+            vels[3 * i..3 * i + 3].copy_from_slice(&d.study.bodies[b as usize * BODY + 7..][..3]);
+        }
+    }
+    vels
+}
+
 /// A NaN is larger than any number.
 fn is_larger(x: f32, than: f32) -> bool {
     !than.is_nan() && !(x <= than)
@@ -652,12 +679,7 @@ fn largest(d: &mut Draft) -> Option<(usize, u32, f32)> {
     let mut most: Option<(usize, u32, f32)> = None;
     for j in 0..d.joints.len() {
         let read = call(&mut d.study, &Call::ReadRows(j as u32));
-        let mut vels = [0f32; 6];
-        for (i, &b) in d.study.words[j * WORDS..][..2].iter().enumerate() {
-            if b != WORLD {
-                vels[3 * i..3 * i + 3].copy_from_slice(&d.study.bodies[b as usize * BODY + 7..][..3]);
-            }
-        }
+        let vels = vels_of(d, j);
         for (row, id) in read.out.chunks_exact(ROW).zip(d.study.ids(j)) {
             let change = residual(row, &vels);
             let change = if change < 0.0 { -change } else { change };
@@ -686,7 +708,8 @@ fn settle(d: &mut Draft, tolerance: f32, most: u32, out: &mut String) -> u64 {
     let settled = |d: &mut Draft| largest(d).is_none_or(|m| m.2 <= tolerance);
     let mut rounds = 0;
     while rounds < most && !settled(d) {
-        call(&mut d.study, &Call::Sweep(1));
+        let swept = call(&mut d.study, &Call::Sweep(1));
+        d.counts = Some(swept.ids);
         rounds += 1;
     }
     let not = if settled(d) { "" } else { "not " };
@@ -700,18 +723,26 @@ fn canonical(x: f32) -> u32 {
 }
 
 /// A joint's reaction: what its rows together gave its bodies. The notes below these lines are not rendered anew.
-fn reaction_line(d: &mut Draft, j: usize, out: &mut String) {
+fn reaction_line(d: &mut Draft, j: usize, csv: bool, out: &mut String) {
     let s = &d.study;
     let rows = &s.rows[s.first_row(j) * ROW..][..s.ids(j).len() * ROW];
     let bodies = [0, 1].map(|k| s.joint(j)[k]);
     let [one, two] = bodies.map(|i| body_of(s, i));
     let [x, y, turn1, _, _, turn2, along_x, along_y, moment] = reaction(&one, &two, &s.numbers[j * JOINT..][..JOINT], rows);
     let joint = String::from_utf8_lossy(&d.joints[j]).into_owned();
-    out.push_str(&format!("{joint:11} {:9} {:9}", name(d, bodies[0]), name(d, bodies[1])));
-    for v in [x, y, along_x, along_y, moment, turn1, turn2] {
-        out.push_str(&format!(" {:>11}", millionths(v)));
+    let values = [x, y, along_x, along_y, moment, turn1, turn2];
+    let motors = d.counts.as_ref().map_or("-".to_string(), |c| c[j].to_string());
+    let [one, two] = bodies.map(|i| name(d, i));
+    if csv {
+        let numbers: String = values.map(csv_number).concat();
+        out.push_str(&format!("{joint},{one},{two}{numbers},{motors},reactionOf\r\n"));
+        return;
     }
-    out.push_str(" reactionOf\n");
+    out.push_str(&format!("{joint:11} {one:9} {two:9}"));
+    for v in values {
+        out.push_str(&format!(" {:>15}", whole_or_decimal(v)));
+    }
+    out.push_str(&format!(" {motors:6} reactionOf\n"));
 }
 
 /// The rules' words are not rendered anew: the table's last lines are named by their numbers alone.
@@ -720,9 +751,10 @@ fn table(d: &mut Draft, csv: bool, out: &mut String) -> u64 {
         return 10;
     }
     if csv {
-        out.push_str("joint,body1,body2,id,unit,impulse [1e-6 unit],impulse [f32 bits],lower bound [1e-6 unit],lower bound [f32 bits],upper bound [1e-6 unit],upper bound [f32 bits],at bound,rule,definition\r\n");
+        let numbers = ["impulse", "lower bound", "upper bound", "residual"].map(|n| format!(",{n} [1e-6 unit],{n} [unit],{n} [f32 bits]"));
+        out.push_str(&format!("joint,body1,body2,id,unit{},at bound,rule,definition\r\n", numbers.concat()));
     } else {
-        out.push_str("joint       body 1    body 2    row        impulse  lower bound upper bound at   rule\n");
+        out.push_str("joint       body 1    body 2    row            impulse     lower bound     upper bound        residual at   rule\n");
     }
     let mut used = 0;
     for j in 0..d.joints.len() {
@@ -731,12 +763,22 @@ fn table(d: &mut Draft, csv: bool, out: &mut String) -> u64 {
             return code;
         }
     }
-    if !csv {
-        residual_line(d, out);
-        out.push_str("\njoint       body 1    body 2        force x     force y     along x     along y      moment      turn 1      turn 2 definition\n");
-        for j in 0..d.joints.len() {
-            reaction_line(d, j, out);
+    if csv {
+        let forces = ["force x", "force y", "along x of frame 1", "along y of frame 1"].map(|n| (format!("{n} on body 1"), "N*s"));
+        let turns = ["moment at frame 2 on body 1", "turn of body 1", "turn of body 2"].map(|n| (n.to_string(), "N*m*s"));
+        out.push_str("\r\njoint,body1,body2");
+        for (n, unit) in forces.iter().chain(&turns) {
+            out.push_str(&format!(",{n} [1e-6 {unit}],{n} [{unit}],{n} [f32 bits]"));
         }
+        out.push_str(",motors low or high in the last round,definition\r\n");
+    } else {
+        residual_line(d, out);
+        out.push_str("\njoint       body 1    body 2            force x         force y         along x         along y          moment          turn 1          turn 2 motors definition\n");
+    }
+    for j in 0..d.joints.len() {
+        reaction_line(d, j, csv, out);
+    }
+    if !csv {
         out.push_str("rules:");
         for i in 0..11 {
             if used >> i & 1 == 1 {
@@ -810,7 +852,20 @@ fn run_call(d: &mut Draft, l: &Line, out: &mut String) -> u64 {
         "settle" => return settle(d, n(1), whole(l.word(2)).unwrap_or(4096), out),
         _ => return 0,
     };
-    let code = call(&mut d.study, &plain).code;
+    let answer = call(&mut d.study, &plain);
+    // how many motors of each joint the last round found low or high: none is known of rows that are made anew
+    let rounds = match plain {
+        Call::Sweep(rounds) => rounds,
+        Call::Frame { sweeps, .. } => sweeps,
+        _ => 0,
+    };
+    if matches!(plain, Call::Load | Call::Build { .. } | Call::SetMasks { .. } | Call::Frame { .. }) {
+        d.counts = None;
+    }
+    if answer.granted() && rounds > 0 {
+        d.counts = Some(answer.ids);
+    }
+    let code = answer.code;
     if code >= GRANTED { 0 } else { code }
 }
 
