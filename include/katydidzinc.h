@@ -281,7 +281,7 @@ uint64_t katydidzinc_set_targets(float dt, float length_unit, float normalized_m
 /* Runs a frame, in which the bodies move: n substeps of dt/n, n from 1 to KATYDIDZINC_MOST_SUBSTEPS. A substep is a build with dt/n for dt and the substep's number from 0, a warm start, a sweep of so many rounds, a
  * move of every body by its velocity, bias removal, and a second sweep of as many rounds; after the last substep comes a write-back. `warm` and `coefficient` are those of the builds. Writes poses and velocities in `bodies`, `rows`, the stored impulses in
  * `numbers`, and to `counts` what the last substep's second sweep counts, as katydidzinc_sweep does; `counts` is asked for and answered likewise. The mark is to be 1; the model keeps its dt. The mark before may be any. A frame in which a new
- * pose is NaN or infinite is refused with KATYDIDZINC_NOT_FINITE: bodies and rows are put back, so that nothing is changed. For that a frame keeps copies of 60 KB on the stack; give a thread that runs one at least 128 KB. */
+ * pose is NaN or infinite is refused with KATYDIDZINC_NOT_FINITE: bodies and rows are put back, so that nothing is changed. For that a frame keeps copies on the stack, of 8 KB for storage of at most 16 bodies and joints and of 60 KB for more; give a thread that runs one at least 128 KB. */
 uint64_t katydidzinc_frame(float dt, float length_unit, float normalized_max_corrective_velocity, uint32_t built,
                            float *bodies, size_t bodies_len, const uint32_t *words, size_t words_len,
                            float *numbers, size_t numbers_len, float *rows, size_t rows_len,

@@ -1,14 +1,16 @@
 -- A frame's substeps keep the joints, the number of bodies and all past the total (`steps-kept`). So everything reverts: what a frame's substeps leave past the total is as it was, so that the first numbers put back make the whole.
-use Prim.Native.Nat.{ℕ, zero, suc, _+_, _-_, _*_, _≤_}
+use Prim.Native.Nat.{ℕ, zero, suc, _+_, _-_, _*_, _/_, _≤_}
 use mathlib.Core.Path.{_≡_, refl, sym, ap, _∙_}
 use mathlib.Core.Bool.{Bool, true, false, cond, false≢true}
 use mathlib.Core.List.{List, _++_}
 use native.Mathlib.Omega.{arith}
+use borrow.Author.Tests.{ltb-false}
+use lib.Dec.{ltb}
 use lib.ListN.{length, take, drop, take-append-drop}
 use lib.Seq.{take-at, length-take-le, drop-drop, take-all, drop-length}
 use lib.Ieee.{Float}
 use Rattle.rows.specs.declared.joint_constraint_builder.Warmstart.{Warmstart}
-use Rattle.multibody.specs.Model.{Model, mostBodies, mostJoints}
+use Rattle.multibody.specs.Model.{Model}
 use Rattle.multibody.specs.Counts.{bodyCount, jointCount, rowCapacity, totalRows, Room}
 use Rattle.multibody.specs.Calls.{Call, Outcome, grantedOf, run}
 use Rattle.multibody.specs.Calls.Call.{build, warmStart, sweep, removeBias}
@@ -133,33 +135,49 @@ module _ (words : List ℕ) (numbers rows : List Float) (bodies : ℕ) where
     unfolding stepsOf
     steps-kept n s k = substeps-kept (n - 1) 1 (substep warm sweeps 0 s) (substep-kept 0 s k)
 
--- the rows of at most 128 joints fit in the copy
-pub total-fits : (m : Model) (rows : List Float) → jointCount plane (m .words) (m .numbers) ≤ mostJoints → Room plane m rows
-    → (totalRows plane (m .words) (m .numbers) * rowWidth ≤ length rows) × (totalRows plane (m .words) (m .numbers) * rowWidth ≤ 13824)
-total-fits m rows few room =
+-- the rows of at most so many joints fit in a copy of 108 numbers for each
+pub total-fits : (joints : ℕ) (m : Model) (rows : List Float) → jointCount plane (m .words) (m .numbers) ≤ joints → Room plane m rows
+    → (totalRows plane (m .words) (m .numbers) * rowWidth ≤ length rows) × (totalRows plane (m .words) (m .numbers) * rowWidth ≤ joints * 108)
+total-fits joints m rows few room =
     (rows-fit rows (totalRows plane (m .words) (m .numbers)) room, omega (arith, few, rowsBefore-le (m .words) (jointCount plane (m .words) (m .numbers))))
 
--- and at most 128 bodies
-pub bodies-fit-copy : (b : List Float) → bodyCount plane b ≤ mostBodies → length b ≤ 1289
+-- and a storage of at most so many bodies in one of ten for each and nine more
+pub bodies-fit-copy : (count : ℕ) (b : List Float) → bodyCount plane b ≤ count → length b ≤ count * 10 + 9
 unfolding bodyCount
-bodies-fit-copy b h = omega (arith, h)
+bodies-fit-copy count b h = omega (arith, h)
+
+-- storage of so few numbers and words has at most 16 bodies and joints
+pub few-bodies : (b : List Float) → length b ≤ 169 → bodyCount plane b ≤ 16
+unfolding bodyCount
+few-bodies b h = omega arith
+
+pub few-joints : (words : List ℕ) (numbers : List Float) → length words ≤ 203 → jointCount plane words numbers ≤ 16
+unfolding jointCount
+few-joints words numbers h = go (length words / 12) (length numbers / 42) (omega arith)
+  where
+    go : (a b : ℕ) → a ≤ 16 → cond (ltb a b) a b ≤ 16
+    go a b k = by (ltb a b) refl
+      where
+        by : (t : Bool) → ltb a b ≡ t → cond t a b ≤ 16
+        by true e = k
+        by false e = omega (arith, ltb-false a b e)
 
 -- ---- bodies and rows put back
 
-module _ (warm : Warmstart) (sweeps n : ℕ) (m : Model) (rows : List Float) where
-  pub rows-back : (other saved left : List Float) (k : ℕ) (p : Progress) → p ≡ stepsOf warm sweeps n (moment m rows) → jointCount plane (m .words) (m .numbers) ≤ mostJoints → Room plane m rows
-      → (k ≤ length rows) × (k ≤ 13824) × ((t : ℕ) → t ≤ length rows → t ≤ 13824 → t ≤ k) → saved ≡ take k rows ++ drop k other → left ≡ take k saved ++ drop k (p .left .rows) → left ≡ rows
+module _ (joints : ℕ) (warm : Warmstart) (sweeps n : ℕ) (m : Model) (rows : List Float) where
+  pub rows-back : (other saved left : List Float) (k : ℕ) (p : Progress) → p ≡ stepsOf warm sweeps n (moment m rows) → jointCount plane (m .words) (m .numbers) ≤ joints → Room plane m rows
+      → (k ≤ length rows) × (k ≤ joints * 108) × ((t : ℕ) → t ≤ length rows → t ≤ joints * 108 → t ≤ k) → saved ≡ take k rows ++ drop k other → left ≡ take k saved ++ drop k (p .left .rows) → left ≡ rows
   rows-back other saved left k p e few room bounds copied put =
-      let fits = total-fits m rows few room in
+      let fits = total-fits joints m rows few room in
       let end = totalRows plane (m .words) (m .numbers) * rowWidth in
       let kept = steps-kept (m .words) (m .numbers) rows (bodyCount plane (m .bodies)) warm sweeps n (moment m rows) (record { words-kept = refl; numbers-kept = refl; past = refl; count = refl }) in
       let past : drop end (p .left .rows) ≡ drop end rows = rw e (kept .past) in
       put ∙ put-back rows other (p .left .rows) saved k (bounds .0) copied (drop-later (p .left .rows) rows end k (bounds .2 end (fits .0) (fits .1)) past)
 
-pub bodies-back : (bodies other moved saved left : List Float) (k : ℕ) → bodyCount plane bodies ≤ mostBodies → length moved ≡ length bodies
-    → (k ≤ length bodies) × (k ≤ 1289) × ((t : ℕ) → t ≤ length bodies → t ≤ 1289 → t ≤ k) → saved ≡ take k bodies ++ drop k other → left ≡ take k saved ++ drop k moved → left ≡ bodies
-bodies-back bodies other moved saved left k few size bounds copied put =
-    let all : length bodies ≤ k = bounds .2 (length bodies) (omega arith) (bodies-fit-copy bodies few) in
+pub bodies-back : (count : ℕ) (bodies other moved saved left : List Float) (k : ℕ) → bodyCount plane bodies ≤ count → length moved ≡ length bodies
+    → (k ≤ length bodies) × (k ≤ count * 10 + 9) × ((t : ℕ) → t ≤ length bodies → t ≤ count * 10 + 9 → t ≤ k) → saved ≡ take k bodies ++ drop k other → left ≡ take k saved ++ drop k moved → left ≡ bodies
+bodies-back count bodies other moved saved left k few size bounds copied put =
+    let all : length bodies ≤ k = bounds .2 (length bodies) (omega arith) (bodies-fit-copy count bodies few) in
     put ∙ put-back bodies other moved saved k (bounds .0) copied (drop-end moved bodies k size all)
 
 -- ---- what is left of substeps

@@ -32,9 +32,16 @@ use rows::joint_constraint_builder::Warmstart;
 pub const MOST_SUBSTEPS: u32 = 16;
 
 // As many numbers as the rows of 128 joints have, and as a storage of 128 bodies can.
-const ROW_NUMBERS: usize = 13824;
+const MANY_ROW_NUMBERS: usize = 13824;
 
-const BODY_NUMBERS: usize = 1289;
+const MANY_BODY_NUMBERS: usize = 1289;
+
+// The same of 16, and as many words as a storage of 16 joints can have.
+const FEW_ROW_NUMBERS: usize = 1728;
+
+const FEW_BODY_NUMBERS: usize = 169;
+
+const FEW_WORDS: usize = 203;
 
 // The answer, the model's header after the frame, and for each joint how many of its motor rows the last round found low or high.
 pub struct FrameAnswer {
@@ -178,6 +185,70 @@ fn room_of(len: usize, most: usize) -> usize
     most
 }
 
+// All n substeps; where a new pose is not finite, bodies and rows are put back as they were. There is room for a copy of 128 bodies and joints.
+fn many_substeps_or_back(
+    header: Header,
+    bodies: &mut [f32],
+    words: &[u32],
+    numbers: &[f32],
+    rows: &mut [f32],
+    warmstart: Warmstart,
+    sweeps: u32,
+    n: u32,
+) -> Reached
+    requires { ⌜ bodyCount plane (now bodies) ≤ mostBodies ⌝ }
+    requires { ⌜ jointCount plane (now words) (now numbers) ≤ mostJoints ⌝ }
+    requires { ⌜ Room plane (modelOf header (now bodies) (now words) (now numbers)) (now rows) ⌝ }
+    requires { ⌜ n ≤ mostSubsteps ⌝ }
+    ensures { λ r. ⌜ OrBack (jointCount plane (now (words .entry)) (now (numbers .entry))) r (now (bodies .exit)) (now (words .entry)) (now (numbers .entry)) (now (rows .exit)) (stepsOf warmstart sweeps n (moment (modelOf header (now (bodies .entry)) (now (words .entry)) (now (numbers .entry))) (now (rows .entry)))) (now (bodies .entry)) (now (rows .entry)) ⌝ }
+{
+    let row_numbers = room_of(rows.len(), MANY_ROW_NUMBERS);
+    let body_numbers = room_of(bodies.len(), MANY_BODY_NUMBERS);
+    let mut saved_rows = [0.0f32; 13824];
+    copy_first(&mut saved_rows, rows, row_numbers);
+    let mut saved_bodies = [0.0f32; 1289];
+    copy_first(&mut saved_bodies, bodies, body_numbers);
+    let p = all_substeps(header, bodies, words, numbers, rows, warmstart, sweeps, n);
+    if !p.finite {
+        copy_first(rows, &saved_rows, row_numbers);
+        copy_first(bodies, &saved_bodies, body_numbers);
+        return p;
+    }
+    p
+}
+
+// The same with room for a copy of 16 bodies and joints, so that a small model does not pay for a large one's.
+fn few_substeps_or_back(
+    header: Header,
+    bodies: &mut [f32],
+    words: &[u32],
+    numbers: &[f32],
+    rows: &mut [f32],
+    warmstart: Warmstart,
+    sweeps: u32,
+    n: u32,
+) -> Reached
+    requires { ⌜ bodyCount plane (now bodies) ≤ 16 ⌝ }
+    requires { ⌜ jointCount plane (now words) (now numbers) ≤ 16 ⌝ }
+    requires { ⌜ Room plane (modelOf header (now bodies) (now words) (now numbers)) (now rows) ⌝ }
+    requires { ⌜ n ≤ mostSubsteps ⌝ }
+    ensures { λ r. ⌜ OrBack (jointCount plane (now (words .entry)) (now (numbers .entry))) r (now (bodies .exit)) (now (words .entry)) (now (numbers .entry)) (now (rows .exit)) (stepsOf warmstart sweeps n (moment (modelOf header (now (bodies .entry)) (now (words .entry)) (now (numbers .entry))) (now (rows .entry)))) (now (bodies .entry)) (now (rows .entry)) ⌝ }
+{
+    let row_numbers = room_of(rows.len(), FEW_ROW_NUMBERS);
+    let body_numbers = room_of(bodies.len(), FEW_BODY_NUMBERS);
+    let mut few_rows = [0.0f32; 1728];
+    copy_first(&mut few_rows, rows, row_numbers);
+    let mut few_bodies = [0.0f32; 169];
+    copy_first(&mut few_bodies, bodies, body_numbers);
+    let p = all_substeps(header, bodies, words, numbers, rows, warmstart, sweeps, n);
+    if !p.finite {
+        copy_first(rows, &few_rows, row_numbers);
+        copy_first(bodies, &few_bodies, body_numbers);
+        return p;
+    }
+    p
+}
+
 // All n substeps; where a new pose is not finite, bodies and rows are put back as they were.
 fn substeps_or_back(
     header: Header,
@@ -195,19 +266,12 @@ fn substeps_or_back(
     requires { ⌜ n ≤ mostSubsteps ⌝ }
     ensures { λ r. ⌜ OrBack (jointCount plane (now (words .entry)) (now (numbers .entry))) r (now (bodies .exit)) (now (words .entry)) (now (numbers .entry)) (now (rows .exit)) (stepsOf warmstart sweeps n (moment (modelOf header (now (bodies .entry)) (now (words .entry)) (now (numbers .entry))) (now (rows .entry)))) (now (bodies .entry)) (now (rows .entry)) ⌝ }
 {
-    let row_numbers = room_of(rows.len(), ROW_NUMBERS);
-    let body_numbers = room_of(bodies.len(), BODY_NUMBERS);
-    let mut saved_rows = [0.0f32; 13824];
-    copy_first(&mut saved_rows, rows, row_numbers);
-    let mut saved_bodies = [0.0f32; 1289];
-    copy_first(&mut saved_bodies, bodies, body_numbers);
-    let p = all_substeps(header, bodies, words, numbers, rows, warmstart, sweeps, n);
-    if !p.finite {
-        copy_first(rows, &saved_rows, row_numbers);
-        copy_first(bodies, &saved_bodies, body_numbers);
-        return p;
+    if bodies.len() <= FEW_BODY_NUMBERS {
+        if words.len() <= FEW_WORDS {
+            return few_substeps_or_back(header, bodies, words, numbers, rows, warmstart, sweeps, n);
+        }
     }
-    p
+    many_substeps_or_back(header, bodies, words, numbers, rows, warmstart, sweeps, n)
 }
 
 // A refusal: the header as it was, and zeros for counts.
