@@ -8,7 +8,7 @@ use mathlib.Core.Bool.{Bool, true, false, not, cond, _&&_}
 use mathlib.Core.Logic.{_⊎_, inl, inr}
 use mathlib.Core.List.{List, [], _∷_, _++_, map, append-assoc, append-nil}
 use lib.Bits.{bitAnd, and-step, and-self, and-le-r}
-use lib.Count.{trailingZeros, ones, ones-step}
+use lib.Count.{trailingZeros, ones, ones-step, ones-le}
 use lib.Dec.{T, eqb, ltb, eqb→eq}
 use lib.ListN.{length, take, length-map}
 use Rattle.rows.specs.declared.generic_joint.Masks.{Masks}
@@ -213,6 +213,13 @@ motors-count k =
     ∙ ones-places (motorSlots k) 0
     ∙ sym (length-map (places 0 (motorSlots k)) (λ s. slotId s f))
     ∙ ap length (motors-placed k f (first-coupled (k .«coupled_axes»)))
+
+pub motors-are : (k : Masks) {slots : ℕ} → slots ≡ slotBits k → ones (slots % 16) ≡ length (groupOne 2 1 k)
+motors-are k e = ap (λ n. ones (n % 16)) e ∙ motors-count k
+
+-- a number of four bits has few ones
+pub few-ones : (n : ℕ) → ones (n % 16) ≤ 4
+few-ones n = ones-le 4 (n % 16) (omega arith)
 
 -- ---- the functions of row_ids.rt
 

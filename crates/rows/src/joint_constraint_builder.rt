@@ -13,7 +13,7 @@ use crate::joint_velocity_constraint::RowContext;
 use crate::joint_velocity_constraint::Rows;
 use crate::joint_velocity_constraint::WritebackId;
 use crate::joint_velocity_constraint::blank_row;
-use crate::row_ids::motor_count;
+use crate::row_ids::motors_of;
 use crate::row_ids::row_slots;
 use crate::row_ids::slot_id;
 use floats::pose::Pose;
@@ -137,12 +137,13 @@ pub fn update(
 {
     let data = joint.data;
     let masks = data.masks;
-    let first = motor_count(masks);
     let f = masks.first_coupled_lin_axis_id();
     let context = joint.context(params, body1, body2);
     let blank = blank_row();
     let mut rows = [blank; 6];
-    let mut left = row_slots(masks);
+    let slots = row_slots(masks);
+    let first = motors_of(slots);
+    let mut left = slots;
     let mut k = 0usize;
     while left > 0 {
         let id = slot_id(u32::trailing_zeros(left), f);

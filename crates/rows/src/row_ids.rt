@@ -4,6 +4,7 @@ ghost use mathlib.Core.Bool.{true, cond, not, _&&_};
 ghost use mathlib.Core.List.{List, [], _∷_, _++_};
 ghost use Prim.Native.Nat.{ℕ, _+_, _*_, _/_, _%_, _≤_, _<_};
 ghost use lib.Dec.{ltb};
+ghost use lib.Count.{ones};
 ghost use lib.ListN.{length};
 ghost use Rattle.rows.specs.RowIds.{hasAxis, isLocked, isMotor, isLimit, isCoupled, some, firstCoupled, sharesLinear, groupOne, rowIds, rowIdsArray};
 ghost use Rattle.rows.specs.RowSlots.{slotAxis, slotId, bitsOf, atAxes, slotBits};
@@ -157,11 +158,18 @@ pub(crate) fn slot_id(s: u32, f: usize) -> WritebackId
     WritebackId::Limit(slot_axis(s - 7, f))
 }
 
+// How many slots of motors are named.
+pub(crate) fn motors_of(slots: u32) -> usize
+    ensures { λ r. ⌜ r ≡ ones (slots % 16) ⌝ }
+{
+    u32::count_ones(slots % 16) as usize
+}
+
 // The number of a joint's motor rows. They are its first ones.
 pub fn motor_count(masks: Masks) -> usize
     ensures { λ r. ⌜ r ≡ length (groupOne 2 1 masks) ⌝ }
 {
-    u32::count_ones(row_slots(masks) % 16) as usize
+    motors_of(row_slots(masks))
 }
 
 // The number of a joint's rows.

@@ -3,7 +3,7 @@ use mathlib.Core.Path.{ap, _∙_}
 use native.Mathlib.Omega.{arith}
 use Rattle.rows.specs.Finalize.{finalizeGroups}
 use Rattle.rows.specs.RowIds.{rowIds}
-use Rattle.rows.proofs.RowSlotsLaws.{cleared-less}
+use Rattle.rows.proofs.RowSlotsLaws.{cleared-less, motors-are}
 use Rattle.rows.proofs.UpdateRows.{group-counts}
 use Rattle.rows.proofs.WarmedRows.{Starting, start-start, start-turn, room, all-made, start-end, started-rows}
 use borrow.Author.Needs.{needs}
@@ -11,14 +11,11 @@ use Rattle.rows.proofs.joint_constraint_builder.update.Statement.{state
 use Rattle.rows.proofs.joint_constraint_builder.update.Tie as tie
 
 abbrev Inv-loop : tie.InvT-loop
-Inv-loop substep-id warmstart joint prevs first f context rows₀ left₀ k₀ rows left k =
+Inv-loop substep-id warmstart joint prevs f context slots first rows₀ left₀ k₀ rows left k =
     Starting warmstart substep-id joint context prevs (rowIds 2 1 (joint .«data» .masks)) f rows left k
 
 abbrev μ-loop : tie.MeasureT-loop
-μ-loop substep-id warmstart joint prevs first f context rows₀ left₀ k₀ rows left k = left
-
-motor-count-requires : tie.Need-motor-count-requires Inv-loop μ-loop
-motor-count-requires c κs = search needs
+μ-loop substep-id warmstart joint prevs f context slots first rows₀ left₀ k₀ rows left k = left
 
 first-coupled-lin-axis-id-requires : tie.Need-first-coupled-lin-axis-id-requires Inv-loop μ-loop
 first-coupled-lin-axis-id-requires c κs = search needs
@@ -32,12 +29,15 @@ blank-row-requires c κs = search needs
 row-slots-requires : tie.Need-row-slots-requires Inv-loop μ-loop
 row-slots-requires c κs = search needs
 
+motors-of-requires : tie.Need-motors-of-requires Inv-loop μ-loop
+motors-of-requires c κs = search needs
+
 loop-holds : tie.Need-loop-holds Inv-loop μ-loop
 loop-holds c =
     let a = c .before .before .before .before .before .before .before .args in
     let six = c .before .before .before .before .before .before .before .good .1 .1 .1 .1 .1 .1 .0 .1 .0 .1 in
-    rw (c .before .blank-row .ensures, c .row-slots .ensures)
-    (start-start (a .warmstart) (a .substep-id) (a .joint) (c .before .before .context .result) (a .t7) (c .before .before .before .first-coupled-lin-axis-id .result) six (c .before .before .before .first-coupled-lin-axis-id .ensures))
+    rw (c .before .before .blank-row .ensures, c .before .row-slots .ensures)
+    (start-start (a .warmstart) (a .substep-id) (a .joint) (c .before .before .before .context .result) (a .t7) (c .before .before .before .before .first-coupled-lin-axis-id .result) six (c .before .before .before .before .first-coupled-lin-axis-id .ensures))
 
 slot-id-requires : tie.Need-slot-id-requires Inv-loop μ-loop
 slot-id-requires c κs = search needs
@@ -50,14 +50,14 @@ mul-warmed c =
     let l = c .before .before .before in
     let d = l .before in
     let a = d .before .before .before .before .before .before .before .args in
-    record { fits = omega (arith, room (a .warmstart) (a .substep-id) (a .joint) (d .before .before .context .result) (a .t7) (rowIds 2 1 (a .joint .«data» .masks)) (d .before .before .before .first-coupled-lin-axis-id .result) (l .loop .rows) (l .loop .left) (l .loop .k) (l .loop .inv) (c .before .before .loop-test .taken)) }
+    record { fits = omega (arith, room (a .warmstart) (a .substep-id) (a .joint) (d .before .before .before .context .result) (a .t7) (rowIds 2 1 (a .joint .«data» .masks)) (d .before .before .before .before .first-coupled-lin-axis-id .result) (l .loop .rows) (l .loop .left) (l .loop .k) (l .loop .inv) (c .before .before .loop-test .taken)) }
 
 array-read-warmed : tie.Need-array-read-warmed Inv-loop μ-loop
 array-read-warmed c =
     let l = c .before .before .before in
     let d = l .before in
     let a = d .before .before .before .before .before .before .before .args in
-    room (a .warmstart) (a .substep-id) (a .joint) (d .before .before .context .result) (a .t7) (rowIds 2 1 (a .joint .«data» .masks)) (d .before .before .before .first-coupled-lin-axis-id .result) (l .loop .rows) (l .loop .left) (l .loop .k) (l .loop .inv) (c .before .before .loop-test .taken)
+    room (a .warmstart) (a .substep-id) (a .joint) (d .before .before .before .context .result) (a .t7) (rowIds 2 1 (a .joint .«data» .masks)) (d .before .before .before .before .first-coupled-lin-axis-id .result) (l .loop .rows) (l .loop .left) (l .loop .k) (l .loop .inv) (c .before .before .loop-test .taken)
 
 row-requires : tie.Need-row-requires Inv-loop μ-loop
 row-requires c κs = search needs
@@ -70,14 +70,14 @@ mul-rows c =
     let l = c .before .before .before .before .before in
     let d = l .before in
     let a = d .before .before .before .before .before .before .before .args in
-    record { fits = omega (arith, room (a .warmstart) (a .substep-id) (a .joint) (d .before .before .context .result) (a .t7) (rowIds 2 1 (a .joint .«data» .masks)) (d .before .before .before .first-coupled-lin-axis-id .result) (l .loop .rows) (l .loop .left) (l .loop .k) (l .loop .inv) (c .before .before .before .before .loop-test .taken)) }
+    record { fits = omega (arith, room (a .warmstart) (a .substep-id) (a .joint) (d .before .before .before .context .result) (a .t7) (rowIds 2 1 (a .joint .«data» .masks)) (d .before .before .before .before .first-coupled-lin-axis-id .result) (l .loop .rows) (l .loop .left) (l .loop .k) (l .loop .inv) (c .before .before .before .before .loop-test .taken)) }
 
 array-set-from-rows : tie.Need-array-set-from-rows Inv-loop μ-loop
 array-set-from-rows c =
     let l = c .before .before .before .before .before in
     let d = l .before in
     let a = d .before .before .before .before .before .before .before .args in
-    room (a .warmstart) (a .substep-id) (a .joint) (d .before .before .context .result) (a .t7) (rowIds 2 1 (a .joint .«data» .masks)) (d .before .before .before .first-coupled-lin-axis-id .result) (l .loop .rows) (l .loop .left) (l .loop .k) (l .loop .inv) (c .before .before .before .before .loop-test .taken)
+    room (a .warmstart) (a .substep-id) (a .joint) (d .before .before .before .context .result) (a .t7) (rowIds 2 1 (a .joint .«data» .masks)) (d .before .before .before .before .first-coupled-lin-axis-id .result) (l .loop .rows) (l .loop .left) (l .loop .k) (l .loop .inv) (c .before .before .before .before .loop-test .taken)
 
 sub-left : tie.Need-sub-left Inv-loop μ-loop
 sub-left c = search needs
@@ -87,7 +87,7 @@ add-k c =
     let l = c .before .before .before .before .before in
     let d = l .before in
     let a = d .before .before .before .before .before .before .before .args in
-    record { fits = omega (arith, room (a .warmstart) (a .substep-id) (a .joint) (d .before .before .context .result) (a .t7) (rowIds 2 1 (a .joint .«data» .masks)) (d .before .before .before .first-coupled-lin-axis-id .result) (l .loop .rows) (l .loop .left) (l .loop .k) (l .loop .inv) (c .before .before .before .before .loop-test .taken)) }
+    record { fits = omega (arith, room (a .warmstart) (a .substep-id) (a .joint) (d .before .before .before .context .result) (a .t7) (rowIds 2 1 (a .joint .«data» .masks)) (d .before .before .before .before .first-coupled-lin-axis-id .result) (l .loop .rows) (l .loop .left) (l .loop .k) (l .loop .inv) (c .before .before .before .before .loop-test .taken)) }
 
 loop-less : tie.Need-loop-less Inv-loop μ-loop
 loop-less c = cleared-less (c .before .before .before .before .before .loop .left) (c .before .before .before .before .loop-test .taken)
@@ -97,7 +97,7 @@ loop-again c =
     let l = c .before .before .before .before .before in
     let d = l .before in
     let a = d .before .before .before .before .before .before .before .args in
-    start-turn (a .warmstart) (a .substep-id) (a .joint) (d .before .before .context .result) (a .t7) (rowIds 2 1 (a .joint .«data» .masks)) (d .before .before .before .first-coupled-lin-axis-id .result) (l .loop .rows) (l .loop .left) (l .loop .k) (l .loop .inv) _
+    start-turn (a .warmstart) (a .substep-id) (a .joint) (d .before .before .before .context .result) (a .t7) (rowIds 2 1 (a .joint .«data» .masks)) (d .before .before .before .before .first-coupled-lin-axis-id .result) (l .loop .rows) (l .loop .left) (l .loop .k) (l .loop .inv) _
     (c .before .before .before .before .loop-test .taken) (rw (c .before .before .seed .ensures, c .before .row .ensures, c .before .before .before .slot-id .ensures) at (c .warmed .ensures))
 
 finalize-groups-requires : tie.Need-finalize-groups-requires Inv-loop μ-loop
@@ -105,20 +105,20 @@ finalize-groups-requires c κs =
     let l = c .before in
     let d = l .before in
     let a = d .before .before .before .before .before .before .before .args in
-    let made = all-made (a .warmstart) (a .substep-id) (a .joint) (d .before .before .context .result) (a .t7) (rowIds 2 1 (a .joint .«data» .masks)) (d .before .before .before .first-coupled-lin-axis-id .result) (l .loop .rows) (l .loop .left) (l .loop .k) (l .loop .inv) (c .loop-test .left) in
+    let made = all-made (a .warmstart) (a .substep-id) (a .joint) (d .before .before .before .context .result) (a .t7) (rowIds 2 1 (a .joint .«data» .masks)) (d .before .before .before .before .first-coupled-lin-axis-id .result) (l .loop .rows) (l .loop .left) (l .loop .k) (l .loop .inv) (c .loop-test .left) in
     let counts = group-counts (a .joint .«data» .masks) in
-    (omega (arith, made, counts .0, d .before .before .before .before .motor-count .ensures), omega (arith, made, counts .1))
+    (omega (arith, made, counts .0, d .motors-of .ensures ∙ motors-are _ (d .before .row-slots .ensures)), omega (arith, made, counts .1))
 
 returns : tie.Need-returns Inv-loop μ-loop
 returns c =
     let l = c .before .before in
     let d = l .before in
     let a = d .before .before .before .before .before .before .before .args in
-    let made = all-made (a .warmstart) (a .substep-id) (a .joint) (d .before .before .context .result) (a .t7) (rowIds 2 1 (a .joint .«data» .masks)) (d .before .before .before .first-coupled-lin-axis-id .result) (l .loop .rows) (l .loop .left) (l .loop .k) (l .loop .inv) (c .before .loop-test .left) in
-    started-rows (a .params) (a .substep-id) (a .warmstart) (a .body1) (a .body2) (a .joint) (a .t7) (l .loop .inv .six-prevs) (d .before .before .before .before .motor-count .ensures) made (d .before .before .context .ensures)
+    let made = all-made (a .warmstart) (a .substep-id) (a .joint) (d .before .before .before .context .result) (a .t7) (rowIds 2 1 (a .joint .«data» .masks)) (d .before .before .before .before .first-coupled-lin-axis-id .result) (l .loop .rows) (l .loop .left) (l .loop .k) (l .loop .inv) (c .before .loop-test .left) in
+    started-rows (a .params) (a .substep-id) (a .warmstart) (a .body1) (a .body2) (a .joint) (a .t7) (l .loop .inv .six-prevs) (d .motors-of .ensures ∙ motors-are _ (d .before .row-slots .ensures)) made (d .before .before .before .context .ensures)
     (c .finalize-groups .ensures
-    ∙ ap (λ t. finalizeGroups (d .before .before .before .before .motor-count .result) (l .loop .k) t)
-    (start-end (a .warmstart) (a .substep-id) (a .joint) (d .before .before .context .result) (a .t7) (rowIds 2 1 (a .joint .«data» .masks)) (d .before .before .before .first-coupled-lin-axis-id .result) (l .loop .rows) (l .loop .left) (l .loop .k) (l .loop .inv) (c .before .loop-test .left)))
+    ∙ ap (λ t. finalizeGroups (d .motors-of .result) (l .loop .k) t)
+    (start-end (a .warmstart) (a .substep-id) (a .joint) (d .before .before .before .context .result) (a .t7) (rowIds 2 1 (a .joint .«data» .masks)) (d .before .before .before .before .first-coupled-lin-axis-id .result) (l .loop .rows) (l .loop .left) (l .loop .k) (l .loop .inv) (c .before .loop-test .left)))
 
 pub update-spec : {M : Type 1} → statement M
 update-spec =
@@ -126,11 +126,11 @@ update-spec =
     (tie.spec
     Inv-loop
     μ-loop
-    motor-count-requires
     first-coupled-lin-axis-id-requires
     context-requires
     blank-row-requires
     row-slots-requires
+    motors-of-requires
     loop-holds
     slot-id-requires
     seed-requires

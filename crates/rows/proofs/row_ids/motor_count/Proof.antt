@@ -1,24 +1,18 @@
 -- `motor_count` meets its contract: the motors' slots are the four lowest.
-use mathlib.Core.Path.{ap, _∙_}
-use Prim.Native.Nat.{_%_}
-use native.Mathlib.Omega.{arith}
+use mathlib.Core.Path.{_∙_}
 use borrow.Author.Needs.{needs}
-use lib.Count.{ones}
-use Rattle.rows.proofs.RowSlotsLaws.{motors-count}
-use Rattle.rows.proofs.UpdateRows.{group-counts}
+use Rattle.rows.proofs.RowSlotsLaws.{motors-are}
 use Rattle.rows.proofs.row_ids.motor_count.Statement.{statement}
 use Rattle.rows.proofs.row_ids.motor_count.Tie as tie
 
 row-slots-requires : tie.Need-row-slots-requires
 row-slots-requires c κs = search needs
 
-returns : tie.Need-returns
-returns c = ap (λ x. ones (x % 16)) (c .row-slots .ensures) ∙ motors-count (c .before .args .masks)
+motors-of-requires : tie.Need-motors-of-requires
+motors-of-requires c κs = search needs
 
-cast-result : tie.Need-cast-result
-cast-result c =
-    let counts = group-counts (c .before .args .masks) in
-    record { fits = omega (arith, returns c, counts .0, counts .1) }
+returns : tie.Need-returns
+returns c = c .motors-of .ensures ∙ motors-are _ (c .before .row-slots .ensures)
 
 pub motor-count-spec : {M : Type 1} → statement M
-motor-count-spec = tie.close (tie.spec row-slots-requires cast-result returns)
+motor-count-spec = tie.close (tie.spec row-slots-requires motors-of-requires returns)
