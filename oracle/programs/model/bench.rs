@@ -220,7 +220,7 @@ pub fn bench(seeds: &[u32]) {
             }
             work("a whole step", 1.0, &STEP);
         }
-        if [1, 4, 128].contains(&joints) {
+        if [1, 4, 16, 128].contains(&joints) {
             work("a frame of 4 substeps", 1.0, &[FRAME]);
         }
         assert!(both.agree());
