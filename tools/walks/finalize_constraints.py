@@ -1,10 +1,8 @@
-"""Writes the walk of `finalize_constraints`: python3 tools/walks/finalize_constraints.py"""
-from walk import Context, Frame, HERE, loc, typed, whole, arguments, items, places, write
+"""Writes the walk of `finalize_constraints`: python3 tools/walks/finalize_constraints.py [CRATE]"""
+from walk import Context, Frame, HERE, SIZE, VECTORS, SPECS, PROOFS, ANY_SPECS, ANY_PROOFS, CALLS, loc, typed, whole, arguments, items, places, write
 
-MODULE = "Rattle.rows.proofs.joint_constraint_helper"
-VELOCITY = "Rattle.rows.proofs.joint_velocity_constraint"
-SPECS = "Rattle.rows.specs"
-SIZE = 72  # of a row in memory, in bytes
+MODULE = f"{PROOFS}.joint_constraint_helper"
+VELOCITY = f"{PROOFS}.joint_velocity_constraint"
 
 # ---- the locals
 N, IM, J, P, V, I, HAS, A0, Y0, TO, M1, A1, Y1, A2, LOCK, TI, NEW, M2, A3, Y2, M3, A4 = range(2, 24)
@@ -91,7 +89,7 @@ class Callee:
 
     def cited(self):
         n = self.name
-        return f"      known-{n} = cited 𝓤 H ({self.contract} 𝓤 H (𝓖 .A) (𝓜 .mem) (𝓡 .run)) 𝓜 𝓡 code.env {n}-key {n}-def.routine code.calls-rows·joint-constraint-helper·{n} ({n}-thm.met 𝓤 H 𝓜 𝓖 𝓡);\n"
+        return f"      known-{n} = cited 𝓤 H ({self.contract} 𝓤 H (𝓖 .A) (𝓜 .mem) (𝓡 .run)) 𝓜 𝓡 code.env {n}-key {n}-def.routine {CALLS}·joint-constraint-helper·{n} ({n}-thm.met 𝓤 H 𝓜 𝓖 𝓡);\n"
 
     def call(self, c, args, knowns, loads, into, r, u, e, is_):
         """The call, with its result r in local `into`. It opens four parentheses."""
@@ -226,9 +224,9 @@ more_o.append(c.forget([A2, Y1, A1, M1, TO]))
 more_o.append(f"first ! $ branches ! {c.load(LOCK)}")
 more_o.append(f"(λ held. {c.forget([LOCK])} {next_index(c, J, I, 'j')} blocks ! $")
 more_o.append(f"inner j p {own_p} v {own_v} (between (map (pairOf im v p)) (j + 1) n (set zs j p)) (afterTurn 𝓤 H X Q)")
-more_o.append(f"(λ ws lw same. tails j p {own_p} v {own_v} ws small X Q (k ws lw (lock-row im j n zs ws d p v small (fills zs len) ep (sym et ∙ yes-T t held) ev same)))")
+more_o.append(f"(λ ws lw same. tails j p {own_p} v {own_v} ws small X Q (k ws lw (lock-row rowGroup im j n zs ws d p v small (fills zs len) ep (sym et ∙ yes-T t held) ev same)))")
 more_o.append("(record { i = j + 1; ws = set zs j p; len = length-set zs j p ∙ len; same = refl }))")
-more_o.append(f"(λ failed. {c.forget([LOCK])} skips ! $ exec ! C Λ En tail (anyQ (afterTurn 𝓤 H X Q)) $ tails j p {own_p} v {own_v} (set zs j p) small X Q (k (set zs j p) (length-set zs j p ∙ len) (free-turn (headOf im) isLock (reduceOf im) j n zs d p small (fills zs len) ep (sym et ∙ no-T t failed))))" + ")" * 13)
+more_o.append(f"(λ failed. {c.forget([LOCK])} skips ! $ exec ! C Λ En tail (anyQ (afterTurn 𝓤 H X Q)) $ tails j p {own_p} v {own_v} (set zs j p) small X Q (k (set zs j p) (length-set zs j p ∙ len) (free-turn (headOf im) isLock (reduceOf rowGroup im) j n zs d p small (fills zs len) ep (sym et ∙ no-T t failed))))" + ")" * 13)
 
 c = at_turn()
 ends_o = [compare(c, J, TO) + f" leaves-loop ! {c.load(TO)} $", f"exec ! C Λ En body.t-4 (atRet En Post) $ {c.forget([TO, J, IM])} finish zs len is"]
@@ -244,13 +242,13 @@ c.drop(3)
 c.push("rows")
 some_rows += im_sum.call(c, ["(getD xs 0 d)"], ["is"], [Y0], IM, "im", "u", "em", "ie")
 some_rows.append(f"assigns ! (of-opd ! (lit ! tt)) {HERE} (init ! {c.at(f'_{J}')} refl (tt, record {{ fits = lit< tt }})) $ {c.forget([Y0, A0])} blocks ! $")
-some_rows.append("outer im (vec-vals im _ ie) (record { j = 0; zs = xs; len = refl; same = ap (λ (y : Vector). restOf y 0 n xs) em ∙ start xs d has })" + ")" * 5)
+some_rows.append("outer im (vec-vals im _ ie) (record { j = 0; zs = xs; len = refl; same = ap (λ (y : Vector). restOf rowGroup y 0 n xs) em ∙ start rowGroup xs d has })" + ")" * 5)
 
 c = at_turn()
 branch = [f"assigns ! (bin ! (lit ! tt) {c.load(N)} tt) {HERE} (init ! {c.at(f'_{HAS}')} refl (tt, tt)) $"]
 branch.append(f"first ! $ branches ! {c.load(HAS)}")
 branch.append(f"(λ held. {c.forget([HAS])} some-rows (stand-in xs 0 (ltb→lt 0 n held)) (ltb→lt 0 n held))")
-branch.append(f"(λ failed. {c.forget([HAS])} skips ! $ exec ! C Λ En body.t-4 (atRet En Post) $ finish xs refl (none xs (nltb→le 0 n failed)))")
+branch.append(f"(λ failed. {c.forget([HAS])} skips ! $ exec ! C Λ En body.t-4 (atRet En Post) $ finish xs refl (none rowGroup xs (nltb→le 0 n failed)))")
 
 c = Context(frame.names() + ["obs", "bor", "tok", "true", "true'"])
 begins = [c.move("obs", "bor", "tok") + " opens-slice ! tt R.the-row xs b o $"]
@@ -333,13 +331,14 @@ use denote.Triple.Call.{{calls-at}}
 use denote.Triple.Clauses.{{ensured, lasts}}
 use denote.Triple.Table.{{entered, cited}}
 use denote.Triple.Walked.{{says, Stays, stay-slice, walkOf, goes-slice, Walks, ends-at, walked, walk-meets}}
-use Rattle.floats.specs.declared.vector.Vector.{{Vector}}
-use Rattle.floats.proofs.vector.Vector as U
-use Rattle.floats.proofs.vector.Vector.Laws as U′
-use {SPECS}.Finalize.{{imSumOf, headOf, isLock, invDotOf, pairOf, reduceOf, finalizeOf}}
+use Rattle.{VECTORS}.specs.declared.vector.Vector.{{Vector}}
+use Rattle.{VECTORS}.proofs.vector.Vector as U
+use Rattle.{VECTORS}.proofs.vector.Vector.Laws as U′
+use {ANY_SPECS}.Groups.{{reduceOf}}
+use {SPECS}.Finalize.{{imSumOf, headOf, isLock, invDotOf, pairOf, rowGroup, finalizeOf}}
 use {SPECS}.declared.joint_velocity_constraint.JointConstraint.{{JointConstraint}}
-use Rattle.rows.proofs.Orthogonalise.{{between, between-end, pair-turn, free-turn, rest-end}}
-use Rattle.rows.proofs.FinalizeLoops.{{restOf, lock-row, start, none}}
+use {ANY_PROOFS}.Orthogonalise.{{between, between-end, pair-turn, free-turn, rest-end}}
+use {ANY_PROOFS}.GroupLaws.{{restOf, lock-row, start, none}}
 use {VELOCITY}.JointConstraint as R
 use {VELOCITY}.JointConstraint.Laws as R′
 {"".join(k.uses() for k in callees)}use {MODULE}.finalize_constraints.Key.{{name as own-key}}
@@ -426,7 +425,7 @@ record Outer (n : ℕ) (im : Vector) (goal : List JointConstraint) : Type 0 wher
   j : ℕ
   zs : List JointConstraint
   len : length zs ≡ n
-  same : restOf im j n zs ≡ goal
+  same : restOf rowGroup im j n zs ≡ goal
 
 -- the contracts that the proof cites
 module _ {{M : Type 1}} (𝓤 : URA M) (H : Heap 𝓤) (A : Atoms 𝓤) (at-mem : Memory → SProp 𝓤) (run : Routine → Fun 𝓤) where
@@ -555,7 +554,7 @@ module _ {{M : Type 1}} (𝓤 : URA M) (H : Heap 𝓤) (A : Atoms 𝓤) (W : Giv
 
         -- a turn at the row j, of which d is a stand-in
         moreO : (j : ℕ) (zs : List JointConstraint) (d : JointConstraint) → ltb j n ≡ true → j < n → length zs ≡ n → j < length zs → (X : SProp 𝓤) (Q : Out → SProp 𝓤)
-            → ((ws : List JointConstraint) → length ws ≡ n → restOf im (j + 1) n ws ≡ restOf im j n zs → Sq W (AtOut (j + 1) ws) (prop X)) → Sq W (AtOut j zs) (runs C Λ En body.turn-2 (anyQ (afterTurn 𝓤 H X Q)))
+            → ((ws : List JointConstraint) → length ws ≡ n → restOf rowGroup im (j + 1) n ws ≡ restOf rowGroup im j n zs → Sq W (AtOut (j + 1) ws) (prop X)) → Sq W (AtOut j zs) (runs C Λ En body.turn-2 (anyQ (afterTurn 𝓤 H X Q)))
         moreO j zs d e small len at-j X Q k =
             {lines(more_o, 12)}
 
@@ -585,7 +584,7 @@ module _ {{M : Type 1}} (𝓤 : URA M) (H : Heap 𝓤) (A : Atoms 𝓤) (W : Giv
         outer = loops ! 𝓣 NearerO NearerO-wf AtO (λ s. by-bool (ltb (s .j) n)
             (λ e. moreO (s .j) (s .zs) (stand-in (s .zs) (s .j) (at-j s e)) e (below (s .j) n e) (s .len) (at-j s e) _ _
             (λ ws len same. again ! NearerO AtO s (record {{ j = s .j + 1; zs = ws; len = len; same = same ∙ s .same }}) (add-one-dec n (s .j) (below (s .j) n e))))
-            (λ e. endsO (s .j) (s .zs) e (s .len) (sym (rest-end (headOf im) isLock (reduceOf im) (s .j) n (s .zs) (over (s .j) n e)) ∙ s .same) _))
+            (λ e. endsO (s .j) (s .zs) e (s .len) (sym (rest-end (headOf im) isLock (reduceOf rowGroup im) (s .j) n (s .zs) (over (s .j) n e)) ∙ s .same) _))
 
       -- where there is a row: the sum of the first one's inverse masses, and the loops
       some-rows : (d : JointConstraint) → 0 < n → Sq W ({free}) (runs C Λ En arm (anyQ (afterSeq 𝓤 H (Wp 𝓤 H C Λ En body.t-4 (atReturn 𝓤 H En Post)) (atReturn 𝓤 H En Post))))

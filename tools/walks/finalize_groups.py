@@ -1,11 +1,8 @@
-"""Writes the walk of `finalize_groups`: python3 tools/walks/finalize_groups.py"""
-from walk import Context, Frame, HERE, loc, whole, arguments, items, write
+"""Writes the walk of `finalize_groups`: python3 tools/walks/finalize_groups.py [CRATE]"""
+from walk import Context, Frame, HERE, SIZE, MOST, SPECS, PROOFS, ANY_SPECS, CALLS, loc, whole, arguments, items, write
 
-MODULE = "Rattle.rows.proofs.joint_constraint_helper"
-VELOCITY = "Rattle.rows.proofs.joint_velocity_constraint"
-SPECS = "Rattle.rows.specs"
-SIZE = 72  # of a row in memory, in bytes
-CAP = 6  # the length of the array
+MODULE = f"{PROOFS}.joint_constraint_helper"
+VELOCITY = f"{PROOFS}.joint_velocity_constraint"
 
 # _0 the result; _1, _2, _3 the arguments; _4 the slot whose rows are lent; _5 what `finalize_constraints` returns; _6 the slot's
 # address; _7 the slice of group one; _8 group two's offset; _9 the slot's address; _10 group two's address; _11 the number
@@ -20,10 +17,10 @@ MORE = "(drop m xs)"
 
 
 def array_typed(value, known):
-    return f"(array-typed R.the-row (LL.lawful R.the-type R′.the-laws 𝓤 H A W .typed) {CAP} {value} _ {known} .0)"
+    return f"(array-typed R.the-row (LL.lawful R.the-type R′.the-laws 𝓤 H A W .typed) {MOST} {value} _ {known} .0)"
 
 
-ARRAY_MAKES = f"(array-makes 𝓤 H A W R.the-row (LL.makes R.the-type R′.the-plain 𝓤 H A) {CAP})"
+ARRAY_MAKES = f"(array-makes 𝓤 H A W R.the-row (LL.makes R.the-type R′.the-plain 𝓤 H A) {MOST})"
 
 # ---- the slot is taken apart
 c = Context(frame.names())
@@ -32,7 +29,7 @@ begins.append(f"assigns ! (addr ! {HERE}) {HERE} (init ! {c.at(f'_{ADDRESS}')} r
 begins.append(f"assigns ! (agg ! {arguments([c.load(ADDRESS), c.load(FIRST)])}) {HERE} (init ! {c.at(f'_{ONE}')} refl (tt, (tt, ({FITS % 'm-fits'}, tt)))) $")
 begins.append(f"{c.move(f'_{SLOT}')} use1 W (‵ (cellAt fullShare (Arr .mir) (aval xs ∷ []) {loc(SLOT)} 0)) (W .laws .at-raw fullShare arr {loc(SLOT)} 0 (aval xs)) $")
 begins.append(f"owned ! Arr (Is Arr) {ARRAY_MAKES} xs _ xs-is $ move ! (1 ∷ 0 ∷ []) $ fjoin ! $ fpack ! (List Val) (λ vs. fsep (cellAt fullShare (Arr .mir) vs {loc(SLOT)} 0) (Arr .own xs vs)) (aval xs ∷ []) $")
-begins.append(f"use1 W (‵ (arr-parts (shares R.the-row) {CAP} .part fullShare xs {loc(SLOT)} 0)) (array-apart 𝓤 H A W R.the-row fullShare tt {CAP} xs {loc(SLOT)} 0) $ fsplit ! $ feqL ! (λ six.")
+begins.append(f"use1 W (‵ (arr-parts (shares R.the-row) {MOST} .part fullShare xs {loc(SLOT)} 0)) (array-apart 𝓤 H A W R.the-row fullShare tt {MOST} xs {loc(SLOT)} 0) $ fsplit ! $ feqL ! (λ six.")
 c.drop(1)
 begins.append(f"use1 W (‵ (row R.the-row fullShare (take m xs) {loc(SLOT)} 0) ⊛ ‵ (row R.the-row fullShare {MORE} {loc(SLOT)} {MID})) (cut-rows 𝓤 H A W {loc(SLOT)} m xs 0) $ split ! $")
 c.push("lent-rows", "others")
@@ -104,9 +101,9 @@ c.drop(2)
 c.push("later")
 ends.append(f"rewrite ! 0 (λ (k : ℕ). ‵ (row R.the-row fullShare (zs ++ beyond) {loc(SLOT)} (place {SIZE} 0 k))) (sym (ly ∙ take-len xs m (m-six six))) refl $")
 ends.append(f"{c.move('firsts', 'later')} use2 W (‵ (row R.the-row fullShare {all_} {loc(SLOT)} 0)) (join-rows 𝓤 H A W {loc(SLOT)} ys (zs ++ beyond) 0) $")
-ends.append(f"feqI ! ℕ (length {all_}) {CAP} all $ fjoin ! $ use1 W (‵ (partAt Arr fullShare {all_} {loc(SLOT)} 0)) (array-whole 𝓤 H A W R.the-row fullShare {CAP} {all_} {loc(SLOT)} 0) $")
+ends.append(f"feqI ! ℕ (length {all_}) {MOST} all $ fjoin ! $ use1 W (‵ (partAt Arr fullShare {all_} {loc(SLOT)} 0)) (array-whole 𝓤 H A W R.the-row fullShare {MOST} {all_} {loc(SLOT)} 0) $")
 ends.append(f"fpick ! (λ us. fsplit ! $ move ! (1 ∷ []) $ peeks ! Arr (Is Arr) (shows 𝓤 H A Arr) {all_} us (λ is. let-go ! $")
-ends.append(f"rewrite ! 0 (λ (ws : List Val). ‵ (cellAt fullShare (Arr .mir) ws {loc(SLOT)} 0)) (array-tells R.the-row rvals (LL.tells R.the-type R′.the-laws) {CAP} {all_} us is) refl $")
+ends.append(f"rewrite ! 0 (λ (ws : List Val). ‵ (cellAt fullShare (Arr .mir) ws {loc(SLOT)} 0)) (array-tells R.the-row rvals (LL.tells R.the-type R′.the-laws) {MOST} {all_} us is) refl $")
 ends.append(f"use1 W ({frame.fat(SLOT, f'(aval {all_})')}) (W .laws .raw-at fullShare arr {loc(SLOT)} 0 (aval {all_})) $")
 c.drop(2)
 c.push(f"_{SLOT}")
@@ -175,6 +172,7 @@ use denote.Triple.Call.{{calls-at}}
 use denote.Triple.Clauses.{{ensured, lasts}}
 use denote.Triple.Table.{{entered, cited}}
 use denote.Triple.Walked.{{says, Stays, stay-none, needs, walkOf, goes-none, Walks, ends-at, walked, walk-meets}}
+use {ANY_SPECS}.Groups as Groups
 use {SPECS}.Finalize.{{finalizeOf, finalizeGroups}}
 use {SPECS}.declared.joint_velocity_constraint.JointConstraint.{{JointConstraint}}
 use {VELOCITY}.JointConstraint as R
@@ -191,7 +189,7 @@ use {MODULE}.finalize_groups.Code.Mir as body
 
 -- ---- plain facts
 put-together : (m len : ℕ) (xs ys zs : List JointConstraint) → m ≤ len → ys ≡ finalizeOf (take m xs) → zs ≡ finalizeOf (take (len - m) (drop m xs)) → ys ++ (zs ++ drop (len - m) (drop m xs)) ≡ finalizeGroups m len xs
-unfolding finalizeGroups
+unfolding Groups.finalizeGroups
 put-together m len xs ys zs h e f =
     let k : m + (len - m) ≡ len = omega arith in
     rw (e, f, drop-drop (len - m) m xs, k)
@@ -217,13 +215,13 @@ abbrev word : Ty
 word = tyInt w64
 
 abbrev arr : Ty
-arr = tyArray R′.mir {CAP}
+arr = tyArray R′.mir {MOST}
 
 abbrev slice : Ty
 slice = sliceTy (tyRef erased mut (pointee (R.the-row .written)))
 
 abbrev Arr : RattleType
-Arr = Array R.the-row {CAP}
+Arr = Array R.the-row {MOST}
 
 abbrev rvals : JointConstraint → List Val
 rvals = LL.vals R.the-type R′.the-laws
@@ -242,13 +240,13 @@ Callee 𝓤 H A at-mem run = tripleOf 𝓤 H A callee.signature (callee.spec �
 abbrev lent : List JointConstraint → ℕ → ℕ → GName → RefT (List JointConstraint)
 lent ys b o γ = record {{ ptr = (b, o); name = γ; now = ys }}
 
-roomy : (ys : List JointConstraint) → length ys ≤ {CAP} → Room R.the-row (length ys)
+roomy : (ys : List JointConstraint) → length ys ≤ {MOST} → Room R.the-row (length ys)
 roomy ys short = (omega (arith, short), omega (arith, short))
 
 take-len : (xs : List JointConstraint) (k : ℕ) → k ≤ length xs → length (take k xs) ≡ k
 take-len xs k small = length-take-le k xs small
 
-module _ {{M : Type 1}} (𝓤 : URA M) (H : Heap 𝓤) (A : Atoms 𝓤) (W : Given 𝓤 H A) (at-mem : Memory → SProp 𝓤) (run : Routine → Fun 𝓤) (xs : List JointConstraint) (m len : ℕ) (xs-is : Is Arr xs (aval xs ∷ [])) (m-fits : m < 2 ^ 64) (len-fits : len < 2 ^ 64) (ordered : m ≤ len) (few : len ≤ {CAP}) where
+module _ {{M : Type 1}} (𝓤 : URA M) (H : Heap 𝓤) (A : Atoms 𝓤) (W : Given 𝓤 H A) (at-mem : Memory → SProp 𝓤) (run : Routine → Fun 𝓤) (xs : List JointConstraint) (m len : ℕ) (xs-is : Is Arr xs (aval xs ∷ [])) (m-fits : m < 2 ^ 64) (len-fits : len < 2 ^ 64) (ordered : m ≤ len) (few : len ≤ {MOST}) where
   abbrev at : List Val × (List Val × (List Val × Unit {{0}}))
   at = (aval xs ∷ [], (vint w64 m ∷ [], (vint w64 len ∷ [], tt)))
 
@@ -271,22 +269,22 @@ module _ {{M : Type 1}} (𝓤 : URA M) (H : Heap 𝓤) (A : Atoms 𝓤) (W : Giv
   abbrev beyond : List JointConstraint
   beyond = drop (len - m) {MORE}
 
-  m-six : length xs ≡ {CAP} → m ≤ length xs
+  m-six : length xs ≡ {MOST} → m ≤ length xs
   m-six six = omega (arith, ordered, few, six)
 
-  place-fits : length xs ≡ {CAP} → m * {SIZE} < 2 ^ 64
+  place-fits : length xs ≡ {MOST} → m * {SIZE} < 2 ^ 64
   place-fits six = omega (arith, ordered, few)
 
   count-fits : len - m < 2 ^ 64
   count-fits = omega (arith, few)
 
-  short-one : length xs ≡ {CAP} → length (take m xs) ≤ {CAP}
+  short-one : length xs ≡ {MOST} → length (take m xs) ≤ {MOST}
   short-one six = omega (arith, take-len xs m (m-six six), ordered, few)
 
-  seconds-len : length xs ≡ {CAP} → length seconds ≡ len - m
+  seconds-len : length xs ≡ {MOST} → length seconds ≡ len - m
   seconds-len six = take-len {MORE} (len - m) (omega (arith, length-drop m xs, six, few, ordered))
 
-  short-two : length xs ≡ {CAP} → length seconds ≤ {CAP}
+  short-two : length xs ≡ {MOST} → length seconds ≤ {MOST}
   short-two six = omega (arith, seconds-len six, few)
 
   abbrev to : List JointConstraint → ℕ → ℕ → GName → ℕ → Callee 𝓤 H A at-mem run .Ghost
@@ -309,32 +307,32 @@ module _ {{M : Type 1}} (𝓤 : URA M) (H : Heap 𝓤) (A : Atoms 𝓤) (W : Giv
     After unit′ = {others(two_cells, "unit′")}
 
     -- the elements are there again: the array is put together and returned
-    ends : length xs ≡ {CAP} → (ys : List JointConstraint) → length ys ≡ length (take m xs) → ys ≡ finalizeOf (take m xs) → (v : Val) (zs : List JointConstraint) → length zs ≡ length seconds → zs ≡ finalizeOf seconds
+    ends : length xs ≡ {MOST} → (ys : List JointConstraint) → length ys ≡ length (take m xs) → ys ≡ finalizeOf (take m xs) → (v : Val) (zs : List JointConstraint) → length zs ≡ length seconds → zs ≡ finalizeOf seconds
         → Sq W ({ROW % ("zs", MID)} ∷ {ROW % ("beyond", f"(place {SIZE} {MID} (len - m))")} ∷ {ROW % ("ys", "0")} ∷ After ({frame.fat(UNIT, "v")})) (runs C Λ En body.t-12 (atRet En Post))
     unfolding partOf
     ends six ys ly f v zs lz e =
         {lines(ends, 8)}
       where
-        all : length {all_} ≡ {CAP}
+        all : length {all_} ≡ {MOST}
         all = omega (arith, length-append ys (zs ++ beyond), length-append zs beyond, length-drop (len - m) {MORE}, length-drop m xs, lz, ly, seconds-len six, take-len xs m (m-six six), six, ordered, few)
 
         known-as : (us : List Val) → Is Arr {all_} us → Is Arr {all_} (aval {all_} ∷ [])
-        known-as us is = subst (Is Arr {all_}) (array-tells R.the-row rvals (LL.tells R.the-type R′.the-laws) {CAP} {all_} us is) is
+        known-as us is = subst (Is Arr {all_}) (array-tells R.the-row rvals (LL.tells R.the-type R′.the-laws) {MOST} {all_} us is) is
 
     -- the call for group two
-    lends-two : length xs ≡ {CAP} → (ys : List JointConstraint) → length ys ≡ length (take m xs) → ys ≡ finalizeOf (take m xs)
+    lends-two : length xs ≡ {MOST} → (ys : List JointConstraint) → length ys ≡ length (take m xs) → ys ≡ finalizeOf (take m xs)
         → Sq W ({ROW % ("seconds", MID)} ∷ {ROW % ("beyond", f"(place {SIZE} {MID} (len - m))")} ∷ {ROW % ("ys", "0")} ∷ After ({frame.room(UNIT)})) (runs C Λ En body.t-11 (atRet En Post))
     lends-two six ys ly f =
         {lines(calls_two, 8)}
 
     -- group one is done: the rows after it are taken apart
-    between : length xs ≡ {CAP} → (zs : List JointConstraint) → length zs ≡ length (take m xs) → zs ≡ finalizeOf (take m xs) → (v : Val)
+    between : length xs ≡ {MOST} → (zs : List JointConstraint) → length zs ≡ length (take m xs) → zs ≡ finalizeOf (take m xs) → (v : Val)
         → Sq W ({ROW % ("zs", "0")} ∷ {ROW % (MORE, MID)} ∷ Before ({frame.fat(UNIT, "v")})) (runs C Λ En body.t-5 (atRet En Post))
     between six zs lz e v =
         {lines(between, 8)}
 
     -- the call for group one
-    lends-one : length xs ≡ {CAP} → Sq W ({ROW % ("(take m xs)", "0")} ∷ {ROW % (MORE, MID)} ∷ Before ({frame.room(UNIT)})) (runs C Λ En body.t-4 (atRet En Post))
+    lends-one : length xs ≡ {MOST} → Sq W ({ROW % ("(take m xs)", "0")} ∷ {ROW % (MORE, MID)} ∷ Before ({frame.room(UNIT)})) (runs C Λ En body.t-4 (atRet En Post))
     lends-one six =
         {lines(calls_one, 8)}
 
@@ -354,8 +352,8 @@ module _ {{M : Type 1}} (𝓤 : URA M) (H : Heap 𝓤) (A : Atoms 𝓤) (W : Giv
 
 module _ {{M : Type 1}} (𝓤 : URA M) (H : Heap 𝓤) (A : Atoms 𝓤) (W : Given 𝓤 H A) (at-mem : Memory → SProp 𝓤) (run : Routine → Fun 𝓤) (𝓣 : Tables 𝓤 H) (known : Triple 𝓤 (𝓣 .C callee-key) (Callee 𝓤 H A at-mem run)) where
   walks : Walks 𝓤 H A f.ended stayed (WpFn 𝓤 H (𝓣 .C) (𝓣 .Λ) code.function) (f.clauses 𝓤 H A at-mem run)
-  walks = walked 𝓤 H A f.ended stayed (f.clauses 𝓤 H A at-mem run) (WpFn 𝓤 H (𝓣 .C) (𝓣 .Λ) code.function) (λ κs. (array-vals rvals, (uint-vals w64, (uint-vals w64, tt)))) (λ κs. (array-tells R.the-row rvals (LL.tells R.the-type R′.the-laws) {CAP}, (uint-tells w64, (uint-tells w64, tt))))
-      (λ κs qs bounds a g are. needs 𝓤 ((a .1 .0 ≤ a .1 .1 .0) × (a .1 .1 .0 ≤ {CAP})) _ (λ pre. walk 𝓤 H A W at-mem run (a .0) (a .1 .0) (a .1 .1 .0) (are .0) (are .1 .0 .1) (are .1 .1 .0 .1) (pre .0) (pre .1) (𝓣 .C) (𝓣 .Λ) (fmOf 𝓤 H (W .laws) 𝓣) known))
+  walks = walked 𝓤 H A f.ended stayed (f.clauses 𝓤 H A at-mem run) (WpFn 𝓤 H (𝓣 .C) (𝓣 .Λ) code.function) (λ κs. (array-vals rvals, (uint-vals w64, (uint-vals w64, tt)))) (λ κs. (array-tells R.the-row rvals (LL.tells R.the-type R′.the-laws) {MOST}, (uint-tells w64, (uint-tells w64, tt))))
+      (λ κs qs bounds a g are. needs 𝓤 ((a .1 .0 ≤ a .1 .1 .0) × (a .1 .1 .0 ≤ {MOST})) _ (λ pre. walk 𝓤 H A W at-mem run (a .0) (a .1 .0) (a .1 .1 .0) (are .0) (are .1 .0 .1) (are .1 .1 .0 .1) (pre .0) (pre .1) (𝓣 .C) (𝓣 .Λ) (fmOf 𝓤 H (W .laws) 𝓣) known))
 
   meets : Meets 𝓤 H A f.signature (WpFn 𝓤 H (𝓣 .C) (𝓣 .Λ) code.function) (f.spec 𝓤 H A at-mem run)
   meets = walk-meets 𝓤 H A f.ended stayed W (goes-none 𝓤 H A W 0 (λ _. Arr) yes (λ κs x f. refl), (goes-none 𝓤 H A W 0 (λ _. usize) yes (λ κs x f. refl), (goes-none 𝓤 H A W 0 (λ _. usize) yes (λ κs x f. refl), tt))) (f.clauses 𝓤 H A at-mem run) (WpFn 𝓤 H (𝓣 .C) (𝓣 .Λ) code.function) (WpFn-mono 𝓤 H (W .laws) 𝓣 code.function) walks
@@ -366,6 +364,6 @@ finalize-groups-spec 𝓤 H 𝓜 𝓖 𝓡 =
     entered 𝓤 H (tripleOf 𝓤 H (𝓖 .A) f.signature (f.spec 𝓤 H (𝓖 .A) (𝓜 .mem) (𝓡 .run)))
     (tables 𝓤 H 𝓜 𝓡 code.env .C) (tables 𝓤 H 𝓜 𝓡 code.env .Λ) own-key code.function (code.unfolded 𝓤 H 𝓜 𝓡)
     (meets 𝓤 H (𝓖 .A) (givenOf 𝓤 H 𝓜 𝓖) (𝓜 .mem) (𝓡 .run) (tablesOf 𝓤 H 𝓜 (tables 𝓤 H 𝓜 𝓡 code.env))
-    (cited 𝓤 H (Callee 𝓤 H (𝓖 .A) (𝓜 .mem) (𝓡 .run)) 𝓜 𝓡 code.env callee-key callee-def.routine code.calls-rows·joint-constraint-helper·finalize-constraints (callee-thm.met 𝓤 H 𝓜 𝓖 𝓡)))
+    (cited 𝓤 H (Callee 𝓤 H (𝓖 .A) (𝓜 .mem) (𝓡 .run)) 𝓜 𝓡 code.env callee-key callee-def.routine {CALLS}·joint-constraint-helper·finalize-constraints (callee-thm.met 𝓤 H 𝓜 𝓖 𝓡)))
 """
 write("joint_constraint_helper", "finalize_groups", text)

@@ -1,8 +1,7 @@
-"""Writes the walk of `solve_generic`: python3 tools/walks/solve_generic.py"""
-from walk import Context, Frame, HERE, typed, chosen, whole, arguments, write
+"""Writes the walk of `solve_generic`: python3 tools/walks/solve_generic.py [CRATE]"""
+from walk import Context, Frame, HERE, SPECS, PROOFS, CALLS, typed, chosen, whole, arguments, write
 
-MODULE = "Rattle.rows.proofs.joint_velocity_constraint"
-SPECS = "Rattle.rows.specs"
+MODULE = f"{PROOFS}.joint_velocity_constraint"
 
 # _0 the result; _1, _2, _3 the references; _4 the row; _5 what `step` returns; _6, _7 the velocities. The walk spells no type.
 frame = Frame(["D′.mir", "row-ref", "vel-ref", "vel-ref", "R′.mir", "S′.mir", "Ve′.mir", "Ve′.mir"])
@@ -239,6 +238,6 @@ solve-generic-spec 𝓤 H 𝓜 𝓖 𝓡 =
     entered 𝓤 H (tripleOf 𝓤 H (𝓖 .A) solve.signature (solve.spec 𝓤 H (𝓖 .A) (𝓜 .mem) (𝓡 .run)))
     (tables 𝓤 H 𝓜 𝓡 code.env .C) (tables 𝓤 H 𝓜 𝓡 code.env .Λ) solve-key code.function (code.unfolded 𝓤 H 𝓜 𝓡)
     (solve-meets 𝓤 H (𝓖 .A) (givenOf 𝓤 H 𝓜 𝓖) (𝓜 .mem) (𝓡 .run) (tablesOf 𝓤 H 𝓜 (tables 𝓤 H 𝓜 𝓡 code.env))
-    (cited 𝓤 H (Step 𝓤 H (𝓖 .A) (𝓜 .mem) (𝓡 .run)) 𝓜 𝓡 code.env step-key step-def.routine code.calls-rows·joint-velocity-constraint·JointConstraint·step (step-thm.met 𝓤 H 𝓜 𝓖 𝓡)))
+    (cited 𝓤 H (Step 𝓤 H (𝓖 .A) (𝓜 .mem) (𝓡 .run)) 𝓜 𝓡 code.env step-key step-def.routine {CALLS}·joint-velocity-constraint·JointConstraint·step (step-thm.met 𝓤 H 𝓜 𝓖 𝓡)))
 """
 write("joint_velocity_constraint", "solve_generic", text)

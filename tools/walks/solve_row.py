@@ -1,8 +1,7 @@
-"""Writes the walk of `solve_row`: python3 tools/walks/solve_row.py"""
-from walk import Context, Frame, HERE, loc, typed, chosen, whole, arguments, items, write
+"""Writes the walk of `solve_row`: python3 tools/walks/solve_row.py [CRATE]"""
+from walk import Context, Frame, HERE, SPECS, PROOFS, CALLS, loc, typed, chosen, whole, arguments, items, write
 
-MODULE = "Rattle.rows.proofs.joint_velocity_constraint"
-SPECS = "Rattle.rows.specs"
+MODULE = f"{PROOFS}.joint_velocity_constraint"
 
 
 def ref(m):
@@ -294,6 +293,6 @@ solve-row-spec 𝓤 H 𝓜 𝓖 𝓡 =
     entered 𝓤 H (tripleOf 𝓤 H (𝓖 .A) f.signature (f.spec 𝓤 H (𝓖 .A) (𝓜 .mem) (𝓡 .run)))
     (tables 𝓤 H 𝓜 𝓡 code.env .C) (tables 𝓤 H 𝓜 𝓡 code.env .Λ) own-key code.function (code.unfolded 𝓤 H 𝓜 𝓡)
     (meets 𝓤 H (𝓖 .A) (givenOf 𝓤 H 𝓜 𝓖) (𝓜 .mem) (𝓡 .run) (tablesOf 𝓤 H 𝓜 (tables 𝓤 H 𝓜 𝓡 code.env))
-    (cited 𝓤 H (Callee 𝓤 H (𝓖 .A) (𝓜 .mem) (𝓡 .run)) 𝓜 𝓡 code.env callee-key callee-def.routine code.calls-rows·joint-velocity-constraint·solve-generic (callee-thm.met 𝓤 H 𝓜 𝓖 𝓡)))
+    (cited 𝓤 H (Callee 𝓤 H (𝓖 .A) (𝓜 .mem) (𝓡 .run)) 𝓜 𝓡 code.env callee-key callee-def.routine {CALLS}·joint-velocity-constraint·solve-generic (callee-thm.met 𝓤 H 𝓜 𝓖 𝓡)))
 """
 write("joint_velocity_constraint", "solve_row", text)

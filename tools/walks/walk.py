@@ -4,10 +4,28 @@ A walk's context is a list of items, and its steps name items by their place in 
 list is kept by name, so that no place is counted by hand: `at` finds a place, `move`, `drop` and
 `push` follow what the steps do to the list. Local i is the item `_i` (its cell) and the item `~i`
 (its right to be freed).
+
+Each script writes its function's proof in one crate, which its only argument names: rows, if there is none.
 """
 import pathlib
+import sys
 
-CRATE = "rows"
+# The crates that have these functions: the size of a row in memory, in bytes; the length of an array of rows; the crate of the vectors.
+CRATES = {
+    "rows": (72, 6, "floats"),
+    "spatial_rows": (116, 9, "spatial_floats"),
+}
+
+CRATE = sys.argv[1] if len(sys.argv) > 1 else "rows"
+SIZE, MOST, VECTORS = CRATES[CRATE]
+
+SPECS = f"Rattle.{CRATE}.specs"
+PROOFS = f"Rattle.{CRATE}.proofs"
+# laws and definitions of rows of any kind
+ANY_SPECS, ANY_PROOFS = (SPECS, PROOFS) if CRATE == "rows" else ("Rattle.rows.specs", "Rattle.rows.proofs")
+# the functions of this crate, as a function's code names them
+CALLS = "code.calls-" + CRATE.replace("_", "-")
+
 ROOT = pathlib.Path(__file__).resolve().parents[2]
 
 HERE = "(from ! (stop !))"
@@ -145,3 +163,7 @@ def write(module, function, text):
     path = ROOT / "crates" / CRATE / "proofs" / module / function / "Proof.antt"
     path.parent.mkdir(parents=True, exist_ok=True)
     path.write_text(text)
+
+
+if __name__ == "__main__":
+    print(*CRATES)

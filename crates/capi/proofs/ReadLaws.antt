@@ -48,7 +48,7 @@ module _ (out : List Float) (ids : List ℕ) where
 
     pub refused-ids : idsOut (rowsAnswerOf masks (refused k)) out ids ≡ ids
     unfolding rowsAnswerOf idsIfRoom
-    refused-ids = either (roomForRows out ids) (no-id ids (rowIdsArray noMasks) (rowIdsArray-len noMasks ∙ ap length no-ids))
+    refused-ids = either (roomForRows out ids) (no-id ids (rowIdsArray noMasks) (rowIdsArray-len noMasks ∙ ap length (no-ids 2 1)))
 
   -- one that it grants, with no room
   module _ (r : RowsAnswer) (e : roomForRows out ids ≡ false) where

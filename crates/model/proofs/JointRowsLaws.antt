@@ -124,7 +124,7 @@ module _ (words : List ℕ) (j : ℕ) {e : JointEnabled} {b : Bool} (i : e ≡ e
 -- and one that is not has none
 pub ids-disabled : (words : List ℕ) (j : ℕ) → isEnabled (enabledAt words j) ≡ false → jointIds plane words j ≡ []
 unfolding jointIds rowMasksAt
-ids-disabled words j off = rw off no-ids
+ids-disabled words j off = rw off (no-ids 2 1)
 
 pub count-disabled : (words : List ℕ) (j : ℕ) → isEnabled (enabledAt words j) ≡ false → rowCount plane words j ≡ 0
 unfolding rowCount

@@ -21,9 +21,11 @@ use Rattle.rows.specs.IntegrationParameters.{angularFrequencyOf, erpInvDtOf, er
 use Rattle.rows.specs.RowIds.{hasAxis, rowIds}
 use Rattle.rows.specs.Helper.{angularLimitParamsOf, coordOf, snappedOf, newOf, linearAxisOf}
 use Rattle.rows.specs.Makers.{assembleOf, lockBounds, lockLinearOf}
-use Rattle.rows.specs.Finalize.{orthogonaliseN, imSumOf, rowDotOf, headOf, isLock, finalizeOf}
+use Rattle.rows.specs.Groups.{orthogonaliseN, finalizeOf}
+use Rattle.rows.specs.Finalize.{imSumOf, rowDotOf, headOf, isLock}
 use Rattle.rows.specs.Update.{contextOf, rowOf, updateOf}
-use Rattle.rows.specs.Builder.{solverBodyOf, jointContextOf, seedOf, warmedOf, warmedAll, builderUpdateOf}
+use Rattle.rows.specs.Warmed.{warmedOf, warmedAll}
+use Rattle.rows.specs.Builder.{solverBodyOf, jointContextOf, seedOf, builderUpdateOf}
 use Rattle.rows.specs.Row.{withImpulse}
 use Rattle.rows.specs.Step.{wantedImpulseOf, appliedOf, stepOf}
 use Rattle.rows.specs.declared.generic_joint.Masks.{Masks}

@@ -4,13 +4,13 @@ pub mod MakerShapes
 pub mod MakerLaws
 pub mod Orthogonalise
 pub mod OrthogonaliseLaws
-pub mod FinalizeLoops
 pub mod MaskBits
 pub mod RowIdsCount
 pub mod CoupledIds
 pub mod RowIdsLaws
 pub mod RowSlotsLaws
 pub mod Filled
+pub mod GroupLaws
 pub mod UpdateRows
 pub mod WarmedFinalize
 pub mod WarmedRows

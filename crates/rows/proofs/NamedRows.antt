@@ -25,11 +25,12 @@ use Rattle.rows.specs.declared.joint_velocity_constraint.RowContext.{Row
 use Rattle.rows.specs.declared.joint_velocity_constraint.WritebackId.{WritebackId}
 use Rattle.rows.specs.declared.joint_velocity_constraint.WritebackId.the-variants.{Dof, Limit, Motor}
 use Rattle.rows.specs.GenericJoint.{limitsAt, motorAt}
+use Rattle.rows.specs.Row.{withImpulse}
 use Rattle.rows.specs.RowIds.{isLocked, isMotor, isLimit, isCoupled, keep, inOrder, axes, firstCoupled, sharesLinear, groupOne, groupTwo, lockIds, limitIds, rowIds}
 use Rattle.rows.specs.Update.{contextOf, motorLimitsOf, rowOf, updateOf}
 use Rattle.rows.specs.Builder.{jointContextOf, seedOf, builderUpdateOf}
 use Rattle.rows.specs.Named.{GivesRow, SameNamed}
-use Rattle.rows.proofs.BuilderLaws.{warmedAll-seeds}
+use Rattle.rows.proofs.WarmedFinalize.{warmedAll-seeds}
 
 -- ---- what each row reads
 
@@ -226,4 +227,4 @@ module _ (params : IntegrationParameters) (body1 body2 : SolverPose) (a b : Impu
       → builderUpdateOf params substep warm body1 body2 a prevs ≡ builderUpdateOf params substep warm body1 body2 b prevs
   unfolding builderUpdateOf x y
   same-named substep warm prevs =
-      warmedAll-seeds warm substep a b (rowIds 2 1 (a .«data» .masks)) prevs (updateOf x) named-seed ∙ rw (same-update, s .masks)
+      warmedAll-seeds withImpulse warm substep (seedOf a) (seedOf b) (rowIds 2 1 (a .«data» .masks)) prevs (updateOf x) named-seed ∙ rw (same-update, s .masks)

@@ -9,7 +9,7 @@ use mathlib.Core.Bool.{Bool, true, false}
 use mathlib.Core.List.{List, [], _∷_, _++_, map}
 use lib.ListN.{length, getD, set, take, drop, length-map}
 use lib.Seq.{length-take-le, take-at, drop-at}
-use Rattle.rows.specs.Finalize.{orthogonaliseN, orthogonalise}
+use Rattle.rows.specs.Groups.{orthogonaliseN, orthogonalise}
 
 -- a list with its part from place i to before place n changed by f
 unfoldable pub between : {A : Type 0} → (List A → List A) → ℕ → ℕ → List A → List A

@@ -1,13 +1,13 @@
--- What orthogonalising does to a list of rows of any kind, and so to a joint's group: as many rows come out as went in; the first row's
--- result is its head step, whatever follows it; and no row's result depends on the rows after it (`take-orthogonalise`, `take-finalizeOf`).
+-- What orthogonalising does to a list of rows of any kind: as many rows come out as went in; the first row's result is its head step, whatever
+-- follows it; no row's result depends on the rows after it (`take-orthogonalise`); and what head step and reducing keep of a row, orthogonalising keeps of
+-- all, be it a value (`kept-orthogonalise`) or a fact (`every-orthogonalise`). Assumes nothing.
 use mathlib.Core.Path.{_≡_, refl, _∙_, ap}
 use Prim.Native.Nat.{ℕ, zero, suc}
 use native.Mathlib.Nat.{suc-inj, suc-ne-zero}
 use mathlib.Core.Bool.{Bool, true, false, cond}
 use mathlib.Core.List.{List, [], _∷_, map}
 use lib.ListN.{length, take, length-map}
-use Rattle.rows.specs.Finalize.{orthogonaliseN, orthogonalise, imSumOf, headOf, isLock, reduceOf, finalizeOf}
-use Rattle.rows.specs.declared.joint_velocity_constraint.JointConstraint.{JointConstraint}
+use Rattle.rows.specs.Groups.{orthogonaliseN, orthogonalise}
 
 module _ {Row : Type 0} where
   take-map : (f : Row → Row) (k : ℕ) (cs : List Row) → take k (map f cs) ≡ map f (take k cs)
@@ -57,19 +57,51 @@ module _ {Row : Type 0} (head : Row → Row) (lock : Row → Bool) (reduce : Row
   pub take-orthogonalise : (k : ℕ) (cs : List Row) → take k (orthogonalise head lock reduce cs) ≡ orthogonalise head lock reduce (take k cs)
   take-orthogonalise k cs = take-N (length cs) k cs refl
 
--- ---- a joint's group
+-- ---- what is kept of each row
 
-pub length-finalizeOf : (cs : List JointConstraint) → length (finalizeOf cs) ≡ length cs
-unfolding finalizeOf
-length-finalizeOf [] = refl
-length-finalizeOf (c ∷ cs) = length-orthogonalise (headOf (imSumOf c)) isLock (reduceOf (imSumOf c)) (c ∷ cs)
+module _ {Row B : Type 0} (g : Row → B) where
+  map-kept : (f : Row → Row) → ((c : Row) → g (f c) ≡ g c) → (cs : List Row) → map g (map f cs) ≡ map g cs
+  map-kept f h [] = refl
+  map-kept f h (c ∷ cs) = rw (h c, map-kept f h cs)
 
-pub first-of-group : (c : JointConstraint) (cs : List JointConstraint) → take 1 (finalizeOf (c ∷ cs)) ≡ headOf (imSumOf c) c ∷ []
-unfolding finalizeOf
-first-of-group c cs = first-row (headOf (imSumOf c)) isLock (reduceOf (imSumOf c)) c cs
+  reduced-kept : (f : Row → Row) → ((c : Row) → g (f c) ≡ g c) → (b : Bool) (cs : List Row) → map g (cond b (map f cs) cs) ≡ map g cs
+  reduced-kept f h true cs = map-kept f h cs
+  reduced-kept f h false cs = refl
 
-pub take-finalizeOf : (k : ℕ) (cs : List JointConstraint) → take k (finalizeOf cs) ≡ finalizeOf (take k cs)
-unfolding finalizeOf
-take-finalizeOf zero cs = refl
-take-finalizeOf (suc k) [] = refl
-take-finalizeOf (suc k) (c ∷ cs) = take-orthogonalise (headOf (imSumOf c)) isLock (reduceOf (imSumOf c)) (suc k) (c ∷ cs)
+  module _ (head : Row → Row) (lock : Row → Bool) (reduce : Row → Row → Row) (heads : (c : Row) → g (head c) ≡ g c) (reduces : (p c : Row) → g (reduce p c) ≡ g c) where
+    kept-N : (n : ℕ) (cs : List Row) → map g (orthogonaliseN head lock reduce n cs) ≡ map g cs
+    unfolding orthogonaliseN
+    kept-N zero cs = refl
+    kept-N (suc n) [] = refl
+    kept-N (suc n) (c ∷ cs) =
+        let rest : List Row = cond (lock (head c)) (map (reduce (head c)) cs) cs in
+        ap (λ t. t ∷ map g (orthogonaliseN head lock reduce n rest)) (heads c)
+        ∙ ap (λ t. g c ∷ t) (kept-N n rest ∙ reduced-kept (reduce (head c)) (reduces (head c)) (lock (head c)) cs)
+
+    pub kept-orthogonalise : (cs : List Row) → map g (orthogonalise head lock reduce cs) ≡ map g cs
+    kept-orthogonalise cs = kept-N (length cs) cs
+
+-- a fact that holds of every row
+abbrev pub Every : {Row : Type 0} → (Row → Type 0) → List Row → Type 0
+Every P [] = Unit
+Every P (r ∷ rs) = P r × Every P rs
+
+module _ {Row : Type 0} (P : Row → Type 0) where
+  every-map : (f : Row → Row) → ((c : Row) → P c → P (f c)) → (cs : List Row) → Every P cs → Every P (map f cs)
+  every-map f h [] e = tt
+  every-map f h (c ∷ cs) e = (h c (e .0), every-map f h cs (e .1))
+
+  every-reduced : (f : Row → Row) → ((c : Row) → P c → P (f c)) → (b : Bool) (cs : List Row) → Every P cs → Every P (cond b (map f cs) cs)
+  every-reduced f h true cs e = every-map f h cs e
+  every-reduced f h false cs e = e
+
+  module _ (head : Row → Row) (lock : Row → Bool) (reduce : Row → Row → Row) (heads : (c : Row) → P c → P (head c)) (reduces : (p c : Row) → P c → P (reduce p c)) where
+    every-N : (n : ℕ) (cs : List Row) → Every P cs → Every P (orthogonaliseN head lock reduce n cs)
+    unfolding orthogonaliseN
+    every-N zero cs e = e
+    every-N (suc n) [] e = tt
+    every-N (suc n) (c ∷ cs) e =
+        (heads c (e .0), every-N n (cond (lock (head c)) (map (reduce (head c)) cs) cs) (every-reduced (reduce (head c)) (reduces (head c)) (lock (head c)) cs (e .1)))
+
+    pub every-orthogonalise : (cs : List Row) → Every P cs → Every P (orthogonalise head lock reduce cs)
+    every-orthogonalise cs e = every-N (length cs) cs e

@@ -22,13 +22,15 @@ use Rattle.rows.specs.declared.joint_velocity_constraint.RowContext.{Row
 use Rattle.rows.specs.declared.joint_velocity_constraint.WritebackId.{WritebackId}
 use Rattle.rows.specs.declared.joint_velocity_constraint.WritebackId.the-variants.{Dof}
 use Rattle.rows.specs.declared.row_ids.RowId.{RowId}
-use Rattle.rows.specs.RowIds.{filled, rowId, rowIds, rowIdsArray}
+use Rattle.rows.specs.RowIds.{filled, rowId, idsFilled, rowIds, rowIdsArray}
 use Rattle.rows.specs.Update.{updateOf, blankRow, rowsArray}
-use Rattle.rows.specs.Builder.{jointContextOf, builderUpdateOf}
+use Rattle.rows.specs.Row.{withImpulse}
+use Rattle.rows.specs.Builder.{jointContextOf, seedOf, builderUpdateOf}
 use Rattle.rows.proofs.Filled.{take-filled, drop-filled}
 use Rattle.rows.proofs.RowIdsCount.{at-most-six}
 use Rattle.rows.proofs.UpdateRows.{length-updateOf}
-use Rattle.rows.proofs.WarmedRows.{length-warmedAll, context-joint}
+use Rattle.rows.proofs.WarmedFinalize.{length-warmedAll}
+use Rattle.rows.proofs.WarmedRows.{context-joint}
 use Rattle.rows.proofs.BuilderLaws.{first-reads-no-row, cold}
 
 -- ---- the array of rows
@@ -53,12 +55,6 @@ module _ (l : List JointConstraint) where
 
 -- ---- the array of ids
 
-id-filled : (m : ℕ) (x d : RowId) (e : WritebackId) (is : List WritebackId) (i : ℕ) → length is ≤ m → i < length is → getD (filled m x (map rowId is)) i d .id ≡ getD is i e
-id-filled m x d e [] i h g = absurd (not-suc-le-zero g)
-id-filled zero x d e (a ∷ is) i h g = absurd (not-suc-le-zero h)
-id-filled (suc m) x d e (a ∷ is) zero h g = refl
-id-filled (suc m) x d e (a ∷ is) (suc i) h g = id-filled m x d e is i (le-of-suc-le-suc h) (le-of-suc-le-suc g)
-
 -- ids wrapped one by one
 length-ids : (is : List WritebackId) → length (map rowId is) ≡ length is
 length-ids [] = refl
@@ -68,21 +64,32 @@ ids-back : (is : List WritebackId) → map (λ (i : RowId). i .id) (map rowId is
 ids-back [] = refl
 ids-back (i ∷ is) = ap (λ l. i ∷ l) (ids-back is)
 
+id-at : (m : ℕ) (x d : RowId) (e : WritebackId) (is : List WritebackId) (i : ℕ) → length is ≤ m → i < length is → getD (filled m x (map rowId is)) i d .id ≡ getD is i e
+id-at m x d e [] i h g = absurd (not-suc-le-zero g)
+id-at zero x d e (a ∷ is) i h g = absurd (not-suc-le-zero h)
+id-at (suc m) x d e (a ∷ is) zero h g = refl
+id-at (suc m) x d e (a ∷ is) (suc i) h g = id-at m x d e is i (le-of-suc-le-suc h) (le-of-suc-le-suc g)
+
+-- ids in an array of any length; d and e stand for what would be read past the ends
+module _ (most : ℕ) (is : List WritebackId) (few : length is ≤ most) where
+  pub idsFilled-id : (i : ℕ) (d : RowId) (e : WritebackId) → i < length is → getD (idsFilled most is) i d .id ≡ getD is i e
+  idsFilled-id i d e h = id-at most (rowId (Dof 0)) d e is i few h
+
+  pub idsFilled-ids : map (λ (i : RowId). i .id) (take (length is) (idsFilled most is)) ≡ is
+  idsFilled-ids = ap (map (λ (i : RowId). i .id)) (take-filled (rowId (Dof 0)) most (length is) (map rowId is) (length-ids is) few) ∙ ids-back is
+
 module _ (k : Masks) where
   pub rowIdsArray-len : rowIdsArray k .len ≡ length (rowIds 2 1 k)
   unfolding rowIdsArray
   rowIdsArray-len = refl
 
-  -- d and e stand for what would be read past the ends
   pub rowIdsArray-id : (i : ℕ) (d : RowId) (e : WritebackId) → i < length (rowIds 2 1 k) → getD (rowIdsArray k .ids) i d .id ≡ getD (rowIds 2 1 k) i e
   unfolding rowIdsArray
-  rowIdsArray-id i d e h = id-filled 6 (rowId (Dof 0)) d e (rowIds 2 1 k) i (at-most-six k) h
+  rowIdsArray-id = idsFilled-id 6 (rowIds 2 1 k) (at-most-six k)
 
   pub rowIdsArray-ids : map (λ (i : RowId). i .id) (take (rowIdsArray k .len) (rowIdsArray k .ids)) ≡ rowIds 2 1 k
   unfolding rowIdsArray
-  rowIdsArray-ids =
-      ap (map (λ (i : RowId). i .id)) (take-filled (rowId (Dof 0)) 6 (length (rowIds 2 1 k)) (map rowId (rowIds 2 1 k)) (length-ids (rowIds 2 1 k)) (at-most-six k))
-      ∙ ids-back (rowIds 2 1 k)
+  rowIdsArray-ids = idsFilled-ids 6 (rowIds 2 1 k) (at-most-six k)
 
 -- ---- the rows that the builder makes
 
@@ -92,8 +99,7 @@ module _ (params : IntegrationParameters) (substep : ℕ) (warm : Warmstart) (bo
   unfolding builderUpdateOf
   length-builderUpdateOf prevs six =
       let cx : RowContext = jointContextOf params body1 body2 joint in
-      length-warmedAll warm substep joint (rowIds 2 1 (joint .«data» .masks)) prevs (updateOf cx) (length-updateOf cx ∙ rw context-joint)
-      (omega (arith, six, at-most-six (joint .«data» .masks)))
+      length-warmedAll withImpulse warm substep (seedOf joint) (rowIds 2 1 (joint .«data» .masks)) prevs (updateOf cx) (length-updateOf cx ∙ rw context-joint)
 
   pub reads-no-row : (warm ≡ Cold) ⊎ (substep ≡ 0) → (ps qs : List Float) → length ps ≡ 6 → length qs ≡ 6
       → builderUpdateOf params substep warm body1 body2 joint ps ≡ builderUpdateOf params substep warm body1 body2 joint qs

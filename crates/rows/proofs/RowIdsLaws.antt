@@ -1,6 +1,7 @@
 -- A joint's ids, whatever the numbers nl of linear and na of angular axes: those of group one are motors, those of group two locks and limits; each
 -- is of an axis below nl + na; and none stands twice. Without masks there is none (`no-ids`).
-use Prim.Native.Nat.{ℕ, zero, suc, _+_, _≤_, _<_}
+use Prim.Native.Nat.{ℕ, zero, suc, _+_, _^_, _≤_, _<_}
+use native.Mathlib.Nat.{zero-div}
 use native.Mathlib.Omega.{arith}
 use mathlib.Core.Path.{_≡_, refl}
 use mathlib.Core.Bool.{Bool, true, false, not, cond, _&&_}
@@ -8,7 +9,7 @@ use mathlib.Core.List.{List, [], _∷_, _++_, map}
 use Rattle.rows.specs.declared.generic_joint.Masks.{Masks}
 use Rattle.rows.specs.declared.joint_velocity_constraint.WritebackId.{WritebackId}
 use Rattle.rows.specs.declared.joint_velocity_constraint.WritebackId.the-variants.{Dof, Limit, Motor}
-use Rattle.rows.specs.RowIds.{isLocked, isMotor, isLimit, isCoupled, axes, keep, lowest, firstCoupled, inOrder, sharesLinear, groupOne, lockIds, limitIds, groupTwo, rowIds, noMasks, hasAxis}
+use Rattle.rows.specs.RowIds.{isLocked, isMotor, isLimit, isCoupled, axes, keep, some, lowest, firstCoupled, inOrder, sharesLinear, groupOne, lockIds, limitIds, groupTwo, rowIds, noMasks, hasAxis}
 
 -- ---- lists
 
@@ -259,6 +260,26 @@ module _ (nl na : ℕ) (k : Masks) where
   unfolding rowIds
   distinct = distinct-append IsMotor IsRest (groupOne nl na k) (groupTwo nl na k) motor-not-rest distinct-one distinct-two group-one group-two
 
-pub no-ids : rowIds 2 1 noMasks ≡ []
-unfolding rowIds hasAxis
-no-ids = refl
+-- ---- without masks
+
+no-axis : (i : ℕ) → hasAxis 0 i ≡ false
+unfolding hasAxis
+no-axis i = rw (zero-div (2 ^ i))
+
+keep-none : (p : ℕ → Bool) → ((i : ℕ) → p i ≡ false) → (l : List ℕ) → keep p l ≡ []
+keep-none p h [] = refl
+keep-none p h (i ∷ l) = rw (h i, keep-none p h l)
+
+some-none : (p : ℕ → Bool) → ((i : ℕ) → p i ≡ false) → (l : List ℕ) → some p l ≡ false
+some-none p h [] = refl
+some-none p h (i ∷ l) = rw (h i, some-none p h l)
+
+pub no-ids : (nl na : ℕ) → rowIds nl na noMasks ≡ []
+unfolding rowIds
+no-ids nl na =
+    rw (
+      keep-none (λ i. isMotor noMasks i && not (isCoupled noMasks i)) (λ i. rw (no-axis i)) (inOrder nl na),
+      some-none (λ i. isMotor noMasks i && isCoupled noMasks i) (λ i. rw (no-axis i)) (axes 0 nl),
+      keep-none (isLocked noMasks) no-axis (inOrder nl na),
+      keep-none (isLimit noMasks) (λ i. rw (no-axis i)) (firstCoupled nl noMasks),
+    )

@@ -22,15 +22,15 @@ use Rattle.rows.specs.declared.joint_velocity_constraint.WritebackId.the
 use Rattle.rows.specs.RowIds.{isCoupled, groupOne, groupTwo, rowIds}
 use Rattle.rows.specs.Makers.{assembleOf, motorRowOf, lockLinearOf, lockAngularOf, limitLinearOf, limitLinearCoupledOf, limitAngularOf, motorLinearOf, motorLinearCoupledOf, motorAngularOf}
 use Rattle.rows.specs.Row.{withImpulse}
-use Rattle.rows.specs.Finalize.{orthogonaliseN, imSumOf, headOf, isLock, lessOf, reduceOf, finalizeOf}
+use Rattle.rows.specs.Groups as Groups
+use Rattle.rows.specs.Warmed as Warmed
+use Rattle.rows.specs.Finalize.{headOf, lessOf, rowGroup, finalizeOf}
 use Rattle.rows.specs.Step.{stepOf, removeBiasOf}
 use Rattle.rows.specs.Update.{contextOf, rowOf, updateOf, blankRow}
 use Rattle.rows.specs.Momentum.{HasInverseMasses}
 use Rattle.rows.specs.Builder.{solverBodyOf, jointContextOf, seedOf, warmedOf, warmedAll, builderUpdateOf}
-
-abbrev pub Every : (JointConstraint → Type 0) → List JointConstraint → Type 0
-Every P [] = Unit
-Every P (r ∷ rs) = P r × Every P rs
+use Rattle.rows.proofs.OrthogonaliseLaws.{Every}
+use Rattle.rows.proofs.GroupLaws.{every-finalizeOf}
 
 pub every-at : (P : JointConstraint → Type 0) (rs : List JointConstraint) (i : ℕ) → Every P rs → i < length rs → P (getD rs i blankRow)
 every-at P [] i e h = absurd (not-suc-le-zero h)
@@ -48,41 +48,21 @@ module _ (a b : Vector) where
 
   -- ---- orthogonalising
 
-  reduced : (imsum : Vector) (c : JointConstraint) (rs : List JointConstraint) → Every (HasInverseMasses a b) rs → Every (HasInverseMasses a b) (map (reduceOf imsum c) rs)
-  unfolding reduceOf lessOf
-  reduced imsum c [] e = tt
-  reduced imsum c (r ∷ rs) e = (record { first = e .0 .first; second = e .0 .second }, reduced imsum c rs (e .1))
-
-  by-lock : (imsum : Vector) (c : JointConstraint) (l : Bool) (rs : List JointConstraint) → Every (HasInverseMasses a b) rs → Every (HasInverseMasses a b) (cond l (map (reduceOf imsum c) rs) rs)
-  by-lock imsum c true rs e = reduced imsum c rs e
-  by-lock imsum c false rs e = e
-
-  headed : (imsum : Vector) (r : JointConstraint) → HasInverseMasses a b r → HasInverseMasses a b (headOf imsum r)
-  unfolding headOf
-  headed imsum r e = record { first = e .first; second = e .second }
-
-  group : (imsum : Vector) (n : ℕ) (rs : List JointConstraint) → Every (HasInverseMasses a b) rs → Every (HasInverseMasses a b) (orthogonaliseN (headOf imsum) isLock (reduceOf imsum) n rs)
-  unfolding orthogonaliseN
-  group imsum zero rs e = e
-  group imsum (suc n) [] e = tt
-  group imsum (suc n) (r ∷ rs) e = (headed imsum r (e .0), group imsum n _ (by-lock imsum (headOf imsum r) (isLock (headOf imsum r)) rs (e .1)))
-
   finalized : (rs : List JointConstraint) → Every (HasInverseMasses a b) rs → Every (HasInverseMasses a b) (finalizeOf rs)
-  unfolding finalizeOf
-  finalized [] e = tt
-  finalized (r ∷ rs) e = group (imSumOf r) (length (r ∷ rs)) (r ∷ rs) e
+  unfolding headOf lessOf Groups.reduceOf
+  finalized = every-finalizeOf rowGroup (HasInverseMasses a b) (λ im r e. record { first = e .first; second = e .second }) (λ im c r e. record { first = e .first; second = e .second })
 
   -- ---- warm rows
 
   warmed : (warm : Warmstart) (substep : ℕ) (seed prev : Float) (r : JointConstraint) → HasInverseMasses a b r → HasInverseMasses a b (warmedOf warm substep seed prev r)
-  unfolding warmedOf withImpulse
+  unfolding Warmed.warmedOf withImpulse
   warmed Cold substep seed prev r e = e
   warmed (Warm c) zero seed prev r e = record { first = e .first; second = e .second }
   warmed (Warm c) (suc n) seed prev r e = record { first = e .first; second = e .second }
 
   all-warmed : (warm : Warmstart) (substep : ℕ) (joint : ImpulseJoint) (is : List WritebackId) (ps : List Float) (rs : List JointConstraint) → Every (HasInverseMasses a b) rs
       → Every (HasInverseMasses a b) (warmedAll warm substep joint is ps rs)
-  unfolding warmedAll
+  unfolding Warmed.warmedAll
   all-warmed warm substep joint [] ps rs e = tt
   all-warmed warm substep joint (i ∷ is) ps [] e = tt
   all-warmed warm substep joint (i ∷ is) ps (r ∷ rs) e =

@@ -1,5 +1,5 @@
--- The eleven slots: the bits of a number as a list of slots (`slotsFrom`), of which the lowest is found by trailing zeros (`lowest-slot`), and a joint's
--- slots, whose ids are `rowIds` (`slot-ids`), as many as bits are set (`slots-count`). Assumes nothing.
+-- Slots: the bits of a number as a list of slots, however many (`slotsFrom`), of which the lowest is found by trailing zeros (`lowest-slot`); and the eleven slots
+-- of a planar joint, whose ids are `rowIds` (`slot-ids`), as many as bits are set (`slots-count`). Assumes nothing.
 use Prim.Native.Nat.{ℕ, zero, suc, _+_, _-_, _*_, _/_, _%_, _^_, _≤_, _<_}
 use native.Mathlib.Nat.{not-suc-le-zero, le-of-suc-le-suc, pow-suc}
 use native.Mathlib.Omega.{arith}
@@ -78,9 +78,9 @@ lowest-from (suc n) zero s b g h l = absurd (not-suc-le-zero l)
 lowest-from (suc n) (suc k) s b g h l =
     lowest-half n k s b g (λ p. lowest-from n k (suc s) (b / 2) p (omega (arith, h, pow-suc 2 n)) (le-of-suc-le-suc l)) (parity b)
 
--- the lowest slot of a number, and the slots that are left without it
-pub lowest-slot : (b : ℕ) → 0 < b → b < 2048 → slotsFrom 11 0 b ≡ trailingZeros 32 b ∷ slotsFrom 11 0 (bitAnd b (b - 1))
-lowest-slot b g h = lowest-from 11 32 0 b g h (omega arith) ∙ ap (λ t. t ∷ slotsFrom 11 0 (bitAnd b (b - 1))) (omega arith)
+-- the lowest slot of a number of n bits, and the slots that are left without it
+pub lowest-slot : (n b : ℕ) → n ≤ 32 → 0 < b → b < 2 ^ n → slotsFrom n 0 b ≡ trailingZeros 32 b ∷ slotsFrom n 0 (bitAnd b (b - 1))
+lowest-slot n b l g h = lowest-from n 32 0 b g h l ∙ ap (λ t. t ∷ slotsFrom n 0 (bitAnd b (b - 1))) (omega arith)
 
 -- without its lowest bit a number is less
 pub cleared-less : (b : ℕ) → 0 < b → bitAnd b (b - 1) < b
@@ -89,7 +89,7 @@ cleared-less b g = omega (arith, and-le-r b (b - 1))
 -- ---- the slots of answers
 
 -- the places of a list at which it answers yes, from place s on
-abbrev places : ℕ → List Bool → List ℕ
+abbrev pub places : ℕ → List Bool → List ℕ
 places s [] = []
 places s (b ∷ bs) = cond b (s ∷ places (suc s) bs) (places (suc s) bs)
 
@@ -101,17 +101,17 @@ high-bits : (b : Bool) (v : ℕ) → (cond b 1 0 + 2 * v) / 2 ≡ v
 high-bits true v = omega arith
 high-bits false v = omega arith
 
-places-slots : (bs : List Bool) (s : ℕ) → slotsFrom (length bs) s (bitsOf bs) ≡ places s bs
+pub places-slots : (bs : List Bool) (s : ℕ) → slotsFrom (length bs) s (bitsOf bs) ≡ places s bs
 places-slots [] s = refl
 places-slots (b ∷ bs) s = rw (low-bit b (bitsOf bs), high-bits b (bitsOf bs), places-slots bs (suc s))
 
-bits-lt : (bs : List Bool) → bitsOf bs < 2 ^ length bs
+pub bits-lt : (bs : List Bool) → bitsOf bs < 2 ^ length bs
 bits-lt [] = omega arith
 bits-lt (true ∷ bs) = omega (arith, bits-lt bs, pow-suc 2 (length bs))
 bits-lt (false ∷ bs) = omega (arith, bits-lt bs, pow-suc 2 (length bs))
 
 -- what g makes of the places, one list each
-abbrev pieces : {A : Type 0} → (ℕ → A) → ℕ → List Bool → List A
+abbrev pub pieces : {A : Type 0} → (ℕ → A) → ℕ → List Bool → List A
 pieces g s [] = []
 pieces g s (b ∷ bs) = cond b (g s ∷ []) [] ++ pieces g (suc s) bs
 
@@ -119,7 +119,7 @@ map-cond : {A : Type 0} (g : ℕ → A) (s : ℕ) (b : Bool) (l : List ℕ) → 
 map-cond g s true l = refl
 map-cond g s false l = refl
 
-map-places : {A : Type 0} (g : ℕ → A) (bs : List Bool) (s : ℕ) → map g (places s bs) ≡ pieces g s bs
+pub map-places : {A : Type 0} (g : ℕ → A) (bs : List Bool) (s : ℕ) → map g (places s bs) ≡ pieces g s bs
 map-places g [] s = refl
 map-places g (b ∷ bs) s = map-cond g s b (places (suc s) bs) ∙ ap (λ t. cond b (g s ∷ []) [] ++ t) (map-places g bs (suc s))
 
@@ -133,7 +133,7 @@ four : {A : Type 0} (a b c d : List A) → a ++ (b ++ (c ++ (d ++ []))) ≡ (a +
 four a b c d = simp (append-assoc, append-nil)
 
 -- how many places answer yes
-ones-places : (bs : List Bool) (s : ℕ) → ones (bitsOf bs) ≡ length (places s bs)
+pub ones-places : (bs : List Bool) (s : ℕ) → ones (bitsOf bs) ≡ length (places s bs)
 unfolding ones
 ones-places [] s = refl
 ones-places (true ∷ bs) s =

@@ -18,11 +18,12 @@ use Rattle.rows.specs.declared.joint_velocity_constraint.RowContext.{Row
 use Rattle.rows.specs.declared.joint_velocity_constraint.WritebackId.{WritebackId}
 use Rattle.rows.specs.declared.joint_velocity_constraint.WritebackId.the-variants.{Dof, Limit, Motor}
 use Rattle.rows.specs.GenericJoint.{limitsAt, motorAt, motorParamsOf}
+use Rattle.rows.specs.Row.{withImpulse}
 use Rattle.rows.specs.RowIds.{groupOne, groupTwo, rowIds}
 use Rattle.rows.specs.Update.{contextOf, motorLimitsOf, rowOf, updateOf}
 use Rattle.rows.specs.Builder.{jointContextOf, seedOf, builderUpdateOf}
 use Rattle.rows.specs.Writeback.{writebackOf}
-use Rattle.rows.proofs.BuilderLaws.{warmedAll-seeds, warmedAll-later}
+use Rattle.rows.proofs.WarmedFinalize.{warmedAll-seeds, warmedAll-later}
 
 -- what a row reads of a joint's contents, that is all but the stored impulses
 pub record SameParts (a b : GenericJoint) : Type 0 where
@@ -119,14 +120,14 @@ module _ (params : IntegrationParameters) (body1 body2 : SolverPose) where
       → builderUpdateOf params substep warm body1 body2 a prevs ≡ builderUpdateOf params substep warm body1 body2 b prevs
   unfolding builderUpdateOf
   same-seeds substep warm a b prevs s e h =
-      warmedAll-seeds warm substep a b (rowIds 2 1 (a .«data» .masks)) prevs (updateOf (jointContextOf params body1 body2 a)) h
+      warmedAll-seeds withImpulse warm substep (seedOf a) (seedOf b) (rowIds 2 1 (a .«data» .masks)) prevs (updateOf (jointContextOf params body1 body2 a)) h
       ∙ rw (same-rows a b s e, s .masks)
 
   pub later-reads-no-seed : (substep : ℕ) (warm : Warmstart) (a b : ImpulseJoint) (prevs : List Float) → SameParts (a .«data») (b .«data») → a .center ≡ b .center
       → builderUpdateOf params (suc substep) warm body1 body2 a prevs ≡ builderUpdateOf params (suc substep) warm body1 body2 b prevs
   unfolding builderUpdateOf
   later-reads-no-seed substep warm a b prevs s e =
-      warmedAll-later warm substep a b (rowIds 2 1 (a .«data» .masks)) prevs (updateOf (jointContextOf params body1 body2 a)) ∙ rw (same-rows a b s e, s .masks)
+      warmedAll-later withImpulse warm substep (seedOf a) (seedOf b) (rowIds 2 1 (a .«data» .masks)) prevs (updateOf (jointContextOf params body1 body2 a)) ∙ rw (same-rows a b s e, s .masks)
 
 -- ---- what is written back
 

@@ -1,9 +1,8 @@
 -- The Rust's joint_constraint_builder.rs: `update`, after `update_warmstart_seeds`.
-use Prim.Native.Nat.{ℕ, zero, suc}
-use mathlib.Core.List.{List, [], _∷_}
-use lib.ListN.{getD, drop}
+use Prim.Native.Nat.{ℕ}
+use mathlib.Core.List.{List}
+use lib.ListN.{getD}
 use lib.Ieee.{Float, nan}
-use Rattle.floats.specs.Operators.{bits, _⊗_}
 use Rattle.floats.specs.Pose.{poseProductOf}
 use Rattle.rows.specs.GenericJoint.{limitsAt, motorAt}
 use Rattle.rows.specs.RowIds.{rowIds}
@@ -11,11 +10,11 @@ use Rattle.rows.specs.Helper.{angularLimitParamsOf}
 use Rattle.rows.specs.Makers.{twoBodies}
 use Rattle.rows.specs.Update.{contextOf, updateOf}
 use Rattle.rows.specs.Row.{withImpulse}
+use Rattle.rows.specs.Warmed as Warmed
 use Rattle.rows.specs.declared.integration_parameters.IntegrationParameters.{IntegrationParameters}
 use Rattle.rows.specs.declared.joint_constraint_builder.SolverPose.{SolverPose}
 use Rattle.rows.specs.declared.joint_constraint_builder.ImpulseJoint.{ImpulseJoint}
 use Rattle.rows.specs.declared.joint_constraint_builder.Warmstart.{Warmstart}
-use Rattle.rows.specs.declared.joint_constraint_builder.Warmstart.the-variants.{Cold, Warm}
 use Rattle.rows.specs.declared.joint_velocity_constraint.JointSolverBody.{JointSolverBody}
 use Rattle.rows.specs.declared.joint_velocity_constraint.JointConstraint.{JointConstraint}
 use Rattle.rows.specs.declared.joint_velocity_constraint.RowContext.{RowContext}
@@ -41,18 +40,12 @@ seedOf joint (Dof i) = getD (joint .impulses) i nan
 seedOf joint (Limit i) = limitsAt (joint .«data») i .impulse
 seedOf joint (Motor i) = motorAt (joint .«data») i .impulse
 
--- Where a row's impulse starts: at 0 with no warm coefficient, at the id's stored impulse times it in substep 0, and at the row's last impulse times it later.
-unfoldable pub warmedOf : Warmstart → ℕ → Float → Float → JointConstraint → JointConstraint
-warmedOf Cold substep seed prev row = row
-warmedOf (Warm coeff) zero seed prev row = withImpulse row (seed ⊗ coeff)
-warmedOf (Warm coeff) (suc substep) seed prev row = withImpulse row (prev ⊗ coeff)
+-- where a row's impulse starts (specs/Warmed), and the rows of a joint, by ids whose seeds are the joint's
+abbrev pub warmedOf : Warmstart → ℕ → Float → Float → JointConstraint → JointConstraint
+warmedOf = Warmed.warmedOf withImpulse
 
--- row by row, with the row's id and its last impulse, which reads 0 where there is none
-unfoldable pub warmedAll : Warmstart → ℕ → ImpulseJoint → List WritebackId → List Float → List JointConstraint → List JointConstraint
-warmedAll warm substep joint [] prevs rows = []
-warmedAll warm substep joint (i ∷ is) prevs [] = []
-warmedAll warm substep joint (i ∷ is) prevs (r ∷ rs) =
-    warmedOf warm substep (seedOf joint i) (getD prevs 0 (bits 0)) r ∷ warmedAll warm substep joint is (drop 1 prevs) rs
+abbrev pub warmedAll : Warmstart → ℕ → ImpulseJoint → List WritebackId → List Float → List JointConstraint → List JointConstraint
+warmedAll warm substep joint = Warmed.warmedAll withImpulse warm substep (seedOf joint)
 
 -- the builder's `update`: prevs are the impulses of the rows of the last build, by row
 unfoldable pub builderUpdateOf : IntegrationParameters → ℕ → Warmstart → SolverPose → SolverPose → ImpulseJoint → List Float → List JointConstraint

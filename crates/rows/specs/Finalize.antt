@@ -1,28 +1,17 @@
--- Orthogonalising a group of rows: the Rust's `finalize_constraints`, the loops first over any kind of row.
-use Prim.Native.Nat.{ℕ, zero, suc, _-_}
-use mathlib.Core.Bool.{Bool, cond, _&&_}
-use mathlib.Core.List.{List, [], _∷_, _++_, map}
-use lib.ListN.{length, take, drop}
+-- The rows of a planar joint as a group that is orthogonalised (specs/Groups): the Rust's `finalize_constraints`.
+use Prim.Native.Nat.{ℕ}
+use mathlib.Core.Bool.{Bool, _&&_}
+use mathlib.Core.List.{List}
 use lib.Ieee.{Float, neg, eq}
 use Rattle.floats.specs.Operators.{_⊕_, _⊖_, _⊗_}
 use Rattle.floats.specs.Constants.{maxFloat}
 use Rattle.floats.specs.Utils.{simdInvOf}
 use Rattle.floats.specs.Vector.{addOf, subOf, mulOf, gdotOf, componentMulOf}
 use Rattle.floats.specs.declared.vector.Vector.{Vector}
+use Rattle.rows.specs.Groups as Groups
+use Rattle.rows.specs.Groups.{Group}
 use Rattle.rows.specs.Row.{withInvLhs, withCfmGain}
 use Rattle.rows.specs.declared.joint_velocity_constraint.JointConstraint.{JointConstraint}
-
--- The modified Gram-Schmidt process. Each of n rows in turn is finished by its head step; if it is a lock, each later row is reduced by it.
-unfoldable pub orthogonaliseN : {Row : Type 0} → (Row → Row) → (Row → Bool) → (Row → Row → Row) → ℕ → List Row → List Row
-orthogonaliseN head lock reduce zero cs = cs
-orthogonaliseN head lock reduce (suc n) [] = []
-orthogonaliseN head lock reduce (suc n) (c ∷ cs) =
-    head c ∷ orthogonaliseN head lock reduce n (cond (lock (head c)) (map (reduce (head c)) cs) cs)
-
-abbrev pub orthogonalise : {Row : Type 0} → (Row → Row) → (Row → Bool) → (Row → Row → Row) → List Row → List Row
-orthogonalise head lock reduce cs = orthogonaliseN head lock reduce (length cs) cs
-
--- ---- the rows of a joint
 
 -- both bodies' inverse masses, which a group takes from its first row
 unfoldable pub imSumOf : JointConstraint → Vector
@@ -72,15 +61,12 @@ invDotOf imsum cj = simdInvOf (rowDotOf imsum cj cj)
 abbrev pub pairOf : Vector → Float → JointConstraint → JointConstraint → JointConstraint
 pairOf imsum invDotJj cj ci = lessOf ci cj (rowDotOf imsum ci cj ⊗ invDotJj)
 
--- row c_i made orthogonal to the lock c_j, so that J_i M⁻¹ J_jᵀ is 0 but for rounding
-unfoldable pub reduceOf : Vector → JointConstraint → JointConstraint → JointConstraint
-reduceOf imsum cj ci = pairOf imsum (invDotOf imsum cj) cj ci
+-- the rows of a planar joint
+abbrev pub rowGroup : Group
+rowGroup = record { Row = JointConstraint; Masses = Vector; imSumOf = imSumOf; headOf = headOf; isLock = isLock; invDotOf = invDotOf; pairOf = pairOf }
 
--- `finalize_constraints`
-unfoldable pub finalizeOf : List JointConstraint → List JointConstraint
-finalizeOf [] = []
-finalizeOf (c ∷ cs) = orthogonalise (headOf (imSumOf c)) isLock (reduceOf (imSumOf c)) (c ∷ cs)
+abbrev pub finalizeOf : List JointConstraint → List JointConstraint
+finalizeOf = Groups.finalizeOf rowGroup
 
--- the first len of a list of rows orthogonalised as two groups, of which the first has n rows; the rows after them stay
-unfoldable pub finalizeGroups : ℕ → ℕ → List JointConstraint → List JointConstraint
-finalizeGroups n len cs = finalizeOf (take n cs) ++ (finalizeOf (take (len - n) (drop n cs)) ++ drop len cs)
+abbrev pub finalizeGroups : ℕ → ℕ → List JointConstraint → List JointConstraint
+finalizeGroups = Groups.finalizeGroups rowGroup

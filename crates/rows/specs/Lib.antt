@@ -6,10 +6,12 @@ pub mod RowSlots
 pub mod Row
 pub mod Helper
 pub mod Makers
+pub mod Groups
 pub mod Finalize
 pub mod Update
 pub mod Step
 pub mod Reaction
+pub mod Warmed
 pub mod Builder
 pub mod Writeback
 pub mod Cases

@@ -89,7 +89,7 @@ groupTwo nl na k = lockIds nl na k ++ limitIds nl na k
 unfoldable pub rowIds : ℕ → ℕ → Masks → List WritebackId
 rowIds nl na k = groupOne nl na k ++ groupTwo nl na k
 
--- ---- the ids as an array of six, the rest filled up
+-- ---- the ids as an array, the rest filled up
 
 -- a list of at most n values, filled up to n with a filler
 abbrev pub filled : {A : Type 0} → ℕ → A → List A → List A
@@ -100,9 +100,13 @@ filled (suc n) x (a ∷ l) = a ∷ filled n x l
 abbrev pub rowId : WritebackId → RowId
 rowId i = record { id = i }
 
--- a list of ids as an array, of which the first n are group one
+-- a list of ids in an array of `most` places
+abbrev pub idsFilled : ℕ → List WritebackId → List RowId
+idsFilled most l = filled most (rowId (Dof 0)) (map rowId l)
+
+-- a list of ids as an array of six, of which the first n are group one
 abbrev pub idsArray : ℕ → List WritebackId → RowIds
-idsArray n l = record { ids = filled 6 (rowId (Dof 0)) (map rowId l); first = n; len = length l }
+idsArray n l = record { ids = idsFilled 6 l; first = n; len = length l }
 
 -- the planar joint's ids as an array
 unfoldable pub rowIdsArray : Masks → RowIds

@@ -2,17 +2,16 @@
 use mathlib.Core.Path.{ap, _∙_}
 use native.Mathlib.Omega.{arith}
 use Rattle.rows.specs.Finalize.{finalizeGroups}
-use Rattle.rows.specs.RowIds.{rowIds}
 use Rattle.rows.proofs.RowSlotsLaws.{cleared-less, motors-are}
 use Rattle.rows.proofs.UpdateRows.{group-counts}
-use Rattle.rows.proofs.WarmedRows.{Starting, start-start, start-turn, room, all-made, start-end, started-rows}
+use Rattle.rows.proofs.WarmedRows.{Starting, building, start-start, start-turn, room, all-made, start-end, started-rows}
 use borrow.Author.Needs.{needs}
 use Rattle.rows.proofs.joint_constraint_builder.update.Statement.{statement}
 use Rattle.rows.proofs.joint_constraint_builder.update.Tie as tie
 
 abbrev Inv-loop : tie.InvT-loop
 Inv-loop substep-id warmstart joint prevs f context slots first rows₀ left₀ k₀ rows left k =
-    Starting warmstart substep-id joint context prevs (rowIds 2 1 (joint .«data» .masks)) f rows left k
+    Starting (building warmstart substep-id joint context prevs f) rows left k
 
 abbrev μ-loop : tie.MeasureT-loop
 μ-loop substep-id warmstart joint prevs f context slots first rows₀ left₀ k₀ rows left k = left
@@ -46,18 +45,10 @@ seed-requires : tie.Need-seed-requires Inv-loop μ-loop
 seed-requires c κs = search needs
 
 mul-warmed : tie.Need-mul-warmed Inv-loop μ-loop
-mul-warmed c =
-    let l = c .before .before .before in
-    let d = l .before in
-    let a = d .before .before .before .before .before .before .before .args in
-    record { fits = omega (arith, room (a .warmstart) (a .substep-id) (a .joint) (d .before .before .before .context .result) (a .t7) (rowIds 2 1 (a .joint .«data» .masks)) (d .before .before .before .before .first-coupled-lin-axis-id .result) (l .loop .rows) (l .loop .left) (l .loop .k) (l .loop .inv) (c .before .before .loop-test .taken)) }
+mul-warmed c = record { fits = omega (arith, room (c .before .before .before .loop .inv) (c .before .before .loop-test .taken)) }
 
 array-read-warmed : tie.Need-array-read-warmed Inv-loop μ-loop
-array-read-warmed c =
-    let l = c .before .before .before in
-    let d = l .before in
-    let a = d .before .before .before .before .before .before .before .args in
-    room (a .warmstart) (a .substep-id) (a .joint) (d .before .before .before .context .result) (a .t7) (rowIds 2 1 (a .joint .«data» .masks)) (d .before .before .before .before .first-coupled-lin-axis-id .result) (l .loop .rows) (l .loop .left) (l .loop .k) (l .loop .inv) (c .before .before .loop-test .taken)
+array-read-warmed c = room (c .before .before .before .loop .inv) (c .before .before .loop-test .taken)
 
 row-requires : tie.Need-row-requires Inv-loop μ-loop
 row-requires c κs = search needs
@@ -66,38 +57,23 @@ warmed-requires : tie.Need-warmed-requires Inv-loop μ-loop
 warmed-requires c κs = search needs
 
 mul-rows : tie.Need-mul-rows Inv-loop μ-loop
-mul-rows c =
-    let l = c .before .before .before .before .before in
-    let d = l .before in
-    let a = d .before .before .before .before .before .before .before .args in
-    record { fits = omega (arith, room (a .warmstart) (a .substep-id) (a .joint) (d .before .before .before .context .result) (a .t7) (rowIds 2 1 (a .joint .«data» .masks)) (d .before .before .before .before .first-coupled-lin-axis-id .result) (l .loop .rows) (l .loop .left) (l .loop .k) (l .loop .inv) (c .before .before .before .before .loop-test .taken)) }
+mul-rows c = record { fits = omega (arith, room (c .before .before .before .before .before .loop .inv) (c .before .before .before .before .loop-test .taken)) }
 
 array-set-from-rows : tie.Need-array-set-from-rows Inv-loop μ-loop
-array-set-from-rows c =
-    let l = c .before .before .before .before .before in
-    let d = l .before in
-    let a = d .before .before .before .before .before .before .before .args in
-    room (a .warmstart) (a .substep-id) (a .joint) (d .before .before .before .context .result) (a .t7) (rowIds 2 1 (a .joint .«data» .masks)) (d .before .before .before .before .first-coupled-lin-axis-id .result) (l .loop .rows) (l .loop .left) (l .loop .k) (l .loop .inv) (c .before .before .before .before .loop-test .taken)
+array-set-from-rows c = room (c .before .before .before .before .before .loop .inv) (c .before .before .before .before .loop-test .taken)
 
 sub-left : tie.Need-sub-left Inv-loop μ-loop
 sub-left c = search needs
 
 add-k : tie.Need-add-k Inv-loop μ-loop
-add-k c =
-    let l = c .before .before .before .before .before in
-    let d = l .before in
-    let a = d .before .before .before .before .before .before .before .args in
-    record { fits = omega (arith, room (a .warmstart) (a .substep-id) (a .joint) (d .before .before .before .context .result) (a .t7) (rowIds 2 1 (a .joint .«data» .masks)) (d .before .before .before .before .first-coupled-lin-axis-id .result) (l .loop .rows) (l .loop .left) (l .loop .k) (l .loop .inv) (c .before .before .before .before .loop-test .taken)) }
+add-k c = record { fits = omega (arith, room (c .before .before .before .before .before .loop .inv) (c .before .before .before .before .loop-test .taken)) }
 
 loop-less : tie.Need-loop-less Inv-loop μ-loop
 loop-less c = cleared-less (c .before .before .before .before .before .loop .left) (c .before .before .before .before .loop-test .taken)
 
 loop-again : tie.Need-loop-again Inv-loop μ-loop
 loop-again c =
-    let l = c .before .before .before .before .before in
-    let d = l .before in
-    let a = d .before .before .before .before .before .before .before .args in
-    start-turn (a .warmstart) (a .substep-id) (a .joint) (d .before .before .before .context .result) (a .t7) (rowIds 2 1 (a .joint .«data» .masks)) (d .before .before .before .before .first-coupled-lin-axis-id .result) (l .loop .rows) (l .loop .left) (l .loop .k) (l .loop .inv) _
+    start-turn (c .before .before .before .before .before .loop .inv) _
     (c .before .before .before .before .loop-test .taken) (rw (c .before .before .seed .ensures, c .before .row .ensures, c .before .before .before .slot-id .ensures) at (c .warmed .ensures))
 
 finalize-groups-requires : tie.Need-finalize-groups-requires Inv-loop μ-loop
@@ -105,7 +81,7 @@ finalize-groups-requires c κs =
     let l = c .before in
     let d = l .before in
     let a = d .before .before .before .before .before .before .before .args in
-    let made = all-made (a .warmstart) (a .substep-id) (a .joint) (d .before .before .before .context .result) (a .t7) (rowIds 2 1 (a .joint .«data» .masks)) (d .before .before .before .before .first-coupled-lin-axis-id .result) (l .loop .rows) (l .loop .left) (l .loop .k) (l .loop .inv) (c .loop-test .left) in
+    let made = all-made (l .loop .inv) (c .loop-test .left) in
     let counts = group-counts (a .joint .«data» .masks) in
     (omega (arith, made, counts .0, d .motors-of .ensures ∙ motors-are _ (d .before .row-slots .ensures)), omega (arith, made, counts .1))
 
@@ -114,11 +90,11 @@ returns c =
     let l = c .before .before in
     let d = l .before in
     let a = d .before .before .before .before .before .before .before .args in
-    let made = all-made (a .warmstart) (a .substep-id) (a .joint) (d .before .before .before .context .result) (a .t7) (rowIds 2 1 (a .joint .«data» .masks)) (d .before .before .before .before .first-coupled-lin-axis-id .result) (l .loop .rows) (l .loop .left) (l .loop .k) (l .loop .inv) (c .before .loop-test .left) in
-    started-rows (a .params) (a .substep-id) (a .warmstart) (a .body1) (a .body2) (a .joint) (a .t7) (l .loop .inv .six-prevs) (d .motors-of .ensures ∙ motors-are _ (d .before .row-slots .ensures)) made (d .before .before .before .context .ensures)
+    let made = all-made (l .loop .inv) (c .before .loop-test .left) in
+    started-rows (a .params) (a .substep-id) (a .warmstart) (a .body1) (a .body2) (a .joint) (a .t7) (l .loop .inv .all-prevs) (d .motors-of .ensures ∙ motors-are _ (d .before .row-slots .ensures)) made (d .before .before .before .context .ensures)
     (c .finalize-groups .ensures
     ∙ ap (λ t. finalizeGroups (d .motors-of .result) (l .loop .k) t)
-    (start-end (a .warmstart) (a .substep-id) (a .joint) (d .before .before .before .context .result) (a .t7) (rowIds 2 1 (a .joint .«data» .masks)) (d .before .before .before .before .first-coupled-lin-axis-id .result) (l .loop .rows) (l .loop .left) (l .loop .k) (l .loop .inv) (c .before .loop-test .left)))
+    (start-end (l .loop .inv) (c .before .loop-test .left)))
 
 pub update-spec : {M : Type 1} → statement M
 update-spec =

@@ -7,6 +7,7 @@ use Rattle.rows.specs.Row.{withImpulse}
 use Rattle.rows.specs.declared.joint_velocity_constraint.JointConstraint.{JointConstraint}
 use Rattle.rows.specs.declared.joint_constraint_builder.Warmstart.the-variants.{Warm}
 use borrow.Author.Needs.{needs}
+use Rattle.rows.specs.Warmed as Warmed
 use Rattle.rows.specs.Builder.{warmedOf}
 use Rattle.rows.proofs.joint_constraint_builder.warmed.Statement.{statement}
 use Rattle.rows.proofs.joint_constraint_builder.warmed.Tie as tie
@@ -14,7 +15,7 @@ use Rattle.rows.proofs.joint_constraint_builder.warmed.Tie as tie
 -- after substep 0
 later : (coeff : Float) (substep : ℕ) (seed prev : Float) (row : JointConstraint) → (substep ≡ 0 → ⊥)
     → warmedOf (Warm coeff) substep seed prev row ≡ withImpulse row (prev ⊗ coeff)
-unfolding warmedOf
+unfolding Warmed.warmedOf
 later coeff zero seed prev row h = absurd (h refl)
 later coeff (suc substep) seed prev row h = refl
 
@@ -25,7 +26,7 @@ with-impulse-requires : tie.Need-with-impulse-requires
 with-impulse-requires c κs = search needs
 
 returns : tie.Need-returns
-unfolding warmedOf
+unfolding Warmed.warmedOf
 returns c = rw (c .before .before .before .warmstart .given .1, c .before .if1 .taken) (c .with-impulse .ensures)
 
 with-impulse-requires-2 : tie.Need-with-impulse-requires-2
@@ -35,11 +36,11 @@ enum-told : tie.Need-enum-told
 enum-told c = search needs
 
 returns-2 : tie.Need-returns-2
-unfolding warmedOf
+unfolding Warmed.warmedOf
 returns-2 c = rw (c .before .before .before .warmstart .given .1) (c .with-impulse2 .ensures ∙ sym (later _ _ _ _ _ (c .before .if1 .left)))
 
 returns-3 : tie.Need-returns-3
-unfolding warmedOf
+unfolding Warmed.warmedOf
 returns-3 c = rw (c .enum-told .given .1)
 
 pub warmed-spec : {M : Type 1} → statement M

@@ -53,10 +53,11 @@ use denote.Triple.Walked.{says, Stays, stay-slice, walkOf, goes-slice, Walks, en
 use Rattle.floats.specs.declared.vector.Vector.{Vector}
 use Rattle.floats.proofs.vector.Vector as U
 use Rattle.floats.proofs.vector.Vector.Laws as U′
-use Rattle.rows.specs.Finalize.{imSumOf, headOf, isLock, invDotOf, pairOf, reduceOf, finalizeOf}
+use Rattle.rows.specs.Groups.{reduceOf}
+use Rattle.rows.specs.Finalize.{imSumOf, headOf, isLock, invDotOf, pairOf, rowGroup, finalizeOf}
 use Rattle.rows.specs.declared.joint_velocity_constraint.JointConstraint.{JointConstraint}
 use Rattle.rows.proofs.Orthogonalise.{between, between-end, pair-turn, free-turn, rest-end}
-use Rattle.rows.proofs.FinalizeLoops.{restOf, lock-row, start, none}
+use Rattle.rows.proofs.GroupLaws.{restOf, lock-row, start, none}
 use Rattle.rows.proofs.joint_velocity_constraint.JointConstraint as R
 use Rattle.rows.proofs.joint_velocity_constraint.JointConstraint.Laws as R′
 use Rattle.rows.proofs.joint_constraint_helper.im_sum as im-sum
@@ -163,7 +164,7 @@ record Outer (n : ℕ) (im : Vector) (goal : List JointConstraint) : Type 0 wher
   j : ℕ
   zs : List JointConstraint
   len : length zs ≡ n
-  same : restOf im j n zs ≡ goal
+  same : restOf rowGroup im j n zs ≡ goal
 
 -- the contracts that the proof cites
 module _ {M : Type 1} (𝓤 : URA M) (H : Heap 𝓤) (A : Atoms 𝓤) (at-mem : Memory → SProp 𝓤) (run : Routine → Fun 𝓤) where
@@ -375,7 +376,7 @@ module _ {M : Type 1} (𝓤 : URA M) (H : Heap 𝓤) (A : Atoms 𝓤) (W : Given
 
         -- a turn at the row j, of which d is a stand-in
         moreO : (j : ℕ) (zs : List JointConstraint) (d : JointConstraint) → ltb j n ≡ true → j < n → length zs ≡ n → j < length zs → (X : SProp 𝓤) (Q : Out → SProp 𝓤)
-            → ((ws : List JointConstraint) → length ws ≡ n → restOf im (j + 1) n ws ≡ restOf im j n zs → Sq W (AtOut (j + 1) ws) (prop X)) → Sq W (AtOut j zs) (runs C Λ En body.turn-2 (anyQ (afterTurn 𝓤 H X Q)))
+            → ((ws : List JointConstraint) → length ws ≡ n → restOf rowGroup im (j + 1) n ws ≡ restOf rowGroup im j n zs → Sq W (AtOut (j + 1) ws) (prop X)) → Sq W (AtOut j zs) (runs C Λ En body.turn-2 (anyQ (afterTurn 𝓤 H X Q)))
         moreO j zs d e small len at-j X Q k =
             assigns ! (bin ! (load ! (from ! (stop !)) (look ! 39 refl)) (load ! (from ! (stop !)) (look ! 43 refl)) tt) (from ! (stop !)) (init ! 25 refl (tt, tt)) $ rewrite ! 25 (λ (t : Bool). ‵ (fat fullShare tyBool l₁₁ 0 (vbool t))) e refl $ stays ! (load ! (from ! (stop !)) (look ! 25 refl)) $
             assigns ! (bin ! (load ! (from ! (stop !)) (look ! 39 refl)) (lit ! tt) (record { fits = place-fits j small })) (from ! (stop !)) (init ! 23 refl (tt, record { fits = place-fits j small })) $
@@ -410,9 +411,9 @@ module _ {M : Type 1} (𝓤 : URA M) (H : Heap 𝓤) (A : Atoms 𝓤) (W : Given
             first ! $ branches ! (load ! (from ! (stop !)) (look ! 15 refl))
             (λ held. forget ! 15 refl $ assigns ! (bin ! (load ! (from ! (stop !)) (look ! 39 refl)) (lit ! tt) (record { fits = next-fits j small })) (from ! (stop !)) (init ! 33 refl (tt, record { fits = next-fits j small })) $ blocks ! $
             inner j p (own-vals p _ ip) v (real-vals v _ iv) (between (map (pairOf im v p)) (j + 1) n (set zs j p)) (afterTurn 𝓤 H X Q)
-            (λ ws lw same. tails j p (own-vals p _ ip) v (real-vals v _ iv) ws small X Q (k ws lw (lock-row im j n zs ws d p v small (fills zs len) ep (sym et ∙ yes-T t held) ev same)))
+            (λ ws lw same. tails j p (own-vals p _ ip) v (real-vals v _ iv) ws small X Q (k ws lw (lock-row rowGroup im j n zs ws d p v small (fills zs len) ep (sym et ∙ yes-T t held) ev same)))
             (record { i = j + 1; ws = set zs j p; len = length-set zs j p ∙ len; same = refl }))
-            (λ failed. forget ! 15 refl $ skips ! $ exec ! C Λ En tail (anyQ (afterTurn 𝓤 H X Q)) $ tails j p (own-vals p _ ip) v (real-vals v _ iv) (set zs j p) small X Q (k (set zs j p) (length-set zs j p ∙ len) (free-turn (headOf im) isLock (reduceOf im) j n zs d p small (fills zs len) ep (sym et ∙ no-T t failed)))))))))))))))))
+            (λ failed. forget ! 15 refl $ skips ! $ exec ! C Λ En tail (anyQ (afterTurn 𝓤 H X Q)) $ tails j p (own-vals p _ ip) v (real-vals v _ iv) (set zs j p) small X Q (k (set zs j p) (length-set zs j p ∙ len) (free-turn (headOf im) isLock (reduceOf rowGroup im) j n zs d p small (fills zs len) ep (sym et ∙ no-T t failed)))))))))))))))))
 
         -- the turn that leaves the loop
         endsO : (j : ℕ) (zs : List JointConstraint) → ltb j n ≡ false → length zs ≡ n → zs ≡ finalizeOf xs → (X : SProp 𝓤)
@@ -441,7 +442,7 @@ module _ {M : Type 1} (𝓤 : URA M) (H : Heap 𝓤) (A : Atoms 𝓤) (W : Given
         outer = loops ! 𝓣 NearerO NearerO-wf AtO (λ s. by-bool (ltb (s .j) n)
             (λ e. moreO (s .j) (s .zs) (stand-in (s .zs) (s .j) (at-j s e)) e (below (s .j) n e) (s .len) (at-j s e) _ _
             (λ ws len same. again ! NearerO AtO s (record { j = s .j + 1; zs = ws; len = len; same = same ∙ s .same }) (add-one-dec n (s .j) (below (s .j) n e))))
-            (λ e. endsO (s .j) (s .zs) e (s .len) (sym (rest-end (headOf im) isLock (reduceOf im) (s .j) n (s .zs) (over (s .j) n e)) ∙ s .same) _))
+            (λ e. endsO (s .j) (s .zs) e (s .len) (sym (rest-end (headOf im) isLock (reduceOf rowGroup im) (s .j) n (s .zs) (over (s .j) n e)) ∙ s .same) _))
 
       -- where there is a row: the sum of the first one's inverse masses, and the loops
       some-rows : (d : JointConstraint) → 0 < n → Sq W (Ctx xs (‵ (froom U′.mir l₃ 0)) (‵ (froom word l₄ 0)) (‵ (froom R′.mir l₅ 0)) (‵ (froom real l₆ 0)) (‵ (froom word l₇ 0))) (runs C Λ En arm (anyQ (afterSeq 𝓤 H (Wp 𝓤 H C Λ En body.t-4 (atReturn 𝓤 H En Post)) (atReturn 𝓤 H En Post))))
@@ -457,7 +458,7 @@ module _ {M : Type 1} (𝓤 : URA M) (H : Heap 𝓤) (A : Atoms 𝓤) (W : Given
           peeks ! U.the-row (Is U.the-row) (shows 𝓤 H A U.the-row) im (u ∷ []) (λ ie.
           land ! (from ! (stop !)) (init ! 42 refl (LL.lawful U.the-type U′.the-laws 𝓤 H A W .typed im _ ie .0)) $ rewrite ! 42 (λ (y : Val). ‵ (fat fullShare U′.mir l₃ 0 y)) (ap only (LL.tells U.the-type U′.the-laws im _ ie)) refl $ drop ! $
           assigns ! (of-opd ! (lit ! tt)) (from ! (stop !)) (init ! 39 refl (tt, record { fits = lit< tt })) $ forget ! 27 refl $ forget ! 29 refl $ blocks ! $
-          outer im (vec-vals im _ ie) (record { j = 0; zs = xs; len = refl; same = ap (λ (y : Vector). restOf y 0 n xs) em ∙ start xs d has }))))))
+          outer im (vec-vals im _ ie) (record { j = 0; zs = xs; len = refl; same = ap (λ (y : Vector). restOf rowGroup y 0 n xs) em ∙ start rowGroup xs d has }))))))
 
       -- the body, once the locals are there
       branch : Sq W (Ctx xs (‵ (froom U′.mir l₃ 0)) (‵ (froom word l₄ 0)) (‵ (froom R′.mir l₅ 0)) (‵ (froom real l₆ 0)) (‵ (froom word l₇ 0))) (runs C Λ En body.t-2 (atRet En Post))
@@ -465,7 +466,7 @@ module _ {M : Type 1} (𝓤 : URA M) (H : Heap 𝓤) (A : Atoms 𝓤) (W : Given
           assigns ! (bin ! (lit ! tt) (load ! (from ! (stop !)) (look ! 43 refl)) tt) (from ! (stop !)) (init ! 31 refl (tt, tt)) $
           first ! $ branches ! (load ! (from ! (stop !)) (look ! 31 refl))
           (λ held. forget ! 31 refl $ some-rows (stand-in xs 0 (ltb→lt 0 n held)) (ltb→lt 0 n held))
-          (λ failed. forget ! 31 refl $ skips ! $ exec ! C Λ En body.t-4 (atRet En Post) $ finish xs refl (none xs (nltb→le 0 n failed)))
+          (λ failed. forget ! 31 refl $ skips ! $ exec ! C Λ En body.t-4 (atRet En Post) $ finish xs refl (none rowGroup xs (nltb→le 0 n failed)))
 
       abbrev Begun : List (Item 𝓤)
       Begun = ‵ (froom tyPtr l₂₃ 0) ∷ ‵ (fdies tyPtr l₂₃) ∷ ‵ (froom word l₂₂ 0) ∷ ‵ (fdies word l₂₂) ∷ ‵ (froom R′.mir l₂₁ 0) ∷ ‵ (fdies R′.mir l₂₁) ∷ ‵ (froom tyPtr l₂₀ 0) ∷ ‵ (fdies tyPtr l₂₀) ∷ ‵ (froom word l₁₉ 0) ∷ ‵ (fdies word l₁₉) ∷ ‵ (froom R′.mir l₁₈ 0) ∷ ‵ (fdies R′.mir l₁₈) ∷ ‵ (froom tyBool l₁₇ 0) ∷ ‵ (fdies tyBool l₁₇) ∷ ‵ (froom tyBool l₁₆ 0) ∷ ‵ (fdies tyBool l₁₆) ∷ ‵ (froom tyPtr l₁₅ 0) ∷ ‵ (fdies tyPtr l₁₅) ∷ ‵ (froom R′.mir l₁₄ 0) ∷ ‵ (fdies R′.mir l₁₄) ∷ ‵ (froom tyPtr l₁₃ 0) ∷ ‵ (fdies tyPtr l₁₃) ∷ ‵ (froom word l₁₂ 0) ∷ ‵ (fdies word l₁₂) ∷ ‵ (froom tyBool l₁₁ 0) ∷ ‵ (fdies tyBool l₁₁) ∷ ‵ (froom R′.mir l₁₀ 0) ∷ ‵ (fdies R′.mir l₁₀) ∷ ‵ (froom tyPtr l₉ 0) ∷ ‵ (fdies tyPtr l₉) ∷ ‵ (froom tyBool l₈ 0) ∷ ‵ (fdies tyBool l₈) ∷ ‵ (froom word l₇ 0) ∷ ‵ (fdies word l₇) ∷ ‵ (froom real l₆ 0) ∷ ‵ (fdies real l₆) ∷ ‵ (froom R′.mir l₅ 0) ∷ ‵ (fdies R′.mir l₅) ∷ ‵ (froom word l₄ 0) ∷ ‵ (fdies word l₄) ∷ ‵ (froom U′.mir l₃ 0) ∷ ‵ (fdies U′.mir l₃) ∷ ‵ (froom word l₂ 0) ∷ ‵ (fdies word l₂) ∷ ‵ (fat fullShare slice l₁ 0 (sliceVal (b, o) n)) ∷ ‵ (fdies slice l₁) ∷ ‵ (froom tyUnit l₀ 0) ∷ ‵ (fdies tyUnit l₀) ∷ ‵ (fobs γ (codedHoleys R.the-row .code (heres R.the-row xs))) ∷ ‵ (fbor κ (Held R.the-row n b o γ)) ∷ ‵ (flft κ q) ∷ ‵ ftrue ∷ ‵ ftrue ∷ []

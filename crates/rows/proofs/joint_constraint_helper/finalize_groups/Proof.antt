@@ -46,6 +46,7 @@ use denote.Triple.Call.{calls-at}
 use denote.Triple.Clauses.{ensured, lasts}
 use denote.Triple.Table.{entered, cited}
 use denote.Triple.Walked.{says, Stays, stay-none, needs, walkOf, goes-none, Walks, ends-at, walked, walk-meets}
+use Rattle.rows.specs.Groups as Groups
 use Rattle.rows.specs.Finalize.{finalizeOf, finalizeGroups}
 use Rattle.rows.specs.declared.joint_velocity_constraint.JointConstraint.{JointConstraint}
 use Rattle.rows.proofs.joint_velocity_constraint.JointConstraint as R
@@ -62,7 +63,7 @@ use Rattle.rows.proofs.joint_constraint_helper.finalize_groups.Code.Mir
 
 -- ---- plain facts
 put-together : (m len : ℕ) (xs ys zs : List JointConstraint) → m ≤ len → ys ≡ finalizeOf (take m xs) → zs ≡ finalizeOf (take (len - m) (drop m xs)) → ys ++ (zs ++ drop (len - m) (drop m xs)) ≡ finalizeGroups m len xs
-unfolding finalizeGroups
+unfolding Groups.finalizeGroups
 put-together m len xs ys zs h e f =
     let k : m + (len - m) ≡ len = omega arith in
     rw (e, f, drop-drop (len - m) m xs, k)

@@ -2,14 +2,14 @@
 use mathlib.Core.Path.{ap}
 use native.Mathlib.Omega.{arith}
 use borrow.Author.Needs.{needs}
-use Rattle.rows.specs.RowIds.{rowIds, rowId}
+use Rattle.rows.specs.RowIds.{rowId}
 use Rattle.rows.proofs.RowSlotsLaws.{cleared-less}
-use Rattle.rows.proofs.ListedIds.{Listed, room, listed-start, listed-turn, all-listed, listed-end, listed-array}
+use Rattle.rows.proofs.ListedIds.{PlanarListed, room, listed-start, listed-turn, all-listed, listed-end, listed-array}
 use Rattle.rows.proofs.row_ids.row_ids.Statement.{statement}
 use Rattle.rows.proofs.row_ids.row_ids.Tie as tie
 
 abbrev Inv-loop : tie.InvT-loop
-Inv-loop masks f ids₀ left₀ k₀ ids left k = Listed (rowIds 2 1 masks) f ids left k
+Inv-loop masks f ids₀ left₀ k₀ ids left k = PlanarListed masks f ids left k
 
 abbrev μ-loop : tie.MeasureT-loop
 μ-loop masks f ids₀ left₀ k₀ ids left k = left
