@@ -20,7 +20,7 @@ use Rattle.multibody.specs.Counts.{jointCount, rowsBefore, Room}
 use Rattle.multibody.specs.Calls.{eachJoint, buildOne, rowsFrom, rowsOf}
 use Rattle.model.specs.Planar.{plane}
 use Rattle.model.proofs.PlanarLaws.{planar-laws}
-use Rattle.model.proofs.StoredRows.{rowsFrom-at, rowsFrom-same, rowsFrom-length, impulses-of}
+use Rattle.multibody.proofs.StoredRows.{rowsFrom-at, rowsFrom-same, rowsFrom-length, impulses-of}
 use Rattle.multibody.proofs.JointLocality.{Layout, Side}
 use Rattle.multibody.proofs.RowWorks.{buildSide, madeOf, length-made, row-made}
 
@@ -81,7 +81,7 @@ module _ (m : Model) (warm : Warmstart) (substep : ℕ) (rows : List Float) (roo
       let n : ℕ = rowCount plane (m .words) j in
       let k : ℕ = rowsBefore plane (m .words) j in
       let same : impulsesAt plane turn k n ≡ impulsesAt plane rows k n =
-      impulses-of turn k n ∙ ap (map (λ (r : JointConstraint). r .impulse)) (rowsFrom-same turn rows n k k turn-keeps) ∙ sym (impulses-of rows k n) in
+      impulses-of plane turn k n ∙ ap (map (λ (r : JointConstraint). r .impulse)) (rowsFrom-same plane turn rows n k k turn-keeps) ∙ sym (impulses-of plane rows k n) in
       ap (λ (l : List Float). (builtRows plane) (m .params) (m .bodies) (m .words) (m .numbers) j warm substep (filled 6 (bits 0) l)) same
 
   later : (rest : ℕ) → jointCount plane (m .words) (m .numbers) ≡ j + suc rest → final ≡ eachJoint work (j + 1) rest (work j turn)
@@ -104,5 +104,5 @@ module _ (m : Model) (warm : Warmstart) (substep : ℕ) (rows : List Float) (roo
   built-rows =
       let n : ℕ = rowCount plane (m .words) j in
       let k : ℕ = rowsBefore plane (m .words) j in
-      ext-getD blankRow (rowsFrom plane final k n) (madeOf planar-laws m warm substep j rows) (rowsFrom-length final k n ∙ sym (length-made planar-laws m warm substep j rows))
-      (λ i l. let c : i < n = omega (arith, rowsFrom-length final k n) in rowsFrom-at final k n i c ∙ final-made i c)
+      ext-getD blankRow (rowsFrom plane final k n) (madeOf planar-laws m warm substep j rows) (rowsFrom-length plane final k n ∙ sym (length-made planar-laws m warm substep j rows))
+      (λ i l. let c : i < n = omega (arith, rowsFrom-length plane final k n) in rowsFrom-at plane blankRow final k n i c ∙ final-made i c)

@@ -29,9 +29,10 @@ use Rattle.multibody.specs.Calls.Answer.{rowsRead}
 use Rattle.model.specs.Planar.{plane, planar}
 use Rattle.model.proofs.PlanarLaws.{planar-laws}
 use Rattle.model.specs.Refusals.{allAxes, masksFit}
-use Rattle.model.proofs.JointRowsLaws.{masks-enabled}
-use Rattle.model.proofs.RefusalLaws.{Hold, all-hold, hold-granted, call-numbered, model-numbered, RulesHold, rules-hold, rules-granted, all-at, all-below, at-most, room-of}
-use Rattle.model.proofs.CallLaws.{run-granted}
+use Rattle.multibody.proofs.JointRowsLaws.{masks-enabled}
+use Rattle.multibody.proofs.RuleLaws.{Hold, all-hold, hold-granted, all-at, all-below, at-most}
+use Rattle.multibody.proofs.RefusalLaws.{call-numbered, model-numbered, RulesHold, rules-hold, rules-granted, room-of}
+use Rattle.multibody.proofs.CallLaws.{run-granted}
 use Rattle.multibody.proofs.RefusedExactly.{told, exactly-granted}
 use Rattle.multibody.proofs.RowWorks.{madeOf, length-made}
 use Rattle.catalogue.specs.Choices.{entry, Legal}
@@ -63,15 +64,15 @@ module _ (m : Model) (warm : Warmstart) (substep : ℕ) (rows : List Float) (gra
   unfolding rulesOf
   first-held =
       hold-first (firstRules planar (build warm substep) m rows) (ownRules planar (build warm substep) m)
-      (all-hold (rulesOf planar (build warm substep) m rows) (call-numbered m (build warm substep) rows) no-rule)
+      (all-hold (rulesOf planar (build warm substep) m rows) (call-numbered planar-laws m (build warm substep) rows) no-rule)
 
-  rules : RulesHold m
+  rules : RulesHold planar-laws m
   rules =
-      rules-hold m (finiteWarm warm)
+      rules-hold planar-laws m (finiteWarm warm)
       (hold-granted (modelRules planar m (finiteWarm warm)) (hold-first (modelRules planar m (finiteWarm warm)) (storageRule plane m rows ∷ []) first-held))
 
   room : Room plane m rows
-  room = room-of m rows (hold-granted (storageRule plane m rows ∷ []) (hold-second (modelRules planar m (finiteWarm warm)) (storageRule plane m rows ∷ []) first-held))
+  room = room-of planar-laws m rows (hold-granted (storageRule plane m rows ∷ []) (hold-second (modelRules planar m (finiteWarm warm)) (storageRule plane m rows ∷ []) first-held))
 
   -- it leaves the model marked, and its rows in the storage
   abbrev after : Outcome plane
@@ -84,7 +85,7 @@ module _ (m : Model) (warm : Warmstart) (substep : ℕ) (rows : List Float) (gra
   legal-masks : (j : ℕ) → j < jointCount plane (m .words) (m .numbers) → Legal (masksAt (m .words) j)
   unfolding masksFit masksAt
   legal-masks j h =
-      let fit = all-below (masksFit (m .words)) _ (rules .masks) j h in
+      let fit = all-below (masksFit (m .words)) _ (rules .masks .0) j h in
       let mask : (c : ℕ) → masksPlace ≤ c → c < masksPlace + 4 → word wordsWidth (m .words) j c ≤ allAxes =
       λ c l u. at-most allAxes _ (all-at (λ c. atMost allAxes (word wordsWidth (m .words) j c)) masksPlace 4 fit c l u) in
       record {
@@ -106,11 +107,11 @@ module _ (m : Model) (warm : Warmstart) (substep : ℕ) (rows : List Float) (gra
     read-held =
         hold-both (modelRules planar (withMark m true) true ++ (storageRule plane (withMark m true) (after .rows) ∷ [])) _
         (hold-both (modelRules planar (withMark m true) true) (storageRule plane (withMark m true) (after .rows) ∷ [])
-        (all-hold (modelRules planar (withMark m true) true) (model-numbered (withMark m true) true) (rules-granted (withMark m true) true marked refl))
+        (all-hold (modelRules planar (withMark m true) true) (model-numbered planar-laws (withMark m true) true true) (rules-granted planar-laws (withMark m true) true marked refl))
         (ap not (le-ltb _ _ after-room), tt))
         (refl, (lt-ltb _ _ h, tt))
       where
-        marked : RulesHold (withMark m true)
+        marked : RulesHold planar-laws (withMark m true)
         marked = record {
           bodies = rules .bodies;
           joints = rules .joints;
@@ -120,7 +121,7 @@ module _ (m : Model) (warm : Warmstart) (substep : ℕ) (rows : List Float) (gra
           finite-params = rules .finite-params;
           finite-bodies = rules .finite-bodies;
           finite-joints = rules .finite-joints;
-          angles = rules .angles;
+          contents = rules .contents;
           dt = rules .dt;
         }
 
@@ -131,7 +132,7 @@ module _ (m : Model) (warm : Warmstart) (substep : ℕ) (rows : List Float) (gra
     module _ (n : ℕ) (on : OnLine m j n) where
       ids-listed : jointIds plane (m .words) j ≡ listedIds n
       unfolding jointIds
-      ids-listed = ap (rowIds 2 1) (masks-enabled (m .words) j (on .enabled) ∙ on .masks)
+      ids-listed = ap (rowIds 2 1) (masks-enabled planar-laws (m .words) j (on .enabled) ∙ on .masks)
 
       rows-made : rowsOf plane (m .words) (after .rows) j ≡ madeOf planar-laws m warm substep j rows
       unfolding grantedOf

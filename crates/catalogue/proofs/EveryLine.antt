@@ -24,8 +24,9 @@ use Rattle.multibody.specs.Calls.Call.{build}
 use Rattle.model.specs.Planar.{plane, planar}
 use Rattle.model.proofs.PlanarLaws.{planar-laws}
 use Rattle.model.specs.Refusals.{masksFit, finiteFrom, noNanFrom, finiteBody, finiteMotor, finiteCenter, finiteJoint, angleFits, centerFits}
-use Rattle.model.proofs.JointRowsLaws.{few-rows}
-use Rattle.model.proofs.RefusalLaws.{Hold, all-hold, hold-granted, model-numbered, RulesHold, rules-granted}
+use Rattle.multibody.proofs.JointRowsLaws.{few-rows}
+use Rattle.multibody.proofs.RuleLaws.{Hold, all-hold, hold-granted}
+use Rattle.multibody.proofs.RefusalLaws.{model-numbered, RulesHold, rules-granted}
 use Rattle.multibody.proofs.RefusedExactly.{told}
 use Rattle.catalogue.specs.Choices.{choices, entry, Legal}
 use Rattle.catalogue.specs.Built.{OnLine}
@@ -53,31 +54,31 @@ abbrev pub storage : List Float
 storage = replicate 108 o
 
 module _ (k : Masks) (h : Legal k) where
-  rules : RulesHold (sample k)
+  rules : RulesHold planar-laws (sample k)
   unfolding all masksFit presentOrWorld bodiesPresent bodiesApart finiteFrom noNanFrom finiteParams finiteBody finiteMotor finiteCenter finiteJoint angleFits centerFits centerAt absOf isFinite isNan lt ofBits bodyCount jointCount body1At body2At
   rules = record {
     bodies = refl;
     joints = refl;
-    masks = rw (le-ltb 7 _ (h .locked), le-ltb 7 _ (h .limit), le-ltb 7 _ (h .motor), le-ltb 7 _ (h .coupled));
+    masks = (rw (le-ltb 7 _ (h .locked), le-ltb 7 _ (h .limit), le-ltb 7 _ (h .motor), le-ltb 7 _ (h .coupled)), tt);
     present = refl;
     apart = refl;
     finite-params = refl;
     finite-bodies = refl;
     finite-joints = refl;
-    angles = refl;
+    contents = (refl, tt);
     dt = refl;
   }
 
   room : Room plane (sample k) storage
   unfolding jointCount rowCapacity rowsBefore
-  room = omega (arith, few-rows (sample k .words) 0 refl)
+  room = omega (arith, few-rows planar-laws (sample k .words) 0 refl)
 
   granted : Hold (rulesOf planar (build Cold 0) (sample k) storage)
   unfolding rulesOf storageRule seedsRule readsRows finiteWarm
   granted =
       hold-both (firstRules planar (build Cold 0) (sample k) storage) (ownRules planar (build Cold 0) (sample k))
       (hold-both (modelRules planar (sample k) _) (storageRule plane (sample k) storage ∷ [])
-      (all-hold (modelRules planar (sample k) _) (model-numbered (sample k) _) (rules-granted (sample k) _ rules refl)) (ap not (le-ltb _ _ room), tt))
+      (all-hold (modelRules planar (sample k) _) (model-numbered planar-laws (sample k) _ _) (rules-granted planar-laws (sample k) _ rules refl)) (ap not (le-ltb _ _ room), tt))
       (refl, tt)
 
 pub every-line : (n : ℕ) → n < length choices → (refusalOf (run planar (build Cold 0) (sample (entry n)) storage .answer) ≡ 0) × OnLine (sample (entry n)) 0 n

@@ -15,12 +15,11 @@ use Rattle.multibody.specs.Counts.{bodyCount, jointCount, rowCapacity, totalRow
 use Rattle.multibody.specs.Calls.{Call, Outcome, grantedOf, run}
 use Rattle.multibody.specs.Calls.Call.{build, warmStart, sweep, removeBias}
 use Rattle.multibody.specs.Calls.Answer.{refused}
-use Rattle.multibody.proofs.CountLaws.{same-bodies}
+use Rattle.multibody.proofs.CountLaws.{same-bodies, rowsBefore-le, rows-fit}
 use Rattle.multibody.proofs.Keeps.{run-cases, run-counts}
 use Rattle.model.specs.Layout.{rowWidth, bodyWidth}
 use Rattle.model.specs.Planar.{plane, planar}
-use Rattle.model.proofs.CountLaws.{rowsBefore-le, rows-fit}
-use Rattle.model.proofs.PastTotal.{past-total}
+use Rattle.multibody.proofs.PastTotal.{past-total}
 use Rattle.model.proofs.PlanarLaws.{planar-laws}
 use Rattle.frames.proofs.MovedLaws.{length-moved}
 use Rattle.frames.specs.Frames.{Moment, moment, leaves, movedMoment, Progress, progress, beforeMove, moveOf, afterMove, substep, substeps, stepsOf, Reaches, OrBack}
@@ -70,7 +69,7 @@ module _ (words : List ℕ) (numbers rows : List Float) (bodies : ℕ) where
       record {
         words-kept = j2 .0 ∙ k .words-kept;
         numbers-kept = j2 .1 ∙ k .numbers-kept;
-        past = rw same at (past-total m (s .rows) c) ∙ k .past;
+        past = rw same at (past-total planar-laws m (s .rows) c) ∙ k .past;
         count = run-counts planar-laws m (s .rows) c .bodies ∙ k .count;
       }
 
@@ -139,7 +138,7 @@ module _ (words : List ℕ) (numbers rows : List Float) (bodies : ℕ) where
 pub total-fits : (joints : ℕ) (m : Model) (rows : List Float) → jointCount plane (m .words) (m .numbers) ≤ joints → Room plane m rows
     → (totalRows plane (m .words) (m .numbers) * rowWidth ≤ length rows) × (totalRows plane (m .words) (m .numbers) * rowWidth ≤ joints * 108)
 total-fits joints m rows few room =
-    (rows-fit rows (totalRows plane (m .words) (m .numbers)) room, omega (arith, few, rowsBefore-le (m .words) (jointCount plane (m .words) (m .numbers))))
+    (rows-fit plane rows (totalRows plane (m .words) (m .numbers)) room, omega (arith, few, rowsBefore-le planar-laws (m .words) (jointCount plane (m .words) (m .numbers))))
 
 -- and a storage of at most so many bodies in one of ten for each and nine more
 pub bodies-fit-copy : (count : ℕ) (b : List Float) → bodyCount plane b ≤ count → length b ≤ count * 10 + 9

@@ -27,7 +27,7 @@ use Rattle.model.specs.Model.{modelOf}
 use Rattle.model.specs.Answers.{sweepAnswer, sweptAs, sweepAnswerOf}
 use Rattle.model.specs.declared.calls.Plain.{Plain}
 use Rattle.model.specs.declared.calls.SweepAnswer.{SweepAnswer}
-use Rattle.model.proofs.CallLaws.{too-many, few-rounds}
+use Rattle.multibody.proofs.CallLaws.{too-many, few-rounds}
 use Rattle.model.proofs.PlanarLaws.{planar-laws}
 use Rattle.model.specs.declared.header.Header.{Header}
 use Rattle.frames.specs.declared.frame.FrameAnswer.{FrameAnswer}

@@ -24,10 +24,9 @@ use Rattle.multibody.specs.Studies.{withoutTotal}
 use Rattle.multibody.proofs.Tests.{by-cases}
 use Rattle.multibody.proofs.RuleLaws.{both, no-rules, rule-holds, granted-append}
 use Rattle.multibody.proofs.RefusalLaws.{RulesHold, first-numbered, rules-rest}
-use Rattle.multibody.proofs.CallLaws.{run-granted}
+use Rattle.multibody.proofs.CallLaws.{run-granted, few-rounds, is-built, seeds}
 use Rattle.multibody.proofs.Keeps.{BringsNone, run-holds, run-counts, run-total}
 use Rattle.model.specs.Planar.{plane, planar}
-use Rattle.model.proofs.CallLaws.{few-rounds, is-built, seeds}
 use Rattle.model.proofs.PlanarLaws.{planar-laws}
 use Rattle.frames.specs.Frames.{withDt, substepOf, allSubsteps, grantedFrame, Moment, moment, leaves, movedMoment, Progress, beforeMove, moveOf, afterMove, substep, substeps, stepsOf}
 use Rattle.frames.proofs.FrameLaws.{once-stopped}

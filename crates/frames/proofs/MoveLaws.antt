@@ -8,10 +8,9 @@ use lib.ListN.{length}
 use lib.Ieee.{Float}
 use Rattle.floats.specs.declared.pose.Pose.{Pose}
 use Rattle.multibody.specs.Counts.{bodyCount}
-use Rattle.multibody.proofs.CountLaws.{same-bodies}
+use Rattle.multibody.proofs.CountLaws.{same-bodies, body-there}
 use Rattle.model.specs.Planar.{plane}
 use Rattle.model.specs.SingleRecords.{putPoseIfThere}
-use Rattle.model.proofs.CountLaws.{body-there}
 use Rattle.model.proofs.SingleRecordsLaws.{put-pose-there}
 use Rattle.model.specs.Refusals.{finitePose}
 use Rattle.frames.specs.Moving.{newPose, Moved, moved, moveFrom}
@@ -34,7 +33,7 @@ module _ (h : Float) (i n : ℕ) (b : List Float) where
     unfolding moveFrom
     next-move f here d =
         let z : n - i ≡ suc (n - (i + 1)) = omega arith in
-        let q = d ∙ put-pose-there b i p (body-there b i here) in
+        let q = d ∙ put-pose-there b i p (body-there plane b i here) in
         rw (z, ← e, f, q)
 
 -- a body whose turn it is is there

@@ -19,7 +19,7 @@ use Rattle.model.specs.Layout.{wordsWidth, masksPlace}
 use Rattle.model.specs.Store.{putFirst, putMasks}
 use Rattle.model.specs.Planar.{plane, planar}
 use Rattle.model.specs.FirstRows.{FirstRowsAlone, SameButFirstRows, FirstRowsUnread}
-use Rattle.model.proofs.Tests.{by-cases}
+use Rattle.multibody.proofs.Tests.{by-cases}
 use Rattle.model.proofs.FirstRows.{alone-reworded, masksAt-alone, maskRules-alone, jointAt-alone, put-alone}
 use Rattle.model.proofs.PlanarLaws.{planar-laws}
 

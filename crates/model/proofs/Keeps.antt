@@ -21,9 +21,9 @@ use Rattle.model.specs.Records.{num, puts}
 use Rattle.model.specs.Store.{world, putVel, putPose, putSeed, seedIndex, axisOf, centerAt}
 use Rattle.multibody.specs.Rules.{all}
 use Rattle.model.specs.Refusals.{finiteFrom, noNanFrom, finitePose, finiteBody, finiteMotor, finiteJoint, centerFits}
-use Rattle.model.proofs.Strided.{length-puts, num-beside, num-other, num-stored}
-use Rattle.model.proofs.Tests.{by-cases}
-use Rattle.model.proofs.RefusalLaws.{both, all-at, all-below, all-cong, all-intro}
+use Rattle.multibody.proofs.Strided.{length-puts, num-beside, num-other, num-stored}
+use Rattle.multibody.proofs.Tests.{by-cases}
+use Rattle.multibody.proofs.RuleLaws.{both, all-at, all-below, all-cong, all-intro}
 use Rattle.model.proofs.StoreLaws.{length-putSeed, num-putSeed-kept, num-putSeed-other, putSeed-past}
 
 -- ---- bodies: all but velocities

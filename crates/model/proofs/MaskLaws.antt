@@ -30,7 +30,7 @@ use Rattle.model.specs.Layout.{wordsWidth}
 use Rattle.model.specs.Store.{putMasks, enabledAt, masksAt}
 use Rattle.model.specs.Refusals.{newMasksFit}
 use Rattle.model.specs.Planar.{plane, planar}
-use Rattle.model.proofs.JointRowsLaws.{count-disabled}
+use Rattle.multibody.proofs.JointRowsLaws.{count-disabled}
 use Rattle.model.proofs.NewMasks.{put-reworded, put-enabled, masksAt-apart, masks-put}
 use Rattle.model.proofs.PlanarLaws.{planar-laws}
 
@@ -53,7 +53,7 @@ module _ (w : List ℕ) (i j : ℕ) (ms : Masks) where
         rw (still-enabled on, m)
 
     pub count-none : isEnabled (enabledAt w i) ≡ false → 0 ≡ rowCount plane (putMasks w j ms) i
-    count-none off = sym (count-disabled (putMasks w j ms) i (rw (put-enabled w j ms i) off))
+    count-none off = sym (count-disabled planar-laws (putMasks w j ms) i (rw (put-enabled w j ms i) off))
 
 -- ---- masks that do not fit
 

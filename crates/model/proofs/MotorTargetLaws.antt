@@ -34,8 +34,8 @@ use Rattle.model.specs.Store.{putTarget, jointAt, jointOf, dataOf, cente
 use Rattle.model.specs.Refusals.{finiteFrom, noNanFrom, finiteMotor, finiteJoint, centerFits}
 use Rattle.multibody.specs.Rules.{all}
 use Rattle.model.specs.MotorTargets.{setRecord, setRecords, setTable}
-use Rattle.model.proofs.Tests.{by-cases}
-use Rattle.model.proofs.RefusalLaws.{both, all-at, all-intro}
+use Rattle.multibody.proofs.Tests.{by-cases}
+use Rattle.multibody.proofs.RuleLaws.{both, all-at, all-intro}
 use Rattle.model.proofs.StoreLaws.{length-putTarget, num-putTarget, num-putTarget-kept, num-putTarget-other, jointAt-putTarget, jointAt-putTarget-other}
 
 -- ---- numbers

@@ -23,7 +23,7 @@ use Rattle.model.specs.Records.{word}
 use Rattle.model.specs.Store.{putMasks, jointAt, centerAt, masksAt, enabledAt, body1At, body2At}
 use Rattle.model.specs.Refusals.{allAxes, masksFit, newMasksFit, finiteJoint, centerFits}
 use Rattle.model.specs.Planar.{plane, planar}
-use Rattle.model.proofs.Tests.{by-cases}
+use Rattle.multibody.proofs.Tests.{by-cases}
 
 -- a word that is no mask
 abbrev NoMask : ℕ → Type 0

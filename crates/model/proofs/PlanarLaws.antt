@@ -3,11 +3,12 @@ use Prim.Native.Nat.{ℕ, zero, suc, _+_, _*_, _/_, _≤_, _<_}
 use mathlib.Core.Path.{_≡_, refl, sym, ap, _∙_}
 use mathlib.Core.Bool.{Bool, true, false, cond}
 use mathlib.Core.List.{List, [], _∷_}
+use native.Mathlib.Nat.{add-zero}
 use native.Mathlib.Omega.{arith}
 use borrow.Author.Tests.{lt-ltb}
-use lib.Dec.{ltb, lit<}
-use lib.ListN.{length}
-use lib.Ieee.{Float}
+use lib.Dec.{ltb, lit≤, lit<}
+use lib.ListN.{length, getD, drop}
+use lib.Ieee.{Float, nan}
 use Rattle.floats.specs.declared.pose.Pose.{Pose}
 use Rattle.rows.specs.RowIds.{rowIds}
 use Rattle.rows.specs.Builder.{builderUpdateOf}
@@ -16,11 +17,13 @@ use Rattle.rows.specs.declared.joint_constraint_builder.SolverPose.{SolverPose}
 use Rattle.rows.specs.declared.joint_constraint_builder.ImpulseJoint.{ImpulseJoint}
 use Rattle.rows.specs.declared.joint_constraint_builder.Warmstart.{Warmstart}
 use Rattle.rows.specs.declared.joint_constraint_builder.Warmstart.the-variants.{Cold, Warm}
+use Rattle.rows.specs.declared.joint_velocity_constraint.JointConstraint.{JointConstraint}
 use Rattle.rows.specs.declared.joint_velocity_constraint.WritebackId.{WritebackId}
 use Rattle.rows.proofs.BuilderLaws.{first-reads-no-row, cold}
 use Rattle.rows.proofs.NamedRows as Rows
 use Rattle.rows.proofs.RowArrays.{length-builderUpdateOf}
 use Rattle.rows.proofs.RowIdsLaws.{no-ids}
+use Rattle.rows.proofs.RowIdsCount.{at-most-six}
 use Rattle.rows.proofs.WritebackNamed.{Axes, named-written, fewer-named, named-seeds}
 use Rattle.motor_table.specs.Tables.{mostRecords, tableRefusal, readTable}
 use Rattle.motor_table.proofs.GrantedLaws.{Granted, granted-fit, refusal-cases, same-records}
@@ -30,17 +33,18 @@ use Rattle.multibody.specs.Counts as Any
 use Rattle.multibody.specs.Refusals.{readsRows}
 use Rattle.multibody.specs.Studies.{TwoStudies}
 use Rattle.multibody.proofs.RuleLaws.{Numbered, all-cong}
+use Rattle.multibody.proofs.Strided.{record-past}
 use Rattle.multibody.proofs.Laws.{SameJoint, Given, BodyRoom, JointRoom, Laws}
 use Rattle.multibody.proofs.CountLaws as AnyCounts
 use Rattle.multibody.proofs.TwoStudies as AnyStudies
-use Rattle.model.specs.Layout.{numbersWidth}
-use Rattle.model.specs.Store.{jointAt, masksAt, enabledAt, putSeed, solverPoseAt, putPose}
+use Rattle.model.specs.Layout.{rowWidth}
+use Rattle.model.specs.Store.{rowAt, putRow, rowNumbers, jointAt, masksAt, enabledAt, putSeed, solverPoseAt, putPose}
 use Rattle.model.specs.Refusals.{finiteJoint, centerFits}
 use Rattle.model.specs.MotorTargets.{setRecords, setTable}
 use Rattle.model.specs.Planar.{tableRules, plane, planar}
 use Rattle.model.specs.Studies.{planarCalls}
 use Rattle.model.proofs.StoreLaws.{withPose, length-putRow, rowAt-putRow, rowAt-putRow-other, velAt-world, solverPoseAt-world, length-putVel, velAt-putVel, velAt-putVel-other, solverPoseAt-putVel, length-putPose, solverPoseAt-putPose, solverPoseAt-putPose-other, velAt-putPose, length-putSeed, jointAt-putSeed-other}
-use Rattle.model.proofs.CallLaws.{table-refusal}
+use Rattle.model.proofs.PlanarRules.{table-refusal}
 use Rattle.model.proofs.WritebackLaws.{jointAt-putSeed-writeback}
 use Rattle.model.proofs.MotorTargetLaws.{records-steady, finiteJoint-steady, centerFits-steady, table-size, records-named}
 use Rattle.model.proofs.NewMasks.{put-reworded, masksAt-apart, jointAt-apart, named-put, rule-put, unfit-rule}
@@ -83,6 +87,14 @@ named-self named a = record {
 }
 
 -- ---- rows
+
+row-past : (s : List Float) (k t : ℕ) (r : JointConstraint) → k < t → drop (t * rowWidth) (putRow s k r) ≡ drop (t * rowWidth) s
+unfolding putRow
+row-past s k t r h = record-past rowWidth s (rowNumbers r) k t (lit≤ tt) h
+
+impulse-read : (s : List Float) (k : ℕ) → rowAt s k .impulse ≡ getD s (k * rowWidth) nan
+unfolding rowAt
+impulse-read s k = rw add-zero
 
 update-length : (params : IntegrationParameters) (substep : ℕ) (warm : Warmstart) (b1 b2 : SolverPose) (words : List ℕ) (n : List Float) (j : ℕ) (last : List Float)
     → length last ≡ 6 → length (builderUpdateOf params substep warm b1 b2 (jointAt words n j) last) ≡ length (rowIds 2 1 (masksAt words j))
@@ -159,10 +171,15 @@ table-numbered bytes m = (omega arith, (omega arith, (omega arith, tt)))
 
 pub planar-laws : Laws planar
 planar-laws = record {
+  row-wide = lit< tt;
   body-wide = lit< tt;
+  words-wide = lit< tt;
+  numbers-wide = lit< tt;
   length-putRow = length-putRow;
   rowAt-putRow = rowAt-putRow;
   rowAt-putRow-other = rowAt-putRow-other;
+  putRow-past = row-past;
+  impulse-first = impulse-read;
   velAt-world = λ b b′. velAt-world b ∙ sym (velAt-world b′);
   solverPoseAt-world = λ b b′. solverPoseAt-world b ∙ sym (solverPoseAt-world b′);
   length-putVel = length-putVel;
@@ -191,6 +208,7 @@ planar-laws = record {
   named-putMasks = named-put;
   maskRules-putMasks = rule-put;
   no-ids = no-ids 2 1;
+  few-ids = λ words j. at-most-six (masksAt words j);
   length-update = update-length;
   reads-no-row = no-row-read;
   same-named = named-rows;

@@ -15,7 +15,8 @@ use Rattle.model.specs.Store.{rowAt, putRow, worldPose, rest, solverPose
 use Rattle.multibody.specs.Counts.{bodyCount, jointCount, rowCapacity}
 use Rattle.model.specs.Planar.{plane}
 use Rattle.model.specs.SingleRecords.{rowIfThere, putRowIfThere, poseIfThere, velIfThere, putPoseIfThere, blankJoint, jointIfThere, putSeedIfThere}
-use Rattle.model.proofs.CountLaws.{joint-there}
+use Rattle.multibody.proofs.CountLaws.{joint-there}
+use Rattle.model.proofs.PlanarLaws.{planar-laws}
 
 -- ---- rows
 
@@ -77,7 +78,7 @@ module _ (bodies : List Float) (i : ℕ) (p : Pose) where
 module _ (words : List ℕ) (numbers : List Float) (j : ℕ) where
   pub joint-read : j * wordsWidth + wordsWidth ≤ length words → j * numbersWidth + numbersWidth ≤ length numbers → jointIfThere words numbers j ≡ jointAt words numbers j
   unfolding jointIfThere
-  joint-read h g = rw (lt-ltb j (jointCount plane words numbers) (joint-there words numbers j h g))
+  joint-read h g = rw (lt-ltb j (jointCount plane words numbers) (joint-there planar-laws words numbers j h g))
 
   pub joint-absent : {n : ℕ} → n ≡ jointCount plane words numbers → n ≤ j → jointIfThere words numbers j ≡ blankJoint
   unfolding jointIfThere

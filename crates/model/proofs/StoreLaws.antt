@@ -20,7 +20,7 @@ use Rattle.rows.specs.declared.joint_velocity_constraint.WritebackId.the-varian
 use Rattle.model.specs.Layout.{rowWidth, bodyWidth, posePlace, inertiaPlace, massPlace, velocityPlace, wordsWidth, numbersWidth, targetPlace}
 use Rattle.model.specs.Records.{num, word, puts}
 use Rattle.model.specs.Store.{rowOfNumbers, rowAt, rowNumbers, putRow, world, Present, poseOf, worldPose, solverPoseAt, rest, velAt, putVel, putPose, seedIndex, axisOf, putSeed, putTarget, jointAt, jointOf}
-use Rattle.model.proofs.Strided.{length-puts, num-stored, num-kept, num-other, num-beside}
+use Rattle.multibody.proofs.Strided.{length-puts, num-stored, num-kept, num-other, num-beside}
 
 -- an id of one of the three axes has its stored impulse among the joint's numbers
 pub seed-index-below : (id : WritebackId) → axisOf id < 3 → seedIndex id < numbersWidth

@@ -19,8 +19,8 @@ use Rattle.multibody.proofs.Rewording.{same-count, first-rows-kept, firsts-same
 use Rattle.model.specs.Layout.{wordsWidth, firstRowPlace}
 use Rattle.model.specs.Store.{firstAt, putFirst, putMasks}
 use Rattle.model.specs.Planar.{plane, planar}
-use Rattle.model.proofs.Tests.{by-cases}
-use Rattle.model.proofs.CountLaws.{rowsBefore-next, rowsBefore-le, joints-words}
+use Rattle.multibody.proofs.Tests.{by-cases}
+use Rattle.multibody.proofs.CountLaws.{rowsBefore-next, rowsBefore-le, joints-words}
 use Rattle.model.proofs.FirstRows.{first-reworded}
 use Rattle.model.proofs.NewMasks.{put-reworded}
 use Rattle.model.proofs.PlanarLaws.{planar-laws}
@@ -52,7 +52,7 @@ first-rows (suc n) j w i room h g =
 pub stored-first : (w : List ℕ) (n : List Float) (i : ℕ) → i < jointCount plane w n
     → firstAt (storeFirsts plane 0 (jointCount plane w n) w) i ≡ rowsBefore plane (storeFirsts plane 0 (jointCount plane w n) w) i
 stored-first w n i l =
-    first-rows (jointCount plane w n) 0 w i (omega (arith, joints-words w n)) (omega arith) (omega (arith, l)) ∙ sym (rows-kept planar-laws (firsts-same planar-laws (jointCount plane w n) 0 w) i)
+    first-rows (jointCount plane w n) 0 w i (omega (arith, joints-words plane w n)) (omega arith) (omega (arith, l)) ∙ sym (rows-kept planar-laws (firsts-same planar-laws (jointCount plane w n) 0 w) i)
 
 -- so it is after a granted load
 pub loaded-first : (m : Model) (rows : List Float) (i : ℕ) → i < jointCount plane (m .words) (m .numbers)
@@ -86,7 +86,7 @@ module _ (j n : ℕ) (w : List ℕ) where
 -- where the rows of the next joint begin, after a store
 pub first-next : (w : List ℕ) (j first count : ℕ) → first ≡ rowsBefore plane w j → count ≡ rowCount plane (putFirst w j first) j → first + count ≡ rowsBefore plane (putFirst w j first) (j + 1)
 first-next w j first count e c =
-    rw c (ap (λ k. k + rowCount plane (putFirst w j first) j) (e ∙ sym (first-rows-kept planar-laws w j first j)) ∙ sym (rowsBefore-next (putFirst w j first) j))
+    rw c (ap (λ k. k + rowCount plane (putFirst w j first) j) (e ∙ sym (first-rows-kept planar-laws w j first j)) ∙ sym (rowsBefore-next plane (putFirst w j first) j))
 
 pub first-small : (w : List ℕ) (j n first : ℕ) → first ≡ rowsBefore plane w j → j < n → n ≤ mostJoints → first ≤ 768
-first-small w j n first e l few = omega (arith, e, l, few, rowsBefore-le w j)
+first-small w j n first e l few = omega (arith, e, l, few, rowsBefore-le planar-laws w j)

@@ -46,7 +46,7 @@ use Rattle.model.specs.Refusals.{masksFit, newMasksFit, finiteFrom, noNa
 use Rattle.model.specs.Planar.{plane, planar}
 use Rattle.model.specs.Studies.{planarCalls}
 use Rattle.model.specs.SweepMomentum.{StepInRange, Binary32Bodies, SweepBound, PowerOfTwo}
-use Rattle.model.proofs.Tests.{by-cases}
+use Rattle.multibody.proofs.Tests.{by-cases}
 use Rattle.multibody.proofs.CallLaws.{run-granted}
 use Rattle.model.proofs.SweepDrift.{study-drift}
 

@@ -36,7 +36,7 @@ use Rattle.model.specs.Store.{world, worldPose, poseOf, rowAt, velAt, pu
 use Rattle.model.specs.Planar.{plane, planar}
 use Rattle.model.specs.Studies.{planarCalls}
 use Rattle.model.specs.SweepMomentum.{StepInRange, StepMeets, stepSpacing, SweepDrift, PowerOfTwo, BuiltDrift, StudyDrift}
-use Rattle.model.proofs.Strided.{num-beside}
+use Rattle.multibody.proofs.Strided.{num-beside}
 use Rattle.model.proofs.StoreLaws.{solverPoseAt-world}
 use Rattle.model.proofs.PlanarLaws.{planar-laws}
 

@@ -1,27 +1,9 @@
--- Records of w numbers each, one after the other in a flat list.
-use Prim.Native.Nat.{ℕ, suc, _+_, _*_}
-use mathlib.Core.List.{List, [], _∷_}
-use lib.ListN.{getD, set}
-use lib.Ieee.{Float, nan}
+-- Records of w numbers each, one after the other in a flat list, are multibody's. Here: six numbers at a time.
+use Prim.Native.Nat.{ℕ, _+_}
+use lib.Ieee.{Float}
+pub use Rattle.multibody.specs.Records.{numFrom, num, word, puts}
 use Rattle.model.specs.declared.store.Six.{Six}
-
--- number j of the record that starts at place o
-abbrev pub numFrom : List Float → ℕ → ℕ → Float
-numFrom s o j = getD s (o + j) nan
-
--- number j of record k
-abbrev pub num : ℕ → List Float → ℕ → ℕ → Float
-num w s k j = numFrom s (k * w) j
 
 -- of a record whose number c is f c, the six from number j on
 abbrev pub sixOf : (ℕ → Float) → ℕ → Six
 sixOf f j = record { n0 = f j; n1 = f (j + 1); n2 = f (j + 2); n3 = f (j + 3); n4 = f (j + 4); n5 = f (j + 5) }
-
--- word j of record k
-abbrev pub word : ℕ → List ℕ → ℕ → ℕ → ℕ
-word w s k j = getD s (k * w + j) 0
-
--- the list with vs stored from number j on of the record that starts at place o
-abbrev pub puts : List Float → ℕ → ℕ → List Float → List Float
-puts s o j [] = s
-puts s o j (v ∷ vs) = puts (set s (o + j) v) o (suc j) vs

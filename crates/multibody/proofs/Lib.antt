@@ -1,4 +1,5 @@
 pub mod Tests
+pub mod Strided
 pub mod RuleLaws
 pub mod Laws
 pub mod JointLocality
@@ -6,6 +7,7 @@ pub mod TraceLaws
 pub mod CountLaws
 pub mod StoredRows
 pub mod JointRowsLaws
+pub mod AllJointsLaws
 pub mod MotorCounts
 pub mod SameStudies
 pub mod CallTable
@@ -17,6 +19,7 @@ pub mod Rewording
 pub mod CallLaws
 pub mod RefusedExactly
 pub mod Keeps
+pub mod PastTotal
 pub mod Agrees
 pub mod WriteBackLocality
 pub mod SameRefusals

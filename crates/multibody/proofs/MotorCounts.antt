@@ -20,12 +20,7 @@ use Rattle.multibody.specs.System.{System}
 use Rattle.multibody.specs.JointRows.{State, rowMasksAt, jointIds, rowCount, motorCount, sweepRow, sweepJoint, sweepSide, atBound, motorAtBound, countIds, countRow, countRows}
 use Rattle.multibody.specs.Counts.{rowsBefore}
 use Rattle.multibody.specs.Calls.{eachJoint, rounds, sweepOne, sweepRound, countOne, countRound, sweepCounts, Counted, counted, countedOne, countedRound}
-
-less : (n i : ℕ) → i < n → n - i ≡ suc (n - (i + 1))
-less n i h = omega arith
-
-none : (n i : ℕ) → n ≤ i → n - i ≡ 0
-none n i h = omega arith
+use Rattle.multibody.proofs.JointRowsLaws.{less, none}
 
 all-zero : (n m : ℕ) → n ≤ m → replicate {A = ℕ} m 0 ≡ filled m 0 (replicate n 0)
 all-zero zero zero h = refl

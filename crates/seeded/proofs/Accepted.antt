@@ -25,10 +25,12 @@ use Rattle.model.specs.Records.{word}
 use Rattle.model.specs.Store.{world, body1At, body2At, centerAt}
 use Rattle.model.specs.Refusals.{masksFit, finiteFrom, noNanFrom, finiteBody, finiteMotor, finiteCenter, finiteJoint, angleFits, centerFits}
 use Rattle.model.specs.Planar.{plane, planar}
-use Rattle.model.proofs.Tests.{by-cases}
-use Rattle.model.proofs.RefusalLaws.{RulesHold, all-intro, no-rules, rule-holds, rules-rest, granted-append, first-numbered}
-use Rattle.model.proofs.CountLaws.{rowsBefore-le}
-use Rattle.model.proofs.CallLaws.{run-granted}
+use Rattle.multibody.proofs.Tests.{by-cases}
+use Rattle.multibody.proofs.RefusalLaws.{RulesHold, rules-rest, first-numbered}
+use Rattle.multibody.proofs.RuleLaws.{all-intro, no-rules, rule-holds, granted-append}
+use Rattle.multibody.proofs.CountLaws.{rowsBefore-le}
+use Rattle.multibody.proofs.CallLaws.{run-granted}
+use Rattle.model.proofs.PlanarLaws.{planar-laws}
 use Rattle.seeded.specs.Draws.{draw}
 use Rattle.seeded.specs.Seeded.{tabulate, bodiesOf, jointsOf, maskOf, firstOf, secondOf, further, bodyNumber, jointNumber, jointWord, bodyPlace, wordPlace, numberPlace, seededModel}
 use Rattle.seeded.proofs.PlaceLaws.{few-bodies, few-joints}
@@ -195,18 +197,18 @@ module _ (seed : ℕ) where
     unfolding centerFits centerAt angleFits
     angle = rw choice
 
-  held : RulesHold m
+  held : RulesHold planar-laws m
   unfolding finiteParams isFinite lt ofBits finiteBody finiteFrom
   held = record {
     bodies = rw body-count (rw (le-ltb mostBodies (bodiesOf seed) (omega (arith, bodies-range .1))));
     joints = rw joint-count (rw (le-ltb mostJoints (jointsOf seed) (omega (arith, joints-range))));
-    masks = rw joint-count (all-intro _ 0 (jointsOf seed) (λ j _ l. masks-fit j (omega (arith, l))));
+    masks = (rw joint-count (all-intro _ 0 (jointsOf seed) (λ j _ l. masks-fit j (omega (arith, l)))), tt);
     present = rw joint-count (all-intro _ 0 (jointsOf seed) (λ j _ l. present j (omega (arith, l))));
     apart = rw joint-count (all-intro _ 0 (jointsOf seed) (λ j _ l. differ j (omega (arith, l))));
     finite-params = rw (further-finite 0, further-finite 1);
     finite-bodies = rw body-count (all-intro _ 0 (bodiesOf seed) (λ i _ l. all-intro _ (i * bodyWidth) velocityPlace (λ p _ g. body-place p (omega (arith, l, g)))));
     finite-joints = rw joint-count (all-intro _ 0 (jointsOf seed) (λ j _ l. finite j (omega (arith, l))));
-    angles = rw joint-count (all-intro _ 0 (jointsOf seed) (λ j _ l. angle j (omega (arith, l))));
+    contents = (rw joint-count (all-intro _ 0 (jointsOf seed) (λ j _ l. angle j (omega (arith, l)))), tt);
     dt = refl;
   }
 
@@ -214,10 +216,10 @@ module _ (seed : ℕ) where
   unfolding rulesOf storageRule
   accepted rows room =
       let total : totalRows plane (m .words) (m .numbers) ≤ rowCapacity plane rows =
-      omega (arith, room, rowsBefore-le (m .words) (jointCount plane (m .words) (m .numbers)), joint-count, joints-range) in
+      omega (arith, room, rowsBefore-le planar-laws (m .words) (jointCount plane (m .words) (m .numbers)), joint-count, joints-range) in
       let front : refusal (firstRules planar load m rows) ≡ 0 =
-      rules-rest m true held refl (storageRule plane m rows ∷ []) ∙ rule-holds (storageRule plane m rows) [] (rw (le-ltb (rowCapacity plane rows) (totalRows plane (m .words) (m .numbers)) total)) ∙ no-rules in
-      sym (run-granted load m rows (granted-append (firstRules planar load m rows) (ownRules planar load m) (first-numbered m load rows) front ∙ no-rules))
+      rules-rest planar-laws m true held refl (storageRule plane m rows ∷ []) ∙ rule-holds (storageRule plane m rows) [] (rw (le-ltb (rowCapacity plane rows) (totalRows plane (m .words) (m .numbers)) total)) ∙ no-rules in
+      sym (run-granted load m rows (granted-append (firstRules planar load m rows) (ownRules planar load m) (first-numbered planar-laws m load rows) front ∙ no-rules))
 
   -- and so its answer is that it is granted
   pub accepted-answer : (rows : List Float) → 48 ≤ rowCapacity plane rows → run planar load m rows .answer ≡ granted

@@ -6,7 +6,7 @@ use native.Mathlib.Omega.{arith}
 use lib.Ieee.{Float, neg, div, ofInt, ofBits, round, units, odd}
 use Rattle.floats.specs.Scalar.{isFinite}
 use Rattle.multibody.specs.Rules.{all}
-use Rattle.model.proofs.RefusalLaws.{all-below}
+use Rattle.multibody.proofs.RuleLaws.{all-below}
 use Rattle.seeded.specs.Draws.{eighths, numberOf}
 
 all-eighths : all 0 2001 (λ k. isFinite (eighths k)) ≡ true

@@ -2,7 +2,8 @@
 use mathlib.Core.Path.{sym, ap, _∙_}
 use borrow.Author.Tests.{not-true, not-false}
 use Rattle.multibody.proofs.RuleLaws.{holds, fails}
-use Rattle.model.proofs.CallLaws.{call-sound, call-few-joints, call-room}
+use Rattle.multibody.proofs.CallLaws.{call-sound, call-few-joints, call-room}
+use Rattle.model.proofs.PlanarLaws.{planar-laws}
 use Rattle.frames.specs.Frames.{Progress}
 use Rattle.frames.proofs.FrameLaws.{refused-front, refused-rounds, refused-none, refused-many, refused-step, refused-pose, frame-grants, start-steps, granted-frame, refused-promises, granted-promises}
 use borrow.Author.Needs.{needs}
@@ -123,7 +124,7 @@ substeps-or-back-requires c κs =
     let e4 = c .before .before .before .before .before .before .before .before in
     let e1 = e4 .before .before .before in
     let e = e1 .before .front-refusal .ensures in
-    (call-sound _ _ _ e (e1 .if1 .left) .few, (call-few-joints _ _ _ e (e1 .if1 .left), (call-room _ _ _ e (e1 .if1 .left), e4 .if4 .left)))
+    (call-sound planar-laws _ _ _ e (e1 .if1 .left) .few, (call-few-joints planar-laws _ _ _ e (e1 .if1 .left), (call-room planar-laws _ _ _ e (e1 .if1 .left), e4 .if4 .left)))
 
 no-frame-requires-6 : tie.Need-no-frame-requires-6
 no-frame-requires-6 c κs = search needs

@@ -7,7 +7,8 @@ use Rattle.rows.specs.RowIds.{filled}
 use Rattle.rows.specs.Update.{blankRow}
 use Rattle.multibody.specs.Calls.{rowsFrom}
 use Rattle.model.specs.Planar.{plane}
-use Rattle.model.proofs.AllJointsLaws.{row-turn, no-rows, rows-array}
+use Rattle.multibody.proofs.AllJointsLaws.{row-turn, no-rows}
+use Rattle.model.proofs.JointRowsLaws.{rows-array}
 use borrow.Author.Needs.{needs}
 use Rattle.model.proofs.all_joints.rows_from.Statement.{statement}
 use Rattle.model.proofs.all_joints.rows_from.Tie as tie
@@ -22,7 +23,7 @@ blank-row-requires : tie.Need-blank-row-requires Inv-loop μ-loop
 blank-row-requires c κs = search needs
 
 loop-holds : tie.Need-loop-holds Inv-loop μ-loop
-loop-holds c = (search needs, refl, rw (no-rows, c .blank-row .ensures))
+loop-holds c = (search needs, refl, rw (no-rows plane, c .blank-row .ensures))
 
 add-row-at : tie.Need-add-row-at Inv-loop μ-loop
 add-row-at c = search needs
@@ -46,7 +47,7 @@ loop-again : tie.Need-loop-again Inv-loop μ-loop
 loop-again c =
     let lp = c .before .before in
     let st = lp .before .before .before in
-    (search needs, rw length-set (lp .loop .inv .1), row-turn _ (st .args .k) (lp .loop .i) (omega arith) (lp .loop .inv .2) (c .row-at .ensures))
+    (search needs, rw length-set (lp .loop .inv .1), row-turn plane blankRow 6 _ (st .args .k) (lp .loop .i) (omega arith) (lp .loop .inv .2) (c .row-at .ensures))
 
 returns : tie.Need-returns Inv-loop μ-loop
 returns c =

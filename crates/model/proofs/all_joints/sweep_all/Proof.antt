@@ -7,7 +7,7 @@ use Rattle.multibody.specs.JointRows.{state}
 use Rattle.multibody.specs.Counts.{jointCount}
 use Rattle.multibody.specs.Calls.{rounds, counted, countedRound}
 use Rattle.model.specs.Planar.{plane}
-use Rattle.model.proofs.AllJointsLaws.{next-round, no-round, still-sound, still-room}
+use Rattle.multibody.proofs.AllJointsLaws.{next-round, no-round, still-sound, still-room}
 use borrow.Author.Needs.{needs}
 use Rattle.model.proofs.all_joints.sweep_all.Statement.{statement}
 use Rattle.model.proofs.all_joints.sweep_all.Tie as tie
@@ -28,7 +28,7 @@ sweep-round-requires : tie.Need-sweep-round-requires Inv-loop μ-loop
 sweep-round-requires c κs =
     let lp = c .before .before .before .before in
     let st = lp .before .before .before .before .before .before in
-    (still-sound _ _ (lp .loop .inv .1) (st .pre .0), (still-room _ _ (lp .loop .inv .2) (st .pre .1 .0), rw (lp .loop .inv .3) (st .pre .1 .1)))
+    (still-sound plane _ _ (lp .loop .inv .1) (st .pre .0), (still-room plane _ _ (lp .loop .inv .2) (st .pre .1 .0), rw (lp .loop .inv .3) (st .pre .1 .1)))
 
 add-round : tie.Need-add-round Inv-loop μ-loop
 add-round c = search needs

@@ -6,17 +6,18 @@ use lib.ListN.{length, length-set}
 use Rattle.multibody.specs.JointRows.{state}
 use Rattle.multibody.specs.Calls.{counted, countedOne, countedRound}
 use Rattle.model.specs.Planar.{plane, planar}
-use Rattle.model.proofs.JointRowsLaws.{few-rows}
+use Rattle.multibody.proofs.JointRowsLaws.{few-rows}
 use Rattle.multibody.proofs.MotorCounts.{counted-turn}
-use Rattle.model.proofs.CountLaws.{joint-words}
-use Rattle.model.proofs.AllJointsLaws.{Turn, first-turn, next-turn, no-turn, rows-within}
+use Rattle.multibody.proofs.CountLaws.{joint-words}
+use Rattle.multibody.proofs.AllJointsLaws.{Turn, first-turn, next-turn, no-turn, rows-within}
+use Rattle.model.proofs.PlanarLaws.{planar-laws}
 use borrow.Author.Needs.{needs}
 use Rattle.model.proofs.all_joints.sweep_round.Statement.{statement}
 use Rattle.model.proofs.all_joints.sweep_round.Tie as tie
 
 abbrev Inv-loop : tie.InvT-loop
 Inv-loop bodies₀ words numbers rows₀ counts₀ n j₀ first₀ bodies rows counts j first =
-    Turn (countedOne plane words) words n (counted (state rows₀ bodies₀) counts₀) j first (counted (state rows bodies) counts)
+    Turn plane (countedOne plane words) words n (counted (state rows₀ bodies₀) counts₀) j first (counted (state rows bodies) counts)
     × (length rows ≡ length rows₀) × (length bodies ≡ length bodies₀) × (length counts ≡ length counts₀)
 
 abbrev μ-loop : tie.MeasureT-loop
@@ -26,19 +27,19 @@ joint-count-requires : tie.Need-joint-count-requires Inv-loop μ-loop
 joint-count-requires c κs = search needs
 
 loop-holds : tie.Need-loop-holds Inv-loop μ-loop
-loop-holds c = (first-turn _ _ _ _, refl, refl, refl)
+loop-holds c = (first-turn plane _ _ _ _, refl, refl, refl)
 
 count-at-requires : tie.Need-count-at-requires Inv-loop μ-loop
-count-at-requires c κs = joint-words _ _ _ (rw (c .before .before .joint-count .ensures) at (c .loop-test .taken))
+count-at-requires c κs = joint-words plane _ _ _ (rw (c .before .before .joint-count .ensures) at (c .loop-test .taken))
 
 body1-at-requires : tie.Need-body1-at-requires Inv-loop μ-loop
-body1-at-requires c κs = joint-words _ _ _ (rw (c .before .before .before .joint-count .ensures) at (c .before .loop-test .taken))
+body1-at-requires c κs = joint-words plane _ _ _ (rw (c .before .before .before .joint-count .ensures) at (c .before .loop-test .taken))
 
 body2-at-requires : tie.Need-body2-at-requires Inv-loop μ-loop
-body2-at-requires c κs = joint-words _ _ _ (rw (c .before .before .before .before .joint-count .ensures) at (c .before .before .loop-test .taken))
+body2-at-requires c κs = joint-words plane _ _ _ (rw (c .before .before .before .before .joint-count .ensures) at (c .before .before .loop-test .taken))
 
 motors-at-requires : tie.Need-motors-at-requires Inv-loop μ-loop
-motors-at-requires c κs = joint-words _ _ _ (rw (c .before .before .before .before .before .joint-count .ensures) at (c .before .before .before .loop-test .taken))
+motors-at-requires c κs = joint-words plane _ _ _ (rw (c .before .before .before .before .before .joint-count .ensures) at (c .before .before .before .loop-test .taken))
 
 sweep-joint-requires : tie.Need-sweep-joint-requires Inv-loop μ-loop
 sweep-joint-requires c κs =
@@ -51,8 +52,8 @@ sweep-joint-requires c κs =
     let st = jc .before .before .before .before .before .before in
     let n = jc .joint-count .ensures in
     let h = rw n at (lt .loop-test .taken) in
-    let room = rows-within _ _ _ (st .pre .1 .0) n (lt .loop-test .taken) (lp .loop .inv .0 .begins) (ca .count-at .ensures) in (
-      few-rows _ _ (ca .count-at .ensures),
+    let room = rows-within plane _ _ _ (st .pre .1 .0) n (lt .loop-test .taken) (lp .loop .inv .0 .begins) (ca .count-at .ensures) in (
+      few-rows planar-laws _ _ (ca .count-at .ensures),
       (
         omega (arith, lp .loop .inv .1, room),
         (
@@ -81,7 +82,7 @@ add-first c =
     let lp = lt .before in
     let jc = lp .before in
     let st = jc .before .before .before .before .before .before in
-    omega (arith, st .good .1 .1 .1 .1 .0, rows-within _ _ _ (st .pre .1 .0) (jc .joint-count .ensures) (lt .loop-test .taken) (lp .loop .inv .0 .begins) (ca .count-at .ensures))
+    omega (arith, st .good .1 .1 .1 .1 .0, rows-within plane _ _ _ (st .pre .1 .0) (jc .joint-count .ensures) (lt .loop-test .taken) (lp .loop .inv .0 .begins) (ca .count-at .ensures))
 
 add-j : tie.Need-add-j Inv-loop μ-loop
 add-j c = search needs
@@ -98,7 +99,7 @@ loop-again c =
     let ca = b1 .before in
     let lp = ca .before .before in
     let t = lp .loop .inv .0 in (
-      next-turn _ _ _ t (ca .before .loop-test .taken) (ca .count-at .ensures)
+      next-turn plane _ _ _ t (ca .before .loop-test .taken) (ca .count-at .ensures)
           (counted-turn plane _ (lp .loop .j) _ _ (t .begins) (ca .count-at .ensures) (ma .motors-at .ensures) (b1 .body1-at .ensures) (b2 .body2-at .ensures) (sj .sweep-joint .ensures .0)
           (sj .sweep-joint .ensures .1)),
       sj .sweep-joint .kept .0 ∙ lp .loop .inv .1,
@@ -117,7 +118,7 @@ same-length-3 c = search needs
 
 returns : tie.Need-returns Inv-loop μ-loop
 unfolding countedRound
-returns c = rw (← c .before .before .joint-count .ensures) (no-turn _ _ _ (c .before .loop .inv .0) (c .loop-test .left))
+returns c = rw (← c .before .before .joint-count .ensures) (no-turn plane _ _ _ (c .before .loop .inv .0) (c .loop-test .left))
 
 pub sweep-round-spec : {M : Type 1} → statement M
 sweep-round-spec =

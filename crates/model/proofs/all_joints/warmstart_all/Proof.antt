@@ -5,14 +5,14 @@ use native.Mathlib.Omega.{arith}
 use lib.ListN.{length}
 use Rattle.multibody.specs.Calls.{warmstartOne}
 use Rattle.model.specs.Planar.{plane}
-use Rattle.model.proofs.CountLaws.{joint-words}
-use Rattle.model.proofs.AllJointsLaws.{Turn, first-turn, next-turn, no-turn, rows-within}
+use Rattle.multibody.proofs.CountLaws.{joint-words}
+use Rattle.multibody.proofs.AllJointsLaws.{Turn, first-turn, next-turn, no-turn, rows-within}
 use borrow.Author.Needs.{needs}
 use Rattle.model.proofs.all_joints.warmstart_all.Statement.{statement}
 use Rattle.model.proofs.all_joints.warmstart_all.Tie as tie
 
 abbrev Inv-loop : tie.InvT-loop
-Inv-loop bodies₀ words numbers rows n j₀ first₀ bodies j first = Turn (warmstartOne plane words rows) words n bodies₀ j first bodies × (length bodies ≡ length bodies₀)
+Inv-loop bodies₀ words numbers rows n j₀ first₀ bodies j first = Turn plane (warmstartOne plane words rows) words n bodies₀ j first bodies × (length bodies ≡ length bodies₀)
 
 abbrev μ-loop : tie.MeasureT-loop
 μ-loop bodies₀ words numbers rows n j₀ first₀ bodies j first = n - j
@@ -21,16 +21,16 @@ joint-count-requires : tie.Need-joint-count-requires Inv-loop μ-loop
 joint-count-requires c κs = search needs
 
 loop-holds : tie.Need-loop-holds Inv-loop μ-loop
-loop-holds c = (first-turn _ _ _ _, refl)
+loop-holds c = (first-turn plane _ _ _ _, refl)
 
 count-at-requires : tie.Need-count-at-requires Inv-loop μ-loop
-count-at-requires c κs = joint-words _ _ _ (rw (c .before .before .joint-count .ensures) at (c .loop-test .taken))
+count-at-requires c κs = joint-words plane _ _ _ (rw (c .before .before .joint-count .ensures) at (c .loop-test .taken))
 
 body1-at-requires : tie.Need-body1-at-requires Inv-loop μ-loop
-body1-at-requires c κs = joint-words _ _ _ (rw (c .before .before .before .joint-count .ensures) at (c .before .loop-test .taken))
+body1-at-requires c κs = joint-words plane _ _ _ (rw (c .before .before .before .joint-count .ensures) at (c .before .loop-test .taken))
 
 body2-at-requires : tie.Need-body2-at-requires Inv-loop μ-loop
-body2-at-requires c κs = joint-words _ _ _ (rw (c .before .before .before .before .joint-count .ensures) at (c .before .before .loop-test .taken))
+body2-at-requires c κs = joint-words plane _ _ _ (rw (c .before .before .before .before .joint-count .ensures) at (c .before .before .loop-test .taken))
 
 warmstart-joint-requires : tie.Need-warmstart-joint-requires Inv-loop μ-loop
 warmstart-joint-requires c κs =
@@ -43,7 +43,7 @@ warmstart-joint-requires c κs =
     let st = jc .before .before .before .before .before in
     let n = jc .joint-count .ensures in
     let h = rw n at (lt .loop-test .taken) in (
-      rows-within _ _ _ (st .pre .1) n (lt .loop-test .taken) (lp .loop .inv .0 .begins) (ca .count-at .ensures),
+      rows-within plane _ _ _ (st .pre .1) n (lt .loop-test .taken) (lp .loop .inv .0 .begins) (ca .count-at .ensures),
       (
         rw (lp .loop .inv .1, b1 .body1-at .ensures) (st .pre .0 .present1 _ h),
         rw (lp .loop .inv .1, b2 .body2-at .ensures) (st .pre .0 .present2 _ h),
@@ -57,7 +57,7 @@ add-first c =
     let lp = lt .before in
     let jc = lp .before in
     let st = jc .before .before .before .before .before in
-    omega (arith, st .good .1 .1 .1 .1 .0, rows-within _ _ _ (st .pre .1) (jc .joint-count .ensures) (lt .loop-test .taken) (lp .loop .inv .0 .begins) (ca .count-at .ensures))
+    omega (arith, st .good .1 .1 .1 .1 .0, rows-within plane _ _ _ (st .pre .1) (jc .joint-count .ensures) (lt .loop-test .taken) (lp .loop .inv .0 .begins) (ca .count-at .ensures))
 
 add-j : tie.Need-add-j Inv-loop μ-loop
 add-j c = search needs
@@ -74,7 +74,7 @@ loop-again c =
     let ca = b1 .before in
     let lp = ca .before .before in
     let t = lp .loop .inv .0 in (
-      next-turn _ _ _ t (ca .before .loop-test .taken) (ca .count-at .ensures)
+      next-turn plane _ _ _ t (ca .before .loop-test .taken) (ca .count-at .ensures)
           (ws .warmstart-joint .ensures ∙ rw (t .begins, ca .count-at .ensures, b1 .body1-at .ensures, b2 .body2-at .ensures)),
       ws .warmstart-joint .kept .1 .1 .1 .0 ∙ lp .loop .inv .1,
     )
@@ -83,7 +83,7 @@ same-length : tie.Need-same-length Inv-loop μ-loop
 same-length c = search needs
 
 returns : tie.Need-returns Inv-loop μ-loop
-returns c = rw (← c .before .before .joint-count .ensures) (no-turn _ _ _ (c .before .loop .inv .0) (c .loop-test .left))
+returns c = rw (← c .before .before .joint-count .ensures) (no-turn plane _ _ _ (c .before .loop .inv .0) (c .loop-test .left))
 
 pub warmstart-all-spec : {M : Type 1} → statement M
 warmstart-all-spec =

@@ -5,14 +5,14 @@ use native.Mathlib.Omega.{arith}
 use lib.ListN.{length}
 use Rattle.multibody.specs.Calls.{writeBackOne}
 use Rattle.model.specs.Planar.{plane}
-use Rattle.model.proofs.CountLaws.{joint-words, joint-numbers}
-use Rattle.model.proofs.AllJointsLaws.{Turn, first-turn, next-turn, no-turn, rows-within}
+use Rattle.multibody.proofs.CountLaws.{joint-words, joint-numbers}
+use Rattle.multibody.proofs.AllJointsLaws.{Turn, first-turn, next-turn, no-turn, rows-within}
 use borrow.Author.Needs.{needs}
 use Rattle.model.proofs.all_joints.write_back_all.Statement.{statement}
 use Rattle.model.proofs.all_joints.write_back_all.Tie as tie
 
 abbrev Inv-loop : tie.InvT-loop
-Inv-loop bodies words numbers₀ rows n j₀ first₀ numbers j first = Turn (writeBackOne plane rows words) words n numbers₀ j first numbers × (length numbers ≡ length numbers₀)
+Inv-loop bodies words numbers₀ rows n j₀ first₀ numbers j first = Turn plane (writeBackOne plane rows words) words n numbers₀ j first numbers × (length numbers ≡ length numbers₀)
 
 abbrev μ-loop : tie.MeasureT-loop
 μ-loop bodies words numbers₀ rows n j₀ first₀ numbers j first = n - j
@@ -21,7 +21,7 @@ joint-count-requires : tie.Need-joint-count-requires Inv-loop μ-loop
 joint-count-requires c κs = search needs
 
 loop-holds : tie.Need-loop-holds Inv-loop μ-loop
-loop-holds c = (first-turn _ _ _ _, refl)
+loop-holds c = (first-turn plane _ _ _ _, refl)
 
 write-back-joint-requires : tie.Need-write-back-joint-requires Inv-loop μ-loop
 write-back-joint-requires c κs =
@@ -31,17 +31,17 @@ write-back-joint-requires c κs =
     let st = jc .before .before .before .before .before .before in
     let n = jc .joint-count .ensures in
     let h = rw n at (lt .loop-test .taken) in (
-      joint-words _ _ _ h,
+      joint-words plane _ _ _ h,
       (
-        omega (arith, lp .loop .inv .1, joint-numbers _ _ _ h),
-        rows-within _ _ _ (st .pre) n (lt .loop-test .taken) (lp .loop .inv .0 .begins) refl,
+        omega (arith, lp .loop .inv .1, joint-numbers plane _ _ _ h),
+        rows-within plane _ _ _ (st .pre) n (lt .loop-test .taken) (lp .loop .inv .0 .begins) refl,
       ),
     )
 
 count-at-requires : tie.Need-count-at-requires Inv-loop μ-loop
 count-at-requires c κs =
     let lt = c .before .before .before .before in
-    joint-words _ _ _ (rw (lt .before .before .joint-count .ensures) at (lt .loop-test .taken))
+    joint-words plane _ _ _ (rw (lt .before .before .joint-count .ensures) at (lt .loop-test .taken))
 
 add-first : tie.Need-add-first Inv-loop μ-loop
 add-first c =
@@ -49,7 +49,7 @@ add-first c =
     let lp = lt .before in
     let jc = lp .before in
     let st = jc .before .before .before .before .before .before in
-    omega (arith, st .good .1 .1 .1 .1 .0, rows-within _ _ _ (st .pre) (jc .joint-count .ensures) (lt .loop-test .taken) (lp .loop .inv .0 .begins) (c .count-at .ensures))
+    omega (arith, st .good .1 .1 .1 .1 .0, rows-within plane _ _ _ (st .pre) (jc .joint-count .ensures) (lt .loop-test .taken) (lp .loop .inv .0 .begins) (c .count-at .ensures))
 
 add-j : tie.Need-add-j Inv-loop μ-loop
 add-j c = search needs
@@ -63,13 +63,13 @@ loop-again c =
     let wb = c .before .before .before in
     let lt = wb .before .before in
     let t = lt .before .loop .inv .0 in
-    (next-turn _ _ _ t (lt .loop-test .taken) (c .count-at .ensures) (wb .write-back-joint .ensures ∙ rw (t .begins)), wb .write-back-joint .kept .1 .1 .1 .1 .0 ∙ lt .before .loop .inv .1)
+    (next-turn plane _ _ _ t (lt .loop-test .taken) (c .count-at .ensures) (wb .write-back-joint .ensures ∙ rw (t .begins)), wb .write-back-joint .kept .1 .1 .1 .1 .0 ∙ lt .before .loop .inv .1)
 
 same-length : tie.Need-same-length Inv-loop μ-loop
 same-length c = search needs
 
 returns : tie.Need-returns Inv-loop μ-loop
-returns c = rw (← c .before .before .joint-count .ensures) (no-turn _ _ _ (c .before .loop .inv .0) (c .loop-test .left))
+returns c = rw (← c .before .before .joint-count .ensures) (no-turn plane _ _ _ (c .before .loop .inv .0) (c .loop-test .left))
 
 pub write-back-all-spec : {M : Type 1} → statement M
 write-back-all-spec =

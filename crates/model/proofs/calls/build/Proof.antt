@@ -4,8 +4,9 @@ use mathlib.Core.Logic.{inl, inr, ⊎-elim}
 use native.Mathlib.Omega.{arith}
 use Rattle.multibody.specs.Calls.{grantedOf}
 use Rattle.model.specs.Planar.{planar}
-use Rattle.model.proofs.RefusalLaws.{no-rules}
-use Rattle.model.proofs.CallLaws.{refused-early, refused-late, granted-late, no-seeds, seeds, call-sound, call-room}
+use Rattle.multibody.proofs.RuleLaws.{no-rules}
+use Rattle.multibody.proofs.CallLaws.{refused-early, refused-late, granted-late, no-seeds, seeds, call-sound, call-room}
+use Rattle.model.proofs.PlanarLaws.{planar-laws}
 use borrow.Author.Needs.{needs}
 use borrow.Author.Tests.{not-true, not-false}
 use Rattle.model.proofs.calls.build.Statement.{statement}
@@ -23,7 +24,7 @@ same-length c = search needs
 returns : tie.Need-returns
 returns c =
     let sr = c .before in
-    refused-early _ _ _ (rw (sr .before .before .finite-warm .ensures) at (sr .storage-refusal .ensures)) (c .if1 .taken)
+    refused-early planar-laws _ _ _ (rw (sr .before .before .finite-warm .ensures) at (sr .storage-refusal .ensures)) (c .if1 .taken)
 
 reads-rows-requires : tie.Need-reads-rows-requires
 reads-rows-requires c κs = search needs
@@ -37,14 +38,14 @@ returns-2 c =
     let t2 = rr .before in
     let e1 = t2 .before .before in
     let sr = e1 .before in
-    refused-late _ _ _ (rw (sr .before .before .finite-warm .ensures) at (sr .storage-refusal .ensures)) (e1 .if1 .left)
+    refused-late planar-laws _ _ _ (rw (sr .before .before .finite-warm .ensures) at (sr .storage-refusal .ensures)) (e1 .if1 .left)
     (no-seeds _ _ _ _ (not-true _ (t2 .if2 .taken)) (sym (rr .reads-rows .ensures) ∙ c .if3 .taken)) (omega arith)
 
 build-all-requires : tie.Need-build-all-requires
 build-all-requires c κs =
     let e1 = c .before .before .before in
     let e = e1 .before .storage-refusal .ensures in
-    (call-sound _ _ _ e (e1 .if1 .left), call-room _ _ _ e (e1 .if1 .left))
+    (call-sound planar-laws _ _ _ e (e1 .if1 .left), call-room planar-laws _ _ _ e (e1 .if1 .left))
 
 same-length-3 : tie.Need-same-length-3
 same-length-3 c = search needs
@@ -58,7 +59,7 @@ returns-3 c =
     let sr = e1 .before in
     let made = ba .build-all .ensures in
     rw (made .0, made .1)
-    (granted-late _ _ _ (rw (sr .before .before .finite-warm .ensures) at (sr .storage-refusal .ensures)) (e1 .if1 .left)
+    (granted-late planar-laws _ _ _ (rw (sr .before .before .finite-warm .ensures) at (sr .storage-refusal .ensures)) (e1 .if1 .left)
     (seeds _ _ _ _ (⊎-elim (λ w. inr (sym (w .1 .ensures) ∙ w .2 .left)) (λ w. inl (not-false _ (w .left))) (j2 .if2 .came)) ∙ no-rules))
 
 pub build-spec : {M : Type 1} → statement M

@@ -2,10 +2,11 @@
 use mathlib.Core.Path.{_∙_}
 use native.Mathlib.Omega.{arith}
 use Rattle.multibody.specs.Calls.{grantedOf}
-use Rattle.model.specs.Planar.{planar}
-use Rattle.model.proofs.CountLaws.{body-there}
-use Rattle.model.proofs.RefusalLaws.{no-rules}
-use Rattle.model.proofs.CallLaws.{refused-early, refused-late, granted-late, no-body, some-body}
+use Rattle.model.specs.Planar.{planar, plane}
+use Rattle.multibody.proofs.CountLaws.{body-there}
+use Rattle.multibody.proofs.RuleLaws.{no-rules}
+use Rattle.multibody.proofs.CallLaws.{refused-early, refused-late, granted-late, no-body, some-body}
+use Rattle.model.proofs.PlanarLaws.{planar-laws}
 use borrow.Author.Needs.{needs}
 use Rattle.model.proofs.calls.place.Statement.{statement}
 use Rattle.model.proofs.calls.place.Tie as tie
@@ -22,7 +23,7 @@ same-length c = search needs
 returns : tie.Need-returns
 returns c rows =
     let mr = c .before in
-    refused-early _ _ _ (rw (mr .before .before .finite-pose .ensures) at (mr .model-refusal .ensures)) (c .if1 .taken)
+    refused-early planar-laws _ _ _ (rw (mr .before .before .finite-pose .ensures) at (mr .model-refusal .ensures)) (c .if1 .taken)
 
 body-count-requires : tie.Need-body-count-requires
 body-count-requires c κs = search needs
@@ -35,13 +36,13 @@ returns-2 c rows =
     let bc = c .before in
     let e1 = bc .before .before in
     let mr = e1 .before in
-    refused-late _ _ _ (rw (mr .before .before .finite-pose .ensures) at (mr .model-refusal .ensures)) (e1 .if1 .left)
-    (no-body _ _ _ (bc .body-count .ensures) (c .if2 .taken)) (omega arith)
+    refused-late planar-laws _ _ _ (rw (mr .before .before .finite-pose .ensures) at (mr .model-refusal .ensures)) (e1 .if1 .left)
+    (no-body plane _ _ _ (bc .body-count .ensures) (c .if2 .taken)) (omega arith)
 
 put-pose-requires : tie.Need-put-pose-requires
 put-pose-requires c κs =
     let e2 = c .before in
-    body-there _ _ (rw (e2 .before .body-count .ensures) at (e2 .if2 .left))
+    body-there plane _ _ (rw (e2 .before .body-count .ensures) at (e2 .if2 .left))
 
 same-length-3 : tie.Need-same-length-3
 same-length-3 c = search needs
@@ -55,8 +56,8 @@ returns-3 c rows =
     let e1 = bc .before .before in
     let mr = e1 .before in
     rw (pp .put-pose .ensures)
-    (granted-late _ _ _ (rw (mr .before .before .finite-pose .ensures) at (mr .model-refusal .ensures)) (e1 .if1 .left)
-    (some-body _ _ _ (bc .body-count .ensures) (e2 .if2 .left) ∙ no-rules))
+    (granted-late planar-laws _ _ _ (rw (mr .before .before .finite-pose .ensures) at (mr .model-refusal .ensures)) (e1 .if1 .left)
+    (some-body plane _ _ _ (bc .body-count .ensures) (e2 .if2 .left) ∙ no-rules))
 
 pub place-spec : {M : Type 1} → statement M
 place-spec =

@@ -1,11 +1,14 @@
 -- `read_rows` meets its contract: the answer that the call gives, in the form in which the program gives it.
 use mathlib.Core.Path.{sym, _∙_}
 use native.Mathlib.Omega.{arith}
-use Rattle.model.proofs.JointRowsLaws.{few-rows}
-use Rattle.model.proofs.CountLaws.{joint-words}
-use Rattle.model.proofs.RefusalLaws.{no-rules}
-use Rattle.model.proofs.AllJointsLaws.{rows-within}
-use Rattle.model.proofs.CallLaws.{refused-early, refused-late, granted-late, not-built, is-built, no-joint, some-joint, call-room, rows-refused, rows-granted}
+use Rattle.multibody.proofs.JointRowsLaws.{few-rows}
+use Rattle.multibody.proofs.CountLaws.{joint-words}
+use Rattle.multibody.proofs.RuleLaws.{no-rules}
+use Rattle.multibody.proofs.AllJointsLaws.{rows-within}
+use Rattle.multibody.proofs.CallLaws.{refused-early, refused-late, granted-late, not-built, is-built, no-joint, some-joint, call-room}
+use Rattle.model.proofs.CallLaws.{rows-refused, rows-granted}
+use Rattle.model.specs.Planar.{plane}
+use Rattle.model.proofs.PlanarLaws.{planar-laws}
 use borrow.Author.Needs.{needs}
 use borrow.Author.Tests.{not-true, not-false}
 use Rattle.model.proofs.calls.read_rows.Statement.{statement}
@@ -20,7 +23,7 @@ no-rows-requires c κs = search needs
 returns : tie.Need-returns
 returns c =
     let t1 = c .before in
-    rows-refused _ _ _ (c .no-rows .ensures) (refused-early _ _ _ (t1 .before .storage-refusal .ensures) (t1 .if1 .taken))
+    rows-refused _ _ _ (c .no-rows .ensures) (refused-early planar-laws _ _ _ (t1 .before .storage-refusal .ensures) (t1 .if1 .taken))
 
 no-rows-requires-2 : tie.Need-no-rows-requires-2
 no-rows-requires-2 c κs = search needs
@@ -30,7 +33,7 @@ returns-2 c =
     let t2 = c .before in
     let e1 = t2 .before .before in
     rows-refused _ _ _ (c .no-rows2 .ensures)
-    (refused-late _ _ _ (e1 .before .storage-refusal .ensures) (e1 .if1 .left) (not-built _ _ (not-true _ (t2 .if2 .taken))) (omega arith))
+    (refused-late planar-laws _ _ _ (e1 .before .storage-refusal .ensures) (e1 .if1 .left) (not-built _ _ (not-true _ (t2 .if2 .taken))) (omega arith))
 
 joint-count-requires : tie.Need-joint-count-requires
 joint-count-requires c κs = search needs
@@ -45,21 +48,21 @@ returns-3 c =
     let e2 = jc .before in
     let e1 = e2 .before .before in
     rows-refused _ _ _ (c .no-rows3 .ensures)
-    (refused-late _ _ _ (e1 .before .storage-refusal .ensures) (e1 .if1 .left)
-    (no-joint _ _ _ (jc .joint-count .ensures) (t3 .if3 .taken) ∙ sym (is-built _ _ (not-false _ (e2 .if2 .left)))) (omega arith))
+    (refused-late planar-laws _ _ _ (e1 .before .storage-refusal .ensures) (e1 .if1 .left)
+    (no-joint plane _ _ _ (jc .joint-count .ensures) (t3 .if3 .taken) ∙ sym (is-built _ _ (not-false _ (e2 .if2 .left)))) (omega arith))
 
 ids-at-requires : tie.Need-ids-at-requires
-ids-at-requires c κs = joint-words _ _ _ (rw (c .before .joint-count .ensures) at (c .if3 .left))
+ids-at-requires c κs = joint-words plane _ _ _ (rw (c .before .joint-count .ensures) at (c .if3 .left))
 
 rows-before-requires : tie.Need-rows-before-requires
 rows-before-requires c κs =
     let e3 = c .before in
-    omega (arith, joint-words _ _ _ (rw (e3 .before .joint-count .ensures) at (e3 .if3 .left)))
+    omega (arith, joint-words plane _ _ _ (rw (e3 .before .joint-count .ensures) at (e3 .if3 .left)))
 
 count-at-requires : tie.Need-count-at-requires
 count-at-requires c κs =
     let e3 = c .before .before in
-    joint-words _ _ _ (rw (e3 .before .joint-count .ensures) at (e3 .if3 .left))
+    joint-words plane _ _ _ (rw (e3 .before .joint-count .ensures) at (e3 .if3 .left))
 
 rows-from-requires : tie.Need-rows-from-requires
 rows-from-requires c κs =
@@ -67,8 +70,8 @@ rows-from-requires c κs =
     let e3 = rb .before .before in
     let jc = e3 .before in
     let e1 = jc .before .before .before in
-    let room = call-room _ _ _ (e1 .before .storage-refusal .ensures) (e1 .if1 .left) in
-    (few-rows _ _ (c .count-at .ensures), rows-within _ _ _ room (jc .joint-count .ensures) (e3 .if3 .left) (rb .rows-before .ensures) (c .count-at .ensures))
+    let room = call-room planar-laws _ _ _ (e1 .before .storage-refusal .ensures) (e1 .if1 .left) in
+    (few-rows planar-laws _ _ (c .count-at .ensures), rows-within plane _ _ _ room (jc .joint-count .ensures) (e3 .if3 .left) (rb .rows-before .ensures) (c .count-at .ensures))
 
 returns-4 : tie.Need-returns-4
 returns-4 c =
@@ -80,8 +83,8 @@ returns-4 c =
     let e2 = jc .before in
     let e1 = e2 .before .before in
     rows-granted _ _ _ (ia .ids-at .ensures) (rb .rows-before .ensures) (ca .count-at .ensures) (c .rows-from .ensures)
-    (granted-late _ _ _ (e1 .before .storage-refusal .ensures) (e1 .if1 .left)
-    (is-built _ _ (not-false _ (e2 .if2 .left)) ∙ some-joint _ _ _ (jc .joint-count .ensures) (e3 .if3 .left) ∙ no-rules))
+    (granted-late planar-laws _ _ _ (e1 .before .storage-refusal .ensures) (e1 .if1 .left)
+    (is-built _ _ (not-false _ (e2 .if2 .left)) ∙ some-joint plane _ _ _ (jc .joint-count .ensures) (e3 .if3 .left) ∙ no-rules))
 
 pub read-rows-spec : {M : Type 1} → statement M
 read-rows-spec =

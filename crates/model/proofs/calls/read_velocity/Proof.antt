@@ -2,10 +2,11 @@
 use mathlib.Core.Path.{_∙_}
 use native.Mathlib.Omega.{arith}
 use Rattle.multibody.specs.Calls.{grantedOf}
-use Rattle.model.specs.Planar.{planar}
-use Rattle.model.proofs.CountLaws.{body-there}
-use Rattle.model.proofs.RefusalLaws.{no-rules}
-use Rattle.model.proofs.CallLaws.{refused-early, refused-late, granted-late, no-body, some-body}
+use Rattle.model.specs.Planar.{planar, plane}
+use Rattle.multibody.proofs.CountLaws.{body-there}
+use Rattle.multibody.proofs.RuleLaws.{no-rules}
+use Rattle.multibody.proofs.CallLaws.{refused-early, refused-late, granted-late, no-body, some-body}
+use Rattle.model.proofs.PlanarLaws.{planar-laws}
 use borrow.Author.Needs.{needs}
 use Rattle.model.proofs.calls.read_velocity.Statement.{statement}
 use Rattle.model.proofs.calls.read_velocity.Tie as tie
@@ -14,7 +15,7 @@ model-refusal-requires : tie.Need-model-refusal-requires
 model-refusal-requires c κs = search needs
 
 returns : tie.Need-returns
-returns c rows = refused-early _ _ _ (c .before .model-refusal .ensures) (c .if1 .taken)
+returns c rows = refused-early planar-laws _ _ _ (c .before .model-refusal .ensures) (c .if1 .taken)
 
 body-count-requires : tie.Need-body-count-requires
 body-count-requires c κs = search needs
@@ -23,10 +24,10 @@ returns-2 : tie.Need-returns-2
 returns-2 c rows =
     let bc = c .before in
     let e1 = bc .before in
-    refused-late _ _ _ (e1 .before .model-refusal .ensures) (e1 .if1 .left) (no-body _ _ _ (bc .body-count .ensures) (c .if2 .taken)) (omega arith)
+    refused-late planar-laws _ _ _ (e1 .before .model-refusal .ensures) (e1 .if1 .left) (no-body plane _ _ _ (bc .body-count .ensures) (c .if2 .taken)) (omega arith)
 
 vel-at-requires : tie.Need-vel-at-requires
-vel-at-requires c κs ne = body-there _ _ (rw (c .before .body-count .ensures) at (c .if2 .left))
+vel-at-requires c κs ne = body-there plane _ _ (rw (c .before .body-count .ensures) at (c .if2 .left))
 
 returns-3 : tie.Need-returns-3
 unfolding grantedOf
@@ -35,7 +36,7 @@ returns-3 c rows =
     let bc = e2 .before in
     let e1 = bc .before in
     rw (c .vel-at .ensures)
-    (granted-late _ _ _ (e1 .before .model-refusal .ensures) (e1 .if1 .left) (some-body _ _ _ (bc .body-count .ensures) (e2 .if2 .left) ∙ no-rules))
+    (granted-late planar-laws _ _ _ (e1 .before .model-refusal .ensures) (e1 .if1 .left) (some-body plane _ _ _ (bc .body-count .ensures) (e2 .if2 .left) ∙ no-rules))
 
 pub read-velocity-spec : {M : Type 1} → statement M
 read-velocity-spec =

@@ -2,23 +2,24 @@
 use mathlib.Core.Path.{refl}
 use Rattle.multibody.specs.Calls.{grantedOf}
 use Rattle.model.specs.Planar.{planar}
-use Rattle.model.proofs.CallLaws.{refused-early, refused-unbuilt, granted-built, call-room}
+use Rattle.multibody.proofs.CallLaws.{refused-early, refused-unbuilt, granted-built, call-room}
+use Rattle.model.proofs.PlanarLaws.{planar-laws}
 use borrow.Author.Needs.{needs}
 use Rattle.model.proofs.calls.remove_bias.Statement.{statement}
 use Rattle.model.proofs.calls.remove_bias.Tie as tie
 
 returns : tie.Need-returns
-returns c = refused-early _ _ _ (c .before .storage-refusal .ensures) (c .if1 .taken)
+returns c = refused-early planar-laws _ _ _ (c .before .storage-refusal .ensures) (c .if1 .taken)
 
 returns-2 : tie.Need-returns-2
 returns-2 c =
     let e1 = c .before .before in
-    refused-unbuilt _ _ _ (e1 .before .storage-refusal .ensures) (e1 .if1 .left) refl (c .if2 .taken)
+    refused-unbuilt planar-laws _ _ _ (e1 .before .storage-refusal .ensures) (e1 .if1 .left) refl (c .if2 .taken)
 
 remove-bias-all-requires : tie.Need-remove-bias-all-requires
 remove-bias-all-requires c κs =
     let e1 = c .before .before .before in
-    call-room _ _ _ (e1 .before .storage-refusal .ensures) (e1 .if1 .left)
+    call-room planar-laws _ _ _ (e1 .before .storage-refusal .ensures) (e1 .if1 .left)
 
 returns-3 : tie.Need-returns-3
 unfolding grantedOf
@@ -26,7 +27,7 @@ returns-3 c =
     let all = c .before .before in
     let e2 = all .before .before in
     let e1 = e2 .before .before in
-    rw (all .remove-bias-all .ensures) (granted-built _ _ _ (e1 .before .storage-refusal .ensures) (e1 .if1 .left) refl (e2 .if2 .left))
+    rw (all .remove-bias-all .ensures) (granted-built planar-laws _ _ _ (e1 .before .storage-refusal .ensures) (e1 .if1 .left) refl (e2 .if2 .left))
 
 pub remove-bias-spec : {M : Type 1} → statement M
 remove-bias-spec =

@@ -3,12 +3,13 @@ use mathlib.Core.Path.{_≡_}
 use native.Mathlib.Omega.{arith}
 use borrow.Author.Needs.{needs}
 use Rattle.multibody.specs.Calls.{grantedOf}
-use Rattle.model.specs.Planar.{planar}
-use Rattle.model.proofs.RefusalLaws.{holds, fails}
-use Rattle.model.proofs.CountLaws.{joints-words, joint-words}
-use Rattle.model.proofs.CallLaws.{few-joints}
+use Rattle.model.specs.Planar.{planar, plane}
+use Rattle.multibody.proofs.RuleLaws.{holds, fails}
+use Rattle.multibody.proofs.CountLaws.{joints-words, joint-words}
+use Rattle.multibody.proofs.CallLaws.{few-joints}
 use Rattle.model.proofs.NewMasks.{put-size}
 use Rattle.model.proofs.MaskLaws.{unfit-refused, model-refused, short-refused, missing-refused, masks-granted}
+use Rattle.model.proofs.PlanarLaws.{planar-laws}
 use Rattle.model.proofs.calls.set_masks.Statement.{statement}
 use Rattle.model.proofs.calls.set_masks.Tie as tie
 
@@ -43,7 +44,7 @@ joint-count-requires : tie.Need-joint-count-requires
 joint-count-requires c κs = search needs
 
 rows-with-requires : tie.Need-rows-with-requires
-rows-with-requires c κs = rw (c .before .joint-count .ensures) (joints-words _ _)
+rows-with-requires c κs = rw (c .before .joint-count .ensures) (joints-words plane _ _)
 
 row-capacity-requires : tie.Need-row-capacity-requires
 row-capacity-requires c κs = search needs
@@ -81,7 +82,7 @@ put-masks-requires : tie.Need-put-masks-requires
 put-masks-requires c κs =
     let e4 = c .before in
     let jc = e4 .before .before .before .before .before in
-    joint-words _ _ _ (rw (jc .joint-count .ensures) at (e4 .if4 .left))
+    joint-words plane _ _ _ (rw (jc .joint-count .ensures) at (e4 .if4 .left))
 
 store-firsts-requires : tie.Need-store-firsts-requires
 store-firsts-requires c κs =
@@ -89,7 +90,7 @@ store-firsts-requires c κs =
     let e4 = pm .before .before in
     let jc = e4 .before .before .before .before .before in
     let e2 = jc .before .before in
-    (rw (jc .joint-count .ensures) (few-joints _ _ (e2 .before .model-refusal .ensures) (e2 .if2 .left)), rw (pm .put-masks .ensures, put-size, jc .joint-count .ensures) (joints-words _ _))
+    (rw (jc .joint-count .ensures) (few-joints planar-laws _ _ (e2 .before .model-refusal .ensures) (e2 .if2 .left)), rw (pm .put-masks .ensures, put-size, jc .joint-count .ensures) (joints-words plane _ _))
 
 same-length-5 : tie.Need-same-length-5
 same-length-5 c = search needs

@@ -1,8 +1,10 @@
 -- `sweep` meets its contract.
 use mathlib.Core.Path.{sym, _∙_}
 use native.Mathlib.Omega.{arith}
-use Rattle.model.proofs.RefusalLaws.{no-rules}
-use Rattle.model.proofs.CallLaws.{refused-early, refused-late, granted-late, too-many, few-rounds, not-built, is-built, call-sound, call-few-joints, call-room, sweep-refused, sweep-granted}
+use Rattle.multibody.proofs.RuleLaws.{no-rules}
+use Rattle.multibody.proofs.CallLaws.{refused-early, refused-late, granted-late, too-many, few-rounds, not-built, is-built, call-sound, call-few-joints, call-room}
+use Rattle.model.proofs.CallLaws.{sweep-refused, sweep-granted}
+use Rattle.model.proofs.PlanarLaws.{planar-laws}
 use borrow.Author.Needs.{needs}
 use borrow.Author.Tests.{not-true, not-false}
 use Rattle.model.proofs.calls.sweep.Statement.{statement}
@@ -23,7 +25,7 @@ same-length-2 c = search needs
 returns : tie.Need-returns
 returns c =
     let t1 = c .before in
-    sweep-refused _ _ _ (c .no-counts .ensures) (refused-early _ _ _ (t1 .before .storage-refusal .ensures) (t1 .if1 .taken))
+    sweep-refused _ _ _ (c .no-counts .ensures) (refused-early planar-laws _ _ _ (t1 .before .storage-refusal .ensures) (t1 .if1 .taken))
 
 no-counts-requires-2 : tie.Need-no-counts-requires-2
 no-counts-requires-2 c κs = search needs
@@ -39,7 +41,7 @@ returns-2 c =
     let t2 = c .before in
     let e1 = t2 .before in
     sweep-refused _ _ _ (c .no-counts2 .ensures)
-    (refused-late _ _ _ (e1 .before .storage-refusal .ensures) (e1 .if1 .left) (too-many _ _ (t2 .if2 .taken)) (omega arith))
+    (refused-late planar-laws _ _ _ (e1 .before .storage-refusal .ensures) (e1 .if1 .left) (too-many _ _ (t2 .if2 .taken)) (omega arith))
 
 no-counts-requires-3 : tie.Need-no-counts-requires-3
 no-counts-requires-3 c κs = search needs
@@ -56,7 +58,7 @@ returns-3 c =
     let e2 = t3 .before .before in
     let e1 = e2 .before in
     sweep-refused _ _ _ (c .no-counts3 .ensures)
-    (refused-late _ _ _ (e1 .before .storage-refusal .ensures) (e1 .if1 .left)
+    (refused-late planar-laws _ _ _ (e1 .before .storage-refusal .ensures) (e1 .if1 .left)
     (not-built _ _ (not-true _ (t3 .if3 .taken)) ∙ sym (few-rounds _ _ (e2 .if2 .left))) (omega arith))
 
 slice-aggregate-sweep-all : tie.Need-slice-aggregate-sweep-all
@@ -66,7 +68,7 @@ sweep-all-requires : tie.Need-sweep-all-requires
 sweep-all-requires c κs =
     let e1 = c .before .before .before .before .before .before in
     let e = e1 .before .storage-refusal .ensures in
-    (call-sound _ _ _ e (e1 .if1 .left), (call-room _ _ _ e (e1 .if1 .left), call-few-joints _ _ _ e (e1 .if1 .left)))
+    (call-sound planar-laws _ _ _ e (e1 .if1 .left), (call-room planar-laws _ _ _ e (e1 .if1 .left), call-few-joints planar-laws _ _ _ e (e1 .if1 .left)))
 
 same-length-7 : tie.Need-same-length-7
 same-length-7 c = search needs
@@ -81,8 +83,8 @@ returns-4 c =
     let e2 = e3 .before .before in
     let e1 = e2 .before in
     let e = e1 .before .storage-refusal .ensures in
-    sweep-granted _ _ _ (call-few-joints _ _ _ e (e1 .if1 .left)) (sa .sweep-all .ensures)
-    (granted-late _ _ _ e (e1 .if1 .left) (few-rounds _ _ (e2 .if2 .left) ∙ is-built _ _ (not-false _ (e3 .if3 .left)) ∙ no-rules))
+    sweep-granted _ _ _ (call-few-joints planar-laws _ _ _ e (e1 .if1 .left)) (sa .sweep-all .ensures)
+    (granted-late planar-laws _ _ _ e (e1 .if1 .left) (few-rounds _ _ (e2 .if2 .left) ∙ is-built _ _ (not-false _ (e3 .if3 .left)) ∙ no-rules))
 
 pub sweep-spec : {M : Type 1} → statement M
 sweep-spec =

@@ -5,8 +5,9 @@ use native.Mathlib.Omega.{arith}
 use borrow.Author.Needs.{needs}
 use Rattle.multibody.specs.Counts.{rowsBefore}
 use Rattle.model.specs.Planar.{plane}
-use Rattle.model.proofs.JointRowsLaws.{few-rows}
-use Rattle.model.proofs.CountLaws.{rowsBefore-none, rowsBefore-next, rowsBefore-le}
+use Rattle.multibody.proofs.JointRowsLaws.{few-rows}
+use Rattle.multibody.proofs.CountLaws.{rowsBefore-none, rowsBefore-next, rowsBefore-le}
+use Rattle.model.proofs.PlanarLaws.{planar-laws}
 use Rattle.model.proofs.counts.rows_before.Statement.{statement}
 use Rattle.model.proofs.counts.rows_before.Tie as tie
 
@@ -17,7 +18,7 @@ abbrev μ-loop : tie.MeasureT-loop
 μ-loop words j i₀ first₀ i first = j - i
 
 loop-holds : tie.Need-loop-holds Inv-loop μ-loop
-loop-holds c = (search needs, sym (rowsBefore-none _))
+loop-holds c = (search needs, sym (rowsBefore-none plane _))
 
 count-at-requires : tie.Need-count-at-requires Inv-loop μ-loop
 count-at-requires c κs = search needs
@@ -26,7 +27,7 @@ add-first : tie.Need-add-first Inv-loop μ-loop
 add-first c =
     let lp = c .before .before in
     let words = lp .before .before .args .words .now in
-    omega (arith, rowsBefore-le words (lp .loop .i), few-rows words (lp .loop .i) (c .count-at .ensures))
+    omega (arith, rowsBefore-le planar-laws words (lp .loop .i), few-rows planar-laws words (lp .loop .i) (c .count-at .ensures))
 
 add-i : tie.Need-add-i Inv-loop μ-loop
 add-i c = search needs
@@ -37,7 +38,7 @@ loop-less c = search needs
 loop-again : tie.Need-loop-again Inv-loop μ-loop
 loop-again c =
     let lp = c .before .before in
-    (search needs, cc (lp .loop .inv .1, c .count-at .ensures, rowsBefore-next (lp .before .before .args .words .now) (lp .loop .i)))
+    (search needs, cc (lp .loop .inv .1, c .count-at .ensures, rowsBefore-next plane (lp .before .before .args .words .now) (lp .loop .i)))
 
 returns : tie.Need-returns Inv-loop μ-loop
 returns c =

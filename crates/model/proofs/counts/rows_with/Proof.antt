@@ -6,8 +6,9 @@ use borrow.Author.Needs.{needs}
 use Rattle.multibody.specs.Counts.{rowsBefore}
 use Rattle.model.specs.Store.{putMasks}
 use Rattle.model.specs.Planar.{plane}
-use Rattle.model.proofs.JointRowsLaws.{few-rows}
-use Rattle.model.proofs.CountLaws.{rowsBefore-none, rowsBefore-next, rowsBefore-le}
+use Rattle.multibody.proofs.JointRowsLaws.{few-rows}
+use Rattle.multibody.proofs.CountLaws.{rowsBefore-none, rowsBefore-next, rowsBefore-le}
+use Rattle.model.proofs.PlanarLaws.{planar-laws}
 use Rattle.model.proofs.counts.rows_with.Statement.{statement}
 use Rattle.model.proofs.counts.rows_with.Tie as tie
 
@@ -18,7 +19,7 @@ abbrev μ-loop : tie.MeasureT-loop
 μ-loop words n j masks i₀ first₀ i first = n - i
 
 loop-holds : tie.Need-loop-holds Inv-loop μ-loop
-loop-holds c = (search needs, sym (rowsBefore-none _))
+loop-holds c = (search needs, sym (rowsBefore-none plane _))
 
 count-with-requires : tie.Need-count-with-requires Inv-loop μ-loop
 count-with-requires c κs = search needs
@@ -28,7 +29,7 @@ add-first c =
     let lp = c .before .before in
     let a = lp .before .before .args in
     let words = putMasks (a .words .now) (a .j) (a .masks) in
-    omega (arith, rowsBefore-le words (lp .loop .i), few-rows words (lp .loop .i) (c .count-with .ensures))
+    omega (arith, rowsBefore-le planar-laws words (lp .loop .i), few-rows planar-laws words (lp .loop .i) (c .count-with .ensures))
 
 add-i : tie.Need-add-i Inv-loop μ-loop
 add-i c = search needs
@@ -40,7 +41,7 @@ loop-again : tie.Need-loop-again Inv-loop μ-loop
 loop-again c =
     let lp = c .before .before in
     let a = lp .before .before .args in
-    (search needs, cc (lp .loop .inv .1, c .count-with .ensures, rowsBefore-next (putMasks (a .words .now) (a .j) (a .masks)) (lp .loop .i)))
+    (search needs, cc (lp .loop .inv .1, c .count-with .ensures, rowsBefore-next plane (putMasks (a .words .now) (a .j) (a .masks)) (lp .loop .i)))
 
 returns : tie.Need-returns Inv-loop μ-loop
 returns c =

@@ -8,9 +8,10 @@ use lib.ListN.{length, length-set}
 use Rattle.model.specs.Store.{putFirst}
 use Rattle.multibody.specs.Counts.{rowsBefore, storeFirsts}
 use Rattle.model.specs.Planar.{plane}
-use Rattle.model.proofs.JointRowsLaws.{few-rows}
-use Rattle.model.proofs.CountLaws.{rowsBefore-none}
+use Rattle.multibody.proofs.JointRowsLaws.{few-rows}
+use Rattle.multibody.proofs.CountLaws.{rowsBefore-none}
 use Rattle.model.proofs.StoredFirsts.{no-first, next-first, first-next, first-small}
+use Rattle.model.proofs.PlanarLaws.{planar-laws}
 use Rattle.model.proofs.counts.store_firsts.Statement.{statement}
 use Rattle.model.proofs.counts.store_firsts.Tie as tie
 
@@ -22,7 +23,7 @@ abbrev μ-loop : tie.MeasureT-loop
 μ-loop words₀ n j₀ first₀ words j first = n - j
 
 loop-holds : tie.Need-loop-holds Inv-loop μ-loop
-loop-holds c = (omega arith, refl, sym (rowsBefore-none _), rw sub-zero)
+loop-holds c = (omega arith, refl, sym (rowsBefore-none plane _), rw sub-zero)
 
 cast-words : tie.Need-cast-words Inv-loop μ-loop
 cast-words c = let lp = c .before in omega (arith, first-small _ _ _ _ (lp .loop .inv .2) (c .loop-test .taken) (lp .before .before .pre .0))
@@ -46,7 +47,7 @@ add-first : tie.Need-add-first Inv-loop μ-loop
 add-first c =
     let l = c .before .before in
     let lp = l .before in
-    omega (arith, first-small _ _ _ _ (lp .loop .inv .2) (l .loop-test .taken) (lp .before .before .pre .0), few-rows _ _ (c .count-at .ensures))
+    omega (arith, first-small _ _ _ _ (lp .loop .inv .2) (l .loop-test .taken) (lp .before .before .pre .0), few-rows planar-laws _ _ (c .count-at .ensures))
 
 add-j : tie.Need-add-j Inv-loop μ-loop
 add-j c = search needs

@@ -2,7 +2,10 @@
 use mathlib.Core.Path.{refl, ap, _∙_}
 use native.Mathlib.Omega.{arith}
 use Rattle.rows.specs.Update.{rowsArray}
-use Rattle.model.proofs.JointRowsLaws.{few-rows, built-len, build-steps}
+use Rattle.multibody.proofs.JointRowsLaws.{few-rows, build-steps}
+use Rattle.model.proofs.JointRowsLaws.{built-len, built-rows}
+use Rattle.model.specs.Planar.{plane}
+use Rattle.model.proofs.PlanarLaws.{planar-laws}
 use borrow.Author.Needs.{needs}
 use Rattle.model.proofs.joint_rows.build_enabled.Statement.{statement}
 use Rattle.model.proofs.joint_rows.build_enabled.Tie as tie
@@ -13,7 +16,7 @@ count-at-requires c κs = search needs
 last-impulses-requires : tie.Need-last-impulses-requires
 last-impulses-requires c κs =
     let e = c .before .count-at .ensures in
-    (few-rows _ _ e, omega (arith, e, c .before .before .before .before .before .before .pre .1 .1 .1 .1 .0))
+    (few-rows planar-laws _ _ e, omega (arith, e, c .before .before .before .before .before .before .pre .1 .1 .1 .1 .0))
 
 joint-at-requires : tie.Need-joint-at-requires
 joint-at-requires c κs = search needs
@@ -40,7 +43,7 @@ put-rows-requires c κs =
     let ia = ja .before in
     let on = ia .before .before .before .before .before .before .before .pre .1 .1 .1 .1 .1 in
     let e = built-len _ _ _ _ _ _ _ _ _ _ _ on (ja .joint-at .ensures) refl (up .update .ensures ∙ ap rowsArray (ia .last-impulses .ensures _ _ _ _)) in
-    (few-rows _ _ e, omega (arith, e, ia .before .before .before .before .before .before .before .pre .1 .1 .1 .1 .0))
+    (few-rows planar-laws _ _ e, omega (arith, e, ia .before .before .before .before .before .before .before .pre .1 .1 .1 .1 .0))
 
 same-length : tie.Need-same-length
 same-length c = search needs
@@ -55,10 +58,12 @@ returns c =
     let b1 = sp1 .before in
     let ja = b1 .before in
     let ia = ja .before in
-    let ca = ia .before .before in (
+    let ca = ia .before .before in
+    let on = ca .before .before .before .before .before .pre .1 .1 .1 .1 .1 in
+    let made = built-rows _ _ _ _ _ _ _ _ _ _ _ on (ja .joint-at .ensures) refl (up .update .ensures ∙ ap rowsArray (ia .last-impulses .ensures _ _ _ _)) in (
       ca .count-at .ensures,
-      build-steps _ _ _ _ _ _ _ _ _ (ca .before .before .before .before .before .pre .1 .1 .1 .1 .1) (ca .count-at .ensures) refl (ja .joint-at .ensures) (b1 .body1-at .ensures) (sp1 .solver-pose-at .ensures) (b2 .body2-at .ensures)
-          (sp2 .solver-pose-at2 .ensures) (up .update .ensures ∙ ap rowsArray (ia .last-impulses .ensures _ _ _ _)) (pr .put-rows .ensures),
+      build-steps plane _ _ _ _ _ _ _ _ _ on (ca .count-at .ensures) refl (ja .joint-at .ensures) (b1 .body1-at .ensures) (sp1 .solver-pose-at .ensures) (b2 .body2-at .ensures) (sp2 .solver-pose-at2 .ensures) made
+          (pr .put-rows .ensures),
     )
 
 pub build-enabled-spec : {M : Type 1} → statement M

@@ -1,8 +1,9 @@
 -- `count_with` meets its contract: another joint has the rows that it had, the joint itself those of the new masks, where it is enabled.
 use mathlib.Core.Path.{sym, _∙_}
 use borrow.Author.Needs.{needs}
-use Rattle.model.proofs.JointRowsLaws.{read-enabled, read-disabled}
+use Rattle.multibody.proofs.JointRowsLaws.{read-enabled, read-disabled}
 use Rattle.model.proofs.MaskLaws.{count-apart, count-enabled, count-none}
+use Rattle.model.specs.Planar.{plane}
 use Rattle.model.proofs.joint_rows.count_with.Statement.{statement}
 use Rattle.model.proofs.joint_rows.count_with.Tie as tie
 
@@ -27,14 +28,14 @@ returns-2 c =
     let ie = t2 .before in
     let ea = ie .before in
     let e1 = ea .before in
-    c .row-count .ensures ∙ count-enabled _ _ _ _ (e1 .if1 .left) (read-enabled _ _ (ea .enabled-at .ensures) (ie .is-enabled .ensures) (t2 .if2 .taken)) (e1 .before .before .pre)
+    c .row-count .ensures ∙ count-enabled _ _ _ _ (e1 .if1 .left) (read-enabled plane _ _ (ea .enabled-at .ensures) (ie .is-enabled .ensures) (t2 .if2 .taken)) (e1 .before .before .pre)
 
 returns-3 : tie.Need-returns-3
 returns-3 c =
     let ie = c .before in
     let ea = ie .before in
     let e1 = ea .before in
-    count-none _ _ _ _ (e1 .if1 .left) (read-disabled _ _ (ea .enabled-at .ensures) (ie .is-enabled .ensures) (c .if2 .left))
+    count-none _ _ _ _ (e1 .if1 .left) (read-disabled plane _ _ (ea .enabled-at .ensures) (ie .is-enabled .ensures) (c .if2 .left))
 
 pub count-with-spec : {M : Type 1} → statement M
 count-with-spec = tie.close (tie.spec count-at-requires returns enabled-at-requires is-enabled-requires row-count-requires returns-2 returns-3)

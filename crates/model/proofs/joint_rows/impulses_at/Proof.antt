@@ -7,7 +7,8 @@ use Rattle.floats.specs.Operators.{bits}
 use Rattle.rows.specs.RowIds.{filled}
 use Rattle.multibody.specs.JointRows.{impulsesAt}
 use Rattle.model.specs.Planar.{plane}
-use Rattle.model.proofs.JointRowsLaws.{impulse-turn, no-impulses}
+use Rattle.multibody.proofs.JointRowsLaws.{impulse-turn, no-impulses}
+use Rattle.model.proofs.PlanarLaws.{planar-laws}
 use borrow.Author.Needs.{needs}
 use Rattle.model.proofs.joint_rows.impulses_at.Statement.{statement}
 use Rattle.model.proofs.joint_rows.impulses_at.Tie as tie
@@ -19,7 +20,7 @@ abbrev μ-loop : tie.MeasureT-loop
 μ-loop rows k n out₀ i₀ out i = n - i
 
 loop-holds : tie.Need-loop-holds Inv-loop μ-loop
-loop-holds c = (search needs, refl, rw no-impulses)
+loop-holds c = (search needs, refl, rw (no-impulses plane))
 
 add-out : tie.Need-add-out Inv-loop μ-loop
 add-out c = search needs
@@ -50,7 +51,7 @@ loop-again c =
     let lt = c .before in
     let lp = lt .before in
     let st = lp .before in
-    (search needs, rw length-set (lp .loop .inv .1), impulse-turn _ (st .args .k) (lp .loop .i) (omega arith) (lp .loop .inv .2))
+    (search needs, rw length-set (lp .loop .inv .1), impulse-turn planar-laws _ (st .args .k) (lp .loop .i) (omega arith) (lp .loop .inv .2))
 
 returns : tie.Need-returns Inv-loop μ-loop
 returns c =

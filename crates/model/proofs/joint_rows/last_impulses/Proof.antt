@@ -1,13 +1,10 @@
 -- `last_impulses` meets its contract: a build that reads no rows makes the same rows whatever it starts from.
-use mathlib.Core.Path.{refl, sym, ap, _∙_}
+use mathlib.Core.Path.{sym, ap, _∙_}
 use mathlib.Core.Bool.{true≢false}
 use borrow.Author.Needs.{needs}
-use Rattle.floats.specs.Operators.{bits}
-use Rattle.rows.proofs.Filled.{length-filled}
 use Rattle.rows.specs.Builder.{builderUpdateOf}
-use Rattle.multibody.specs.JointRows.{impulsesAt}
-use Rattle.model.specs.Planar.{plane}
-use Rattle.model.proofs.JointRowsLaws.{last-impulses}
+use Rattle.multibody.proofs.JointRowsLaws.{last-impulses}
+use Rattle.model.proofs.PlanarLaws.{planar-laws}
 use Rattle.model.proofs.joint_rows.last_impulses.Statement.{statement}
 use Rattle.model.proofs.joint_rows.last_impulses.Tie as tie
 
@@ -25,7 +22,7 @@ returns c params body1 body2 joint =
 returns-2 : tie.Need-returns-2
 returns-2 c params body1 body2 joint =
     let a = c .before .before .before .args in
-    last-impulses params body1 body2 joint (a .warmstart) (a .substep-id) _ _ refl (length-filled (bits 0) 6 (impulsesAt plane (a .rows .now) (a .k) (a .n)))
+    last-impulses planar-laws params body1 body2 joint (a .warmstart) (a .substep-id) _ _
     (λ t. absurd (true≢false (sym t ∙ sym (c .before .reads-rows .ensures) ∙ c .if1 .left)))
 
 pub last-impulses-spec : {M : Type 1} → statement M

@@ -6,7 +6,7 @@ use native.Mathlib.Omega.{arith}
 use lib.ListN.{length, take, drop, length-map}
 use Rattle.multibody.specs.JointRows.{putRows}
 use Rattle.model.specs.Planar.{plane}
-use Rattle.model.proofs.JointRowsLaws.{put-turn, put-done}
+use Rattle.multibody.proofs.JointRowsLaws.{put-turn, put-done}
 use borrow.Author.Needs.{needs}
 use Rattle.model.proofs.joint_rows.put_rows.Statement.{statement}
 use Rattle.model.proofs.joint_rows.put_rows.Tie as tie
@@ -46,7 +46,7 @@ loop-again c =
     let lt = pr .before .before .before in
     let lp = lt .before in
     let st = lp .before .before in
-    let h = put-turn (lp .loop .rows) (st .args .k) (lp .loop .i) (st .args .t3 .len) (st .args .t3 .rows) _ (lt .loop-test .taken) (lp .loop .inv .1) (pr .put-row .ensures) in
+    let h = put-turn plane (lp .loop .rows) (st .args .k) (lp .loop .i) (st .args .t3 .len) (st .args .t3 .rows) _ (lt .loop-test .taken) (lp .loop .inv .1) (pr .put-row .ensures) in
     (omega (arith, lt .loop-test .taken), lp .loop .inv .1, pr .put-row .kept .0 ∙ lp .loop .inv .2, h ∙ lp .loop .inv .3)
 
 same-length : tie.Need-same-length Inv-loop μ-loop
@@ -56,7 +56,7 @@ returns : tie.Need-returns Inv-loop μ-loop
 returns c =
     let lp = c .before in
     let st = lp .before .before in
-    sym (put-done (lp .loop .rows) _ (lp .loop .i) (st .args .t3 .len) (st .args .t3 .rows) (lp .loop .inv .1) (c .loop-test .left)) ∙ lp .loop .inv .3
+    sym (put-done plane (lp .loop .rows) _ (lp .loop .i) (st .args .t3 .len) (st .args .t3 .rows) (lp .loop .inv .1) (c .loop-test .left)) ∙ lp .loop .inv .3
 
 pub put-rows-spec : {M : Type 1} → statement M
 put-rows-spec =

@@ -6,7 +6,7 @@ use native.Mathlib.Omega.{arith}
 use lib.ListN.{length}
 use Rattle.multibody.specs.JointRows.{removeBiasJoint}
 use Rattle.model.specs.Planar.{plane}
-use Rattle.model.proofs.JointRowsLaws.{bias-turn, bias-done}
+use Rattle.multibody.proofs.JointRowsLaws.{bias-turn, bias-done}
 use borrow.Author.Needs.{needs}
 use Rattle.model.proofs.joint_rows.remove_bias_joint.Statement.{statement}
 use Rattle.model.proofs.joint_rows.remove_bias_joint.Tie as tie
@@ -50,7 +50,7 @@ loop-again c =
     let lt = ra .before .before in
     let lp = lt .before in
     let st = lp .before .before in
-    let h = bias-turn (st .args .n) (lp .loop .i) (st .args .k) (lp .loop .rows) (lt .loop-test .taken) in
+    let h = bias-turn plane (st .args .n) (lp .loop .i) (st .args .k) (lp .loop .rows) (lt .loop-test .taken) in
     (omega (arith, lt .loop-test .taken), search needs, cc (h, pr .put-row .ensures, rb .remove-bias-from-rhs .ensures, ra .row-at .ensures, lp .loop .inv .2))
 
 same-length : tie.Need-same-length Inv-loop μ-loop
@@ -60,7 +60,7 @@ returns : tie.Need-returns Inv-loop μ-loop
 returns c =
     let lp = c .before in
     let st = lp .before .before in
-    sym (bias-done (st .args .n) (lp .loop .i) (st .args .k) (lp .loop .rows) (c .loop-test .left)) ∙ lp .loop .inv .2
+    sym (bias-done plane (st .args .n) (lp .loop .i) (st .args .k) (lp .loop .rows) (c .loop-test .left)) ∙ lp .loop .inv .2
 
 pub remove-bias-joint-spec : {M : Type 1} → statement M
 remove-bias-joint-spec =

@@ -7,7 +7,7 @@ use native.Mathlib.Omega.{arith}
 use lib.ListN.{length}
 use Rattle.multibody.specs.JointRows.{state, sweepJoint, countRows}
 use Rattle.model.specs.Planar.{plane, planar}
-use Rattle.model.proofs.JointRowsLaws.{sweep-turn, sweep-done}
+use Rattle.multibody.proofs.JointRowsLaws.{sweep-turn, sweep-done}
 use Rattle.multibody.proofs.MotorCounts.{count-turn, count-done}
 use borrow.Author.Needs.{needs}
 use Rattle.model.proofs.joint_rows.sweep_joint.Statement.{statement}
@@ -57,7 +57,7 @@ loop-again c =
     let lp = lt .before in
     let st = lp .before .before .before in
     let now = state (lp .loop .rows) (lp .loop .bodies) in
-    let h = sweep-turn (st .args .n) (lp .loop .i) (st .args .k) (st .args .b1) (st .args .b2) now (lt .loop-test .taken) in
+    let h = sweep-turn plane (st .args .n) (lp .loop .i) (st .args .k) (st .args .b1) (st .args .b2) now (lt .loop-test .taken) in
     let g = count-turn plane (st .args .n) (lp .loop .i) (st .args .k) (st .args .motors) (st .args .b1) (st .args .b2) now (lt .loop-test .taken) in (
       omega (arith, lt .loop-test .taken),
       sr .sweep-row .kept .0 ∙ lp .loop .inv .1,
@@ -83,7 +83,7 @@ returns c =
         lp .loop .inv .5,
         count-done plane (st .args .n) (lp .loop .i) (st .args .k + lp .loop .i) (st .args .motors - lp .loop .i) (st .args .b1) (st .args .b2) now (c .loop-test .left),
       ),
-      sym (sweep-done (st .args .n) (lp .loop .i) (st .args .k) (st .args .b1) (st .args .b2) now (c .loop-test .left)) ∙ lp .loop .inv .3,
+      sym (sweep-done plane (st .args .n) (lp .loop .i) (st .args .k) (st .args .b1) (st .args .b2) now (c .loop-test .left)) ∙ lp .loop .inv .3,
     )
 
 pub sweep-joint-spec : {M : Type 1} → statement M

@@ -1,9 +1,19 @@
 -- `sweep_row` meets its contract, by those of its parts.
+use mathlib.Core.Path.{ap}
 use native.Mathlib.Omega.{arith}
-use Rattle.model.proofs.JointRowsLaws.{sweep-steps, sweep-side}
+use Rattle.rows.specs.declared.joint_velocity_constraint.JointConstraint.{JointConstraint}
+use Rattle.rows.specs.declared.joint_velocity_constraint.SolverVel.{SolverVel}
+use Rattle.rows.specs.declared.joint_velocity_constraint.Solved.{Solved}
+use Rattle.multibody.specs.Store.{Stepped}
+use Rattle.multibody.proofs.JointRowsLaws.{sweep-steps, sweep-side}
+use Rattle.model.specs.Planar.{plane}
 use borrow.Author.Needs.{needs}
 use Rattle.model.proofs.joint_rows.sweep_row.Statement.{statement}
 use Rattle.model.proofs.joint_rows.sweep_row.Tie as tie
+
+-- the solver's answer as a step
+abbrev stepped : Solved → Stepped JointConstraint SolverVel
+stepped t = record { row = t .row; vel1 = t .vels .vel1; vel2 = t .vels .vel2; side = t .side }
 
 row-at-requires : tie.Need-row-at-requires
 row-at-requires c κs = search needs
@@ -43,9 +53,10 @@ returns c =
     let va2 = sp .before in
     let va = va2 .before .before in
     let ra = va .before .before in
-    let st = ra .before .before .before .before in (
-      sweep-side _ _ (st .args .k) (st .args .b1) (st .args .b2) (ra .row-at .ensures) (va .vel-at .ensures) (va2 .vel-at2 .ensures) (sp .solve-row .ensures),
-      sweep-steps _ _ (st .args .k) (st .args .b1) (st .args .b2) (ra .row-at .ensures) (va .vel-at .ensures) (va2 .vel-at2 .ensures) (sp .solve-row .ensures) (pr .put-row .ensures)
+    let st = ra .before .before .before .before in
+    let t = ap stepped (sp .solve-row .ensures) in (
+      sweep-side plane _ _ (st .args .k) (st .args .b1) (st .args .b2) (ra .row-at .ensures) (va .vel-at .ensures) (va2 .vel-at2 .ensures) t,
+      sweep-steps plane _ _ (st .args .k) (st .args .b1) (st .args .b2) (ra .row-at .ensures) (va .vel-at .ensures) (va2 .vel-at2 .ensures) t (pr .put-row .ensures)
           (pv .put-vel .ensures) (pv2 .put-vel2 .ensures),
     )
 

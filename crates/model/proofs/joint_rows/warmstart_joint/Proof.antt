@@ -6,7 +6,7 @@ use native.Mathlib.Omega.{arith}
 use lib.ListN.{length}
 use Rattle.multibody.specs.JointRows.{warmstartJoint}
 use Rattle.model.specs.Planar.{plane}
-use Rattle.model.proofs.JointRowsLaws.{warmstart-turn, warmstart-done}
+use Rattle.multibody.proofs.JointRowsLaws.{warmstart-turn, warmstart-done}
 use borrow.Author.Needs.{needs}
 use Rattle.model.proofs.joint_rows.warmstart_joint.Statement.{statement}
 use Rattle.model.proofs.joint_rows.warmstart_joint.Tie as tie
@@ -45,7 +45,7 @@ loop-again c =
     let lt = wr .before .before in
     let lp = lt .before in
     let st = lp .before .before .before in
-    let h = warmstart-turn (st .args .n) (lp .loop .i) (st .args .k) (st .args .b1) (st .args .b2) _ _ (lt .loop-test .taken) (wr .warmstart-row .ensures) in
+    let h = warmstart-turn plane (st .args .n) (lp .loop .i) (st .args .k) (st .args .b1) (st .args .b2) _ _ (lt .loop-test .taken) (wr .warmstart-row .ensures) in
     (omega (arith, lt .loop-test .taken), search needs, h ∙ lp .loop .inv .2)
 
 same-length : tie.Need-same-length Inv-loop μ-loop
@@ -55,7 +55,7 @@ returns : tie.Need-returns Inv-loop μ-loop
 returns c =
     let lp = c .before in
     let st = lp .before .before .before in
-    sym (warmstart-done _ (st .args .n) (lp .loop .i) (st .args .k) (st .args .b1) (st .args .b2) (lp .loop .bodies) (c .loop-test .left)) ∙ lp .loop .inv .2
+    sym (warmstart-done plane _ (st .args .n) (lp .loop .i) (st .args .k) (st .args .b1) (st .args .b2) (lp .loop .bodies) (c .loop-test .left)) ∙ lp .loop .inv .2
 
 pub warmstart-joint-spec : {M : Type 1} → statement M
 warmstart-joint-spec =

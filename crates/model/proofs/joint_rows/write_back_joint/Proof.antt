@@ -8,7 +8,9 @@ use Rattle.rows.specs.RowIds.{rowIdsArray}
 use Rattle.model.specs.Layout.{rowWidth}
 use Rattle.multibody.specs.JointRows.{jointIds, rowCount, writeBackIds, writeBackJoint, rowMasksAt}
 use Rattle.model.specs.Planar.{plane}
-use Rattle.model.proofs.JointRowsLaws.{ids-len, few-rows, back-turn, back-done}
+use Rattle.multibody.proofs.JointRowsLaws.{few-rows, back-turn, back-done}
+use Rattle.model.proofs.JointRowsLaws.{ids-len, id-at}
+use Rattle.model.proofs.PlanarLaws.{planar-laws}
 use borrow.Author.Needs.{needs}
 use Rattle.model.proofs.joint_rows.write_back_joint.Statement.{statement}
 use Rattle.model.proofs.joint_rows.write_back_joint.Tie as tie
@@ -28,7 +30,7 @@ loop-holds : tie.Need-loop-holds Inv-loop μ-loop
 loop-holds c =
     let e = c .ids-at .ensures in
     let q = ids-len _ _ e in
-    (search needs, few-rows _ _ q, q, omega (arith, q, c .before .before .before .before .pre .1 .1), refl, e, rw add-zero)
+    (search needs, few-rows planar-laws _ _ q, q, omega (arith, q, c .before .before .before .before .pre .1 .1), refl, e, rw add-zero)
 
 mul-named : tie.Need-mul-named Inv-loop μ-loop
 mul-named c = search needs
@@ -64,7 +66,8 @@ loop-again c =
     let lp = lt .before in
     let st = lp .before .before .before .before .before in
     let v = lp .loop .inv in
-    let h = back-turn _ _ (st .args .k) (st .args .j) (lp .loop .i) (lp .loop .numbers) _ (rw (v .2) at (lt .loop-test .taken)) (v .5) (ps .put-seed .ensures) in
+    let l = rw (v .2) at (lt .loop-test .taken) in
+    let h = back-turn planar-laws _ _ (st .args .k) (st .args .j) (lp .loop .i) (lp .loop .numbers) _ l (id-at _ _ _ _ l (v .5)) (ps .put-seed .ensures) in
     (omega (arith, lt .loop-test .taken), v .1, v .2, v .3, ps .put-seed .kept .0 ∙ v .4, v .5, h ∙ v .6)
 
 same-length : tie.Need-same-length Inv-loop μ-loop
@@ -76,7 +79,7 @@ returns c =
     let lp = c .before in
     let st = lp .before .before .before .before .before in
     let v = lp .loop .inv in
-    sym (back-done _ _ (st .args .k + lp .loop .i) (st .args .j) (lp .loop .i) (lp .loop .numbers) (v .2) (c .loop-test .left)) ∙ v .6
+    sym (back-done plane _ _ (st .args .k + lp .loop .i) (st .args .j) (lp .loop .i) (lp .loop .numbers) (v .2) (c .loop-test .left)) ∙ v .6
 
 pub write-back-joint-spec : {M : Type 1} → statement M
 write-back-joint-spec =

@@ -6,7 +6,7 @@ use borrow.Author.Tests.{eq-eqb, ne-eqb}
 use borrow.Author.Needs.{needs}
 use Rattle.multibody.specs.Refusals.{bodiesApart}
 use Rattle.model.specs.Planar.{plane}
-use Rattle.model.proofs.RefusalLaws.{Undecided, undecided, still-undecided, one-fails, all-pass}
+use Rattle.multibody.proofs.RuleLaws.{Undecided, undecided, still-undecided, one-fails, all-pass}
 use Rattle.model.proofs.refusals.all_bodies_apart.Statement.{statement}
 use Rattle.model.proofs.refusals.all_bodies_apart.Tie as tie
 

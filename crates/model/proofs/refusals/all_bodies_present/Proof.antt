@@ -3,7 +3,7 @@ use Prim.Native.Nat.{_-_}
 use borrow.Author.Needs.{needs}
 use Rattle.multibody.specs.Refusals.{bodiesPresent}
 use Rattle.model.specs.Planar.{plane}
-use Rattle.model.proofs.RefusalLaws.{holds, fails, Undecided, undecided, still-undecided, one-fails, all-pass}
+use Rattle.multibody.proofs.RuleLaws.{holds, fails, Undecided, undecided, still-undecided, one-fails, all-pass}
 use Rattle.model.proofs.refusals.all_bodies_present.Statement.{statement}
 use Rattle.model.proofs.refusals.all_bodies_present.Tie as tie
 

@@ -3,7 +3,7 @@ use Prim.Native.Nat.{_-_}
 use mathlib.Core.Path.{ap, _∙_}
 use borrow.Author.Needs.{needs}
 use Rattle.model.specs.Refusals.{angleFits, centerFits}
-use Rattle.model.proofs.RefusalLaws.{holds, fails, Undecided, undecided, still-undecided, one-fails, all-pass}
+use Rattle.multibody.proofs.RuleLaws.{holds, fails, Undecided, undecided, still-undecided, one-fails, all-pass}
 use Rattle.model.proofs.refusals.all_centers_fit.Statement.{statement}
 use Rattle.model.proofs.refusals.all_centers_fit.Tie as tie
 

@@ -1,7 +1,7 @@
 -- `all_finite` meets its contract: each test is tried where those before it hold.
 use borrow.Author.Needs.{needs}
 use borrow.Author.Tests.{not-true, not-false}
-use Rattle.model.proofs.RefusalLaws.{holds, fails}
+use Rattle.multibody.proofs.RuleLaws.{holds, fails}
 use Rattle.model.proofs.refusals.all_finite.Statement.{statement}
 use Rattle.model.proofs.refusals.all_finite.Tie as tie
 

@@ -2,7 +2,7 @@
 use Prim.Native.Nat.{_-_}
 use borrow.Author.Needs.{needs}
 use Rattle.model.specs.Refusals.{masksFit}
-use Rattle.model.proofs.RefusalLaws.{holds, fails, Undecided, undecided, still-undecided, one-fails, all-pass}
+use Rattle.multibody.proofs.RuleLaws.{holds, fails, Undecided, undecided, still-undecided, one-fails, all-pass}
 use Rattle.model.proofs.refusals.all_masks_fit.Statement.{statement}
 use Rattle.model.proofs.refusals.all_masks_fit.Tie as tie
 

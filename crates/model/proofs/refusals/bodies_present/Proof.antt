@@ -2,7 +2,7 @@
 use borrow.Author.Needs.{needs}
 use Rattle.multibody.specs.Refusals.{bodiesPresent}
 use Rattle.model.specs.Planar.{planar}
-use Rattle.model.proofs.RefusalLaws.{holds, fails}
+use Rattle.multibody.proofs.RuleLaws.{holds, fails}
 use Rattle.model.proofs.refusals.bodies_present.Statement.{statement}
 use Rattle.model.proofs.refusals.bodies_present.Tie as tie
 

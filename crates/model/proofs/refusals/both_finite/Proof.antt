@@ -1,5 +1,5 @@
 use borrow.Author.Needs.{needs}
-use Rattle.model.proofs.RefusalLaws.{holds, fails}
+use Rattle.multibody.proofs.RuleLaws.{holds, fails}
 use Rattle.model.proofs.refusals.both_finite.Statement.{statement}
 use Rattle.model.proofs.refusals.both_finite.Tie as tie
 

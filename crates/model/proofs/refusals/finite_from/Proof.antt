@@ -9,7 +9,7 @@ use lib.Ieee.{nan}
 use Rattle.floats.specs.Scalar.{isFinite}
 use Rattle.model.specs.Refusals.{finiteFrom}
 use Rattle.multibody.specs.Rules.{all}
-use Rattle.model.proofs.RefusalLaws.{all-next, all-over}
+use Rattle.multibody.proofs.RuleLaws.{all-next, all-over}
 use Rattle.model.proofs.refusals.finite_from.Statement.{statement}
 use Rattle.model.proofs.refusals.finite_from.Tie as tie
 

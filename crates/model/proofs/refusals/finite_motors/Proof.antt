@@ -1,6 +1,6 @@
 -- `finite_motors` meets its contract: each test is tried where those before it hold.
 use borrow.Author.Needs.{needs}
-use Rattle.model.proofs.RefusalLaws.{holds, fails}
+use Rattle.multibody.proofs.RuleLaws.{holds, fails}
 use Rattle.model.proofs.refusals.finite_motors.Statement.{statement}
 use Rattle.model.proofs.refusals.finite_motors.Tie as tie
 

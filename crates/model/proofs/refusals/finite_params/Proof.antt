@@ -1,7 +1,7 @@
 -- `finite_params` meets its contract: each test is tried where those before it hold.
 use borrow.Author.Needs.{needs}
 use Rattle.multibody.specs.Refusals.{finiteParams}
-use Rattle.model.proofs.RefusalLaws.{holds, fails}
+use Rattle.multibody.proofs.RuleLaws.{holds, fails}
 use Rattle.model.proofs.refusals.finite_params.Statement.{statement}
 use Rattle.model.proofs.refusals.finite_params.Tie as tie
 

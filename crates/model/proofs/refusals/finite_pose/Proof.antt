@@ -1,7 +1,7 @@
 -- `finite_pose` meets its contract: each test is tried where those before it hold.
 use borrow.Author.Needs.{needs}
 use Rattle.model.specs.Refusals.{finitePose}
-use Rattle.model.proofs.RefusalLaws.{holds, fails}
+use Rattle.multibody.proofs.RuleLaws.{holds, fails}
 use Rattle.model.proofs.refusals.finite_pose.Statement.{statement}
 use Rattle.model.proofs.refusals.finite_pose.Tie as tie
 

@@ -16,8 +16,8 @@ use Rattle.multibody.specs.Rules.{Rule, rule, refusal, all, atMost}
 use Rattle.multibody.specs.Refusals.{finiteParams, allFinite, modelRules, modelRulesWith}
 use Rattle.model.specs.Planar.{jointRules, plane, planar}
 use Rattle.model.specs.Refusals.{finiteBody, finiteJoint, centerFits}
-use Rattle.model.proofs.CountLaws.{bodies-fit, joints-words, joints-numbers}
-use Rattle.model.proofs.RefusalLaws.{holds, fails, no-rules, rule-holds, rule-fails, granted-append, refused-append}
+use Rattle.multibody.proofs.CountLaws.{bodies-fit, joints-words, joints-numbers}
+use Rattle.multibody.proofs.RuleLaws.{holds, fails, no-rules, rule-holds, rule-fails, granted-append, refused-append}
 use Rattle.model.proofs.refusals.first_refusal.Statement.{statement}
 use Rattle.model.proofs.refusals.first_refusal.Tie as tie
 
@@ -117,7 +117,7 @@ returns-2 c header arguments d f =
     many-joints (modelOf header (a .bodies .now) (a .words .now) (a .numbers .now)) arguments (a .handed) (a .room) (jc .before .body-count .ensures) (jc .joint-count .ensures) (c .before .if1 .left) (c .if2 .taken)
 
 joints-refusal-requires : tie.Need-joints-refusal-requires
-joints-refusal-requires c κs = rw (c .before .before .joint-count .ensures) (joints-words _ _)
+joints-refusal-requires c κs = rw (c .before .before .joint-count .ensures) (joints-words plane _ _)
 
 returns-3 : tie.Need-returns-3
 returns-3 c header arguments d f =
@@ -130,7 +130,7 @@ returns-3 c header arguments d f =
 all-finite-requires : tie.Need-all-finite-requires
 all-finite-requires c κs =
     let jc = c .before .before .before .before in
-    (rw (jc .before .body-count .ensures) (bodies-fit _), (rw (jc .joint-count .ensures) (joints-words _ _), rw (jc .joint-count .ensures) (joints-numbers _ _)))
+    (rw (jc .before .body-count .ensures) (bodies-fit plane _), (rw (jc .joint-count .ensures) (joints-words plane _ _), rw (jc .joint-count .ensures) (joints-numbers plane _ _)))
 
 returns-4 : tie.Need-returns-4
 returns-4 c header arguments d f =
@@ -145,7 +145,7 @@ returns-4 c header arguments d f =
 all-centers-fit-requires : tie.Need-all-centers-fit-requires
 all-centers-fit-requires c κs =
     let jc = c .before .before .before .before .before .before in
-    (rw (jc .joint-count .ensures) (joints-words _ _), rw (jc .joint-count .ensures) (joints-numbers _ _))
+    (rw (jc .joint-count .ensures) (joints-words plane _ _), rw (jc .joint-count .ensures) (joints-numbers plane _ _))
 
 returns-5 : tie.Need-returns-5
 returns-5 c header arguments d f =
@@ -187,7 +187,7 @@ returns-7 c header arguments d f =
     not-handed (modelOf header (a .bodies .now) (a .words .now) (a .numbers .now)) arguments (a .handed) (a .room) (jc .before .body-count .ensures) (jc .joint-count .ensures) (e2 .before .if1 .left) (e2 .if2 .left) (jr .joints-refusal .ensures) (e3 .if3 .left) f (af .all-finite .ensures) (e4 .if4 .left) (cf .all-centers-fit .ensures) (e5 .if5 .left) d (e6 .if6 .left) (not-true (a .handed) (c .if7 .taken))
 
 rows-before-requires : tie.Need-rows-before-requires
-rows-before-requires c κs = rw (c .before .before .before .before .before .before .before .before .before .before .joint-count .ensures) (joints-words _ _)
+rows-before-requires c κs = rw (c .before .before .before .before .before .before .before .before .before .before .joint-count .ensures) (joints-words plane _ _)
 
 returns-8 : tie.Need-returns-8
 returns-8 c header arguments d f =

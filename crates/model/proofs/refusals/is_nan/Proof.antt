@@ -4,7 +4,7 @@ use mathlib.Core.Bool.{true}
 use lib.Dec.{T}
 use lib.Ieee.{Float, nan, inf, fin, ne, isNan}
 use lib.Ieee.Compare.{differs-from-itself, nan-differs}
-use Rattle.model.proofs.Tests.{by-cases}
+use Rattle.multibody.proofs.Tests.{by-cases}
 use Rattle.model.proofs.refusals.is_nan.Statement.{statement}
 use Rattle.model.proofs.refusals.is_nan.Tie as tie
 

@@ -1,7 +1,7 @@
 -- `joints_refusal` meets its contract: each rule is tried where those before it hold.
 use borrow.Author.Needs.{needs}
 use Rattle.multibody.specs.Rules.{refusal}
-use Rattle.model.proofs.RefusalLaws.{holds, fails}
+use Rattle.multibody.proofs.RuleLaws.{holds, fails}
 use Rattle.model.proofs.refusals.joints_refusal.Statement.{statement}
 use Rattle.model.proofs.refusals.joints_refusal.Tie as tie
 

@@ -1,6 +1,6 @@
 -- `limit_ends` meets its contract: each test is tried where those before it hold.
 use borrow.Author.Needs.{needs}
-use Rattle.model.proofs.RefusalLaws.{holds, fails}
+use Rattle.multibody.proofs.RuleLaws.{holds, fails}
 use Rattle.model.proofs.refusals.limit_ends.Statement.{statement}
 use Rattle.model.proofs.refusals.limit_ends.Tie as tie
 

@@ -10,7 +10,7 @@ use Rattle.model.specs.Layout.{wordsWidth, masksPlace}
 use Rattle.model.specs.Records.{word}
 use Rattle.model.specs.Refusals.{allAxes, fourMasks, masksFit}
 use Rattle.multibody.specs.Rules.{all, atMost}
-use Rattle.model.proofs.RefusalLaws.{all-turn-from, all-stop, all-done}
+use Rattle.multibody.proofs.RuleLaws.{all-turn-from, all-stop, all-done}
 use Rattle.model.proofs.refusals.masks_fit.Statement.{statement}
 use Rattle.model.proofs.refusals.masks_fit.Tie as tie
 

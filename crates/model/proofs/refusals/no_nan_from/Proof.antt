@@ -8,7 +8,7 @@ use lib.ListN.{getD}
 use lib.Ieee.{nan, isNan}
 use Rattle.model.specs.Refusals.{noNanFrom}
 use Rattle.multibody.specs.Rules.{all}
-use Rattle.model.proofs.RefusalLaws.{all-next, all-over}
+use Rattle.multibody.proofs.RuleLaws.{all-next, all-over}
 use Rattle.model.proofs.refusals.no_nan_from.Statement.{statement}
 use Rattle.model.proofs.refusals.no_nan_from.Tie as tie
 

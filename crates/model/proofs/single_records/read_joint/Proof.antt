@@ -1,7 +1,8 @@
 -- `read_joint` meets its contract, by those of its parts.
 use mathlib.Core.Path.{sym, _∙_}
-use Rattle.model.proofs.CountLaws.{joint-words, joint-numbers}
+use Rattle.multibody.proofs.CountLaws.{joint-words, joint-numbers}
 use Rattle.model.proofs.SingleRecordsLaws.{joint-read, joint-absent}
+use Rattle.model.specs.Planar.{plane}
 use borrow.Author.Needs.{needs}
 use Rattle.model.proofs.single_records.read_joint.Statement.{statement}
 use Rattle.model.proofs.single_records.read_joint.Tie as tie
@@ -12,13 +13,13 @@ joint-count-requires c κs = search needs
 joint-at-requires : tie.Need-joint-at-requires
 joint-at-requires c κs =
     let h = rw (c .before .joint-count .ensures) at (c .if1 .taken) in
-    (joint-words _ _ _ h, joint-numbers _ _ _ h)
+    (joint-words plane _ _ _ h, joint-numbers plane _ _ _ h)
 
 returns : tie.Need-returns
 returns c =
     let d = c .before in
     let h = rw (d .before .joint-count .ensures) at (d .if1 .taken) in
-    c .joint-at .ensures ∙ sym (joint-read _ _ _ (joint-words _ _ _ h) (joint-numbers _ _ _ h))
+    c .joint-at .ensures ∙ sym (joint-read _ _ _ (joint-words plane _ _ _ h) (joint-numbers plane _ _ _ h))
 
 blank-joint-requires : tie.Need-blank-joint-requires
 blank-joint-requires c κs = search needs

@@ -1,5 +1,5 @@
 -- Records of w numbers, one after the other in a flat list, and a store of some of one record's numbers. The store keeps the list's length. Of its record it
--- leaves the stored numbers where they were stored, and every other number as it was; every other record it leaves whole. Stated once, over the width.
+-- leaves the stored numbers where they were stored, and every other number as it was; every other record it leaves whole, and all that stands past it (`record-past`). Stated once, over the width.
 use mathlib.Core.Path.{_≡_, refl, ap, _∙_}
 use mathlib.Core.Logic.{_≢_, _⊎_, inl, inr, ⊎-elim}
 use mathlib.Core.Bool.{Bool, true, false}
@@ -9,10 +9,10 @@ use native.Mathlib.Nat.{add-zero, suc-mul, mul-le-mul-right}
 use native.Mathlib.Omega.{arith}
 use borrow.Author.Tests.{eqb-true, eqb-false}
 use lib.Dec.{eqb}
-use lib.ListN.{length, getD, set, length-set}
-use lib.Seq.{getD-set-same, getD-set-other}
+use lib.ListN.{length, getD, set, drop, length-set}
+use lib.Seq.{getD-set-same, getD-set-other, drop-set-lt}
 use lib.Ieee.{Float, nan}
-use Rattle.model.specs.Records.{num, puts}
+use Rattle.multibody.specs.Records.{num, puts}
 
 -- ---- places of the list
 
@@ -85,3 +85,13 @@ num-beside w s vs k k′ j c within l beside = go (eqb k′ k) refl
     go : (t : Bool) → eqb k′ k ≡ t → num w (puts s (k * w) j vs) k′ c ≡ num w s k′ c
     go true e = rw (eqb-true k′ k e) (⊎-elim (λ h. num-before w s vs k j c h) (λ h. num-past w s vs k j c h) beside)
     go false e = num-other w s vs k k′ j c (eqb-false k′ k e) within l
+
+-- ---- past the record
+
+puts-past : (vs s : List Float) (o j n : ℕ) → o + j + length vs ≤ n → drop n (puts s o j vs) ≡ drop n s
+puts-past [] s o j n h = refl
+puts-past (v ∷ vs) s o j n h = puts-past vs (set s (o + j) v) o (suc j) n (omega arith) ∙ drop-set-lt n s (o + j) v (omega arith)
+
+-- what stands from a later record on
+pub record-past : (w : ℕ) (s vs : List Float) (k t : ℕ) → length vs ≤ w → k < t → drop (t * w) (puts s (k * w) 0 vs) ≡ drop (t * w) s
+record-past w s vs k t l h = puts-past vs s (k * w) 0 (t * w) (omega (arith, mul-le-mul-right w h, suc-mul k w))
