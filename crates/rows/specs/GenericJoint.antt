@@ -39,10 +39,10 @@ isEnabled DisabledByAttachedBody = false
 isEnabled Disabled = false
 
 -- what stands past the last axis, where no row reads
-abbrev noLimits : JointLimits
+abbrev pub noLimits : JointLimits
 noLimits = record { min = nan; max = nan; impulse = nan }
 
-abbrev noMotor : JointMotor
+abbrev pub noMotor : JointMotor
 noMotor = record {
   «target_vel» = nan;
   «target_pos» = nan;

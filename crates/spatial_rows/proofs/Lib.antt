@@ -1,0 +1,7 @@
+pub mod MakerShapes
+pub mod NineRows
+pub mod RowSlotsLaws
+pub mod UpdateRows
+pub mod WarmedRows
+pub mod ListedIds
+pub mod Cases

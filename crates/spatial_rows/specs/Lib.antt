@@ -1,0 +1,13 @@
+pub mod SpatialMasks
+pub mod GenericJoint
+pub mod RowIds
+pub mod RowSlots
+pub mod Row
+pub mod Helper
+pub mod Makers
+pub mod Finalize
+pub mod Update
+pub mod Step
+pub mod Builder
+pub mod Writeback
+pub mod Cases
