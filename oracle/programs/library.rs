@@ -1,6 +1,5 @@
 //! The functions on rows, as each side of a comparison has them, and one call of any of them.
 
-use crate::bits::bits;
 use crate::rendering;
 use rapier2d::pipeline::rows as ours;
 
@@ -22,48 +21,7 @@ pub enum Function {
     Reaction,
 }
 
-/// What a call is handed: words and numbers to read, then lent storage, which it may write. A
-/// function that has no use for one of them gets it empty.
-#[derive(Clone)]
-pub struct Call {
-    pub function: Function,
-    pub words: Vec<u32>,
-    pub numbers: Vec<f32>,
-    /// Rows, a row, a joint's numbers or a leaf's results.
-    pub lent: Vec<f32>,
-    pub vels: Vec<f32>,
-    pub ids: Vec<u32>,
-    /// What `Build` and `Reaction` return, and which bound a `Step` met; 0 for the others.
-    pub count: usize,
-    /// Whether something was written outside the lent storage.
-    pub outside: bool,
-}
-
-impl Call {
-    pub fn new(function: Function, words: &[u32], numbers: &[f32], lent: &[f32]) -> Call {
-        Call {
-            function,
-            words: words.to_vec(),
-            numbers: numbers.to_vec(),
-            lent: lent.to_vec(),
-            vels: Vec::new(),
-            ids: Vec::new(),
-            count: 0,
-            outside: false,
-        }
-    }
-
-    /// Whether both left the same: in bits with all NaNs as one, written or not.
-    pub fn agrees(&self, other: &Call) -> bool {
-        let same = |a: &[f32], b: &[f32]| a.iter().map(|x| bits(*x)).eq(b.iter().map(|x| bits(*x)));
-        same(&self.lent, &other.lent)
-            && same(&self.vels, &other.vels)
-            && self.ids == other.ids
-            && self.count == other.count
-            && self.outside == other.outside
-    }
-}
-
+pub type Call = crate::call::Call<Function>;
 pub type Library = fn(&mut Call);
 
 /// The call as a module of Rust functions makes it.

@@ -63,6 +63,7 @@ mod sines;
 #[path = "model/run.rs"]
 mod run;
 mod studies;
+mod tame;
 #[path = "model/study.rs"]
 mod study;
 #[path = "model/study_runs.rs"]

@@ -11,6 +11,7 @@
 //!   rows momentum SEED COUNT       how far a step moves the exact momentum sum, beside R-13's bound
 
 mod bits;
+mod call;
 mod cases;
 mod catalogue;
 mod draw;
@@ -21,6 +22,7 @@ mod momentum;
 mod rendering;
 mod run;
 mod studies;
+mod tame;
 mod wide;
 
 use library::Library;

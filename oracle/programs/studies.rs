@@ -3,10 +3,11 @@
 //! purpose.
 
 use crate::draw::Draw;
+use crate::tame::{self, E, motor, upset};
+pub use crate::tame::{coefficient, settings};
 use rapier2d::pipeline::leaves;
 
 const PI: f32 = f32::from_bits(0x4049_0FDB);
-const E: f32 = f32::from_bits(0x1E3C_E508);
 
 /// The words and numbers of `katydidzinc_rows_build`.
 pub struct Study {
@@ -28,63 +29,6 @@ pub fn masks(choice: u32) -> [u32; 4] {
 }
 
 impl Draw {
-    pub fn one_in(&mut self, n: u64) -> bool {
-        self.below(n) == 0
-    }
-
-    fn zero(&mut self) -> f32 {
-        self.pick(&[0.0, -0.0])
-    }
-
-    /// Eighths up to 125, small whole numbers, anything of an ordinary size, now and then zero.
-    pub fn tame(&mut self) -> f32 {
-        match self.below(8) {
-            0 => self.zero(),
-            1 => self.below(9) as f32 - 4.0,
-            2 | 3 | 4 => (self.below(2001) as f32 - 1000.0) / 8.0,
-            5 => (self.below(2001) as f32 - 1000.0) / 1024.0,
-            _ => self.ordinary(),
-        }
-    }
-
-    /// Subnormal, tiny, near overflow, or plain bits, but a finite number.
-    pub fn finite(&mut self) -> f32 {
-        loop {
-            let x = self.number();
-            if x.is_finite() {
-                return x;
-            }
-        }
-    }
-
-    /// Stored impulses and velocities: nothing is refused.
-    pub fn free(&mut self) -> f32 {
-        if self.one_in(16) {
-            self.pick(&[
-                f32::NAN,
-                f32::INFINITY,
-                f32::NEG_INFINITY,
-                f32::MAX,
-                1.0e-40,
-            ])
-        } else {
-            self.tame()
-        }
-    }
-
-    pub fn dt(&mut self) -> f32 {
-        match self.below(16) {
-            0 => 0.0,
-            1 => -0.0,
-            2 => self.pick(&[1.0e-40, 1.0e-30, 1.0e-20, 1.0e-10]),
-            3 => self.pick(&[f32::MAX, 1.0e30, 1.0e10]),
-            4 | 5 | 6 => 1.0,
-            7 | 8 => self.ordinary().abs(),
-            9 | 10 => 1.0 / 60.0,
-            _ => 1.0 / 64.0,
-        }
-    }
-
     pub fn right_angle(&mut self) -> [f32; 2] {
         let (one, zero) = (self.pick(&[1.0, -1.0]), self.zero());
         self.pick(&[[one, zero], [zero, one]])
@@ -104,15 +48,6 @@ impl Draw {
                 let (sine, cosine) = (self.below(6284) as f64 / 1000.0).sin_cos();
                 [cosine as f32, sine as f32]
             }
-        }
-    }
-
-    fn inverse_mass(&mut self) -> f32 {
-        match self.below(8) {
-            0 => 0.0,
-            1 => self.tame(),
-            2 | 3 => self.tame().abs(),
-            _ => self.pick(&[1.0, 0.5, 0.25, 2.0, 8.0, 0.1]),
         }
     }
 
@@ -137,65 +72,6 @@ impl Draw {
             _ => self.inverse_mass(),
         };
         [re, im, self.tame(), self.tame(), ii, x, y]
-    }
-
-    fn max_force(&mut self) -> f32 {
-        match self.below(12) {
-            0 => f32::INFINITY,
-            1 => f32::NEG_INFINITY,
-            2 => self.zero(),
-            3 => -self.tame().abs(),
-            4 => self.pick(&[1.0e-40, -f32::MAX, 1.0e30]),
-            5 | 6 | 7 => f32::MAX,
-            _ => self.tame().abs(),
-        }
-    }
-
-    /// Stiffness and damping.
-    fn stiffness(&mut self) -> [f32; 2] {
-        match self.below(12) {
-            0 => [0.0, E],
-            1 => [E, 0.0],
-            2 => [0.0, 0.0],
-            3 => [self.tame(), self.tame()],
-            4 | 5 => [0.0, self.tame().abs()],
-            6 => [self.tame().abs(), 0.0],
-            _ => [self.tame().abs(), self.tame().abs()],
-        }
-    }
-
-    fn softness(&mut self) -> [f32; 2] {
-        match self.below(8) {
-            0 => [self.tame(), self.tame()],
-            1 => [0.0, 1.0],
-            2 => [self.tame().abs(), 0.0],
-            3 | 4 => [self.tame().abs(), self.tame().abs()],
-            _ => [1.0e6, 1.0],
-        }
-    }
-
-    /// The ends of a limit on a joint that stands at `at`.
-    fn limit(&mut self, at: f32) -> [f32; 2] {
-        let (a, b) = (self.tame(), self.tame());
-        let (low, high) = if a < b { (a, b) } else { (b, a) };
-        match self.below(16) {
-            0 => [at, at],
-            1 => [at, high.max(at)],
-            2 => [low.min(at), at],
-            3 => [self.near(at.to_bits(), 1), self.near(at.to_bits(), 1)],
-            4 => [high, low],
-            5 => [f32::NEG_INFINITY, f32::INFINITY],
-            6 => [f32::NEG_INFINITY, b],
-            7 => [a, f32::INFINITY],
-            8 => {
-                let end = [f32::INFINITY, f32::NEG_INFINITY, b];
-                [self.pick(&end), self.pick(&end)]
-            }
-            9 => [-f32::MAX, f32::MAX],
-            10 => [at - 1.0, at + 1.0],
-            11 => [-1.0e-40 * self.tame(), 1.0e-40 * self.tame()],
-            _ => [low, high],
-        }
     }
 
     /// The ends of a limit on an angle that stands at `at` from the limit's centre.
@@ -262,24 +138,6 @@ fn place(body1: &[f32], body2: &[f32], joint: &[f32], coupled: u32) -> Place {
     }
 }
 
-/// How wild a study is.
-enum Mood {
-    Tame,
-    /// A few finite numbers, anywhere, are hostile.
-    Few,
-    /// One number in four is, and one study in eight of these has NaNs and infinities among them.
-    Wild,
-}
-
-/// dt, `length_unit`, `normalized_max_corrective_velocity`.
-pub fn settings(d: &mut Draw) -> [f32; 3] {
-    [
-        d.dt(),
-        d.pick(&[1.0, 1.0, 100.0, 0.01, 0.0, -1.0]),
-        d.pick(&[3.0, 3.0, 0.0, -3.0, f32::MAX, 1.0e-3, 1.0e6]),
-    ]
-}
-
 /// A joint's numbers without its limit ends, which `aim` draws.
 pub fn joint(d: &mut Draw, straight: bool) -> [f32; 42] {
     let mut joint = [0.0; 42];
@@ -295,12 +153,7 @@ pub fn joint(d: &mut Draw, straight: bool) -> [f32; 42] {
     for i in 0..3 {
         joint[10 + 3 * i] = d.free();
         joint[37 + i] = d.free();
-        let motor = &mut joint[17 + 6 * i..][..6];
-        motor[0] = d.tame();
-        motor[1] = d.tame();
-        motor[2..4].copy_from_slice(&d.stiffness());
-        motor[4] = d.max_force();
-        motor[5] = d.free();
+        joint[17 + 6 * i..][..6].copy_from_slice(&motor(d));
     }
     let [re, im] = if straight {
         d.right_angle()
@@ -336,13 +189,6 @@ pub fn aim(d: &mut Draw, body1: &[f32], body2: &[f32], joint: &mut [f32], couple
     }
 }
 
-pub fn coefficient(d: &mut Draw) -> f32 {
-    match d.below(4) {
-        0 => d.tame(),
-        _ => d.pick(&[1.0, 1.0, 0.5, 0.0, -0.0]),
-    }
-}
-
 pub fn study(d: &mut Draw, choice: u32) -> Study {
     let [locked, limit, motor, coupled] = masks(choice);
     let models = [0; 3].map(|_| d.below(2) as u32);
@@ -358,27 +204,7 @@ pub fn study(d: &mut Draw, choice: u32) -> Study {
     n[10..17].copy_from_slice(&d.body(straight));
     n[JOINT..JOINT + 42].copy_from_slice(&joint(d, straight));
 
-    let mood = match d.below(8) {
-        0 | 1 => Mood::Few,
-        2 => Mood::Wild,
-        _ => Mood::Tame,
-    };
-    match mood {
-        Mood::Tame => {}
-        Mood::Few => {
-            for _ in 0..1 + d.below(3) {
-                n[d.below(60) as usize] = d.finite();
-            }
-        }
-        Mood::Wild => {
-            let all = d.one_in(8);
-            for x in &mut n {
-                if d.one_in(4) {
-                    *x = if all { d.number() } else { d.finite() };
-                }
-            }
-        }
-    }
+    upset(d, &mut n);
 
     let (bodies, rest) = n.split_at_mut(JOINT);
     aim(d, &bodies[3..10], &bodies[10..17], &mut rest[..42], coupled);
@@ -386,41 +212,15 @@ pub fn study(d: &mut Draw, choice: u32) -> Study {
     Study { words, numbers: n }
 }
 
-/// A row of no joint: tame or anything, with bounds that steps and locks look at.
+/// A row of no joint.
 pub fn any_row(d: &mut Draw) -> [f32; 18] {
-    let wild = d.one_in(4);
-    let mut row = [0.0; 18].map(|_| {
-        if wild && d.one_in(3) {
-            d.number()
-        } else {
-            d.tame()
-        }
-    });
-    if d.one_in(8) {
-        // Rows whose dot with themselves is 1e-20.
+    tame::any_row(d, |d, row| {
         row[3..9].copy_from_slice(&[0.0, 0.0, 1.0, 1.0, E, 0.0]);
         row[13] = d.zero();
         row[12] = d.zero();
-    }
-    let [low, high] = [d.tame(), d.tame()];
-    let bounds = [
-        [-f32::MAX, f32::MAX],
-        [-f32::MAX, f32::MAX],
-        [f32::NEG_INFINITY, f32::INFINITY],
-        [0.0, f32::INFINITY],
-        [0.0, 0.0],
-        [-high.abs(), high.abs()],
-        [low, high],
-        [row[1], row[2]],
-    ];
-    row[1..3].copy_from_slice(&d.pick(&bounds));
-    row
+    })
 }
 
 pub fn vels(d: &mut Draw) -> [f32; 6] {
-    if d.one_in(8) {
-        [0.0; 6].map(|_| d.free())
-    } else {
-        [0.0; 6].map(|_| d.tame())
-    }
+    tame::vels(d)
 }

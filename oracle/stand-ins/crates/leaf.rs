@@ -42,6 +42,12 @@ pub fn signum(x: f32) -> f32 {
     }
 }
 
+/// The size of x with the other's sign bit; a sign copied from NaN is plus (request R-14).
+pub fn copysign(x: f32, sign: f32) -> f32 {
+    let sign = if is_nan(sign) { 0 } else { sign.to_bits() & SIGN };
+    f32::from_bits(x.to_bits() & !SIGN | sign)
+}
+
 pub fn abs(x: f32) -> f32 {
     f32::from_bits(x.to_bits() & !SIGN)
 }

@@ -41,6 +41,16 @@ pub mod math {
             self.x * rhs.x + self.y * rhs.y
         }
 
+        /// The product component by component.
+        pub fn each(self, rhs: Vec2) -> Vec2 {
+            Vec2::new(self.x * rhs.x, self.y * rhs.y)
+        }
+
+        /// The cross matrix of a planar vector, itself a vector: (p, q) gives (−q, p).
+        pub fn cross_matrix(self) -> Vec2 {
+            Vec2::new(-self.y, self.x)
+        }
+
         pub fn length(self) -> f32 {
             leaf::sqrt(self.dot(self))
         }
@@ -243,6 +253,14 @@ pub mod math {
     impl Mat2 {
         pub fn from_cols(x_axis: Vec2, y_axis: Vec2) -> Mat2 {
             Mat2 { x_axis, y_axis }
+        }
+
+        pub fn col(&self, i: usize) -> Vec2 {
+            match i {
+                0 => self.x_axis,
+                1 => self.y_axis,
+                _ => panic!("a matrix has two columns"),
+            }
         }
     }
 

@@ -59,6 +59,9 @@ pub mod simd {
         fn simd_sqrt(self) -> Self;
         /// `im.simd_atan2(re)`: the angle of (re, im).
         fn simd_atan2(self, other: Self) -> Self;
+        fn simd_copysign(self, sign: Self) -> Self;
+        /// Asked for by angular motors in space, which no joint has.
+        fn simd_asin(self) -> Self;
     }
 
     impl SimdValue for f32 {
@@ -124,6 +127,12 @@ pub mod simd {
         }
         fn simd_atan2(self, other: f32) -> f32 {
             leaf::angle(other, self)
+        }
+        fn simd_copysign(self, sign: f32) -> f32 {
+            leaf::copysign(self, sign)
+        }
+        fn simd_asin(self) -> f32 {
+            unreachable!("no spatial joint has an angular motor")
         }
     }
 
@@ -258,6 +267,8 @@ pub mod simd {
             simd_signum() -> Self,
             simd_sqrt() -> Self,
             simd_atan2(Self) -> Self,
+            simd_copysign(Self) -> Self,
+            simd_asin() -> Self,
         );
         fn simd_two_pi() -> Self {
             left_out()

@@ -63,6 +63,10 @@ impl RigidBody {
     pub fn is_sleeping(&self) -> bool {
         unreachable!("solver bodies are given by their numbers")
     }
+
+    pub fn angvel(&self) -> AngVector {
+        unreachable!("solver bodies are given by their numbers")
+    }
 }
 
 impl Default for RigidBody {

@@ -8,16 +8,19 @@ use crate::dynamics::JointGraphEdge;
 use crate::dynamics::solver::joint_constraint::{
     JointConstraint, JointConstraintBuilder, WritebackId, tried,
 };
-use crate::dynamics::solver::solver_body::{SolverBodies, SolverPose, SolverVel};
-use crate::math::{Real, Rotation, Vector};
+use crate::dynamics::solver::solver_body::SolverBodies;
+#[cfg(feature = "dim2")]
+use crate::dynamics::solver::solver_body::{SolverPose, SolverVel};
+use crate::math::Real;
+#[cfg(feature = "dim2")]
+use crate::math::{Rotation, Vector};
+#[cfg(feature = "dim2")]
 use crate::utils::SimdLength;
 
 /// A body's numbers as in `records`, then its velocity.
 pub const BODY: usize = records::BODY + VEL;
-/// The numbers of a joint's two bodies, u32::MAX for the world, its words as in `records`, its
-/// `JointEnabled`, then how its centre is typed, which is not looked at here (the centre comes as
-/// cosine and sine), and its first row, which is not looked at either (the Rust counts its own).
-pub const WORDS: usize = 2 + JOINT_WORDS + 3;
+/// The numbers of a joint's two bodies, u32::MAX for the world, its words as in `records`, its `JointEnabled`, and in the plane two more.
+pub const WORDS: usize = records::MODEL_WORDS;
 
 fn solver_bodies(bodies: &[Real]) -> SolverBodies {
     let mut all = SolverBodies::default();
@@ -46,7 +49,7 @@ fn edges(words: &[u32], numbers: &[Real]) -> Vec<JointGraphEdge> {
     joints.map(|(w, n)| edge(w, n)).collect()
 }
 
-/// The ids that `update` gives a joint's rows, 4·kind + axis each. A joint that is not enabled is
+/// The ids that `update` gives a joint's rows, as `records` numbers them. A joint that is not enabled is
 /// not among those that the Rust hands to its solver.
 pub fn row_ids(words: &[u32]) -> Vec<u32> {
     let data = edge(words, &[0.0; JOINT]).weight.data;
@@ -155,6 +158,7 @@ pub fn solve(bodies: &mut [Real], words: &[u32], rows: &mut [Real], rounds: u32)
 }
 
 /// A body's pose after a time h, by the stand-ins for vectors; the old rotation where the new one has no length.
+#[cfg(feature = "dim2")]
 fn advance_one(pose: &mut SolverPose<Real>, vel: &SolverVel<Real>, h: Real) {
     let a = vel.angular * h;
     let Rotation { re, im } = pose.rotation;
@@ -170,12 +174,14 @@ fn advance_one(pose: &mut SolverPose<Real>, vel: &SolverVel<Real>, h: Real) {
     pose.translation = pose.translation + vel.linear * h;
 }
 
+#[cfg(feature = "dim2")]
 fn place_of(pose: &SolverPose<Real>) -> [Real; 4] {
     let (rotation, translation) = (pose.rotation, pose.translation);
     [rotation.re, rotation.im, translation.x, translation.y]
 }
 
 /// Every body's new pose after a time h, in ascending order; false at the first that is not finite, which ends it.
+#[cfg(feature = "dim2")]
 pub fn advance(bodies: &mut [Real], h: Real) -> bool {
     for n in bodies.chunks_exact_mut(BODY) {
         let mut pose = records::body(n);
@@ -281,6 +287,7 @@ impl Prepared {
     }
 
     /// A frame whose new poses are finite.
+    #[cfg(feature = "dim2")]
     pub fn frame(&mut self, warmstart: Option<Real>, rounds: u32, substeps: u32) {
         let dt = self.settings[0];
         let h = dt / substeps as Real;
@@ -302,6 +309,7 @@ impl Prepared {
 
     /// As the model's storage has them.
     pub fn left(&self, bodies: &mut [Real], numbers: &mut [Real], rows: &mut [Real]) {
+        #[cfg(feature = "dim2")]
         for (pose, n) in self.bodies.poses.iter().zip(bodies.chunks_exact_mut(BODY)) {
             n[..4].copy_from_slice(&place_of(pose));
         }

@@ -1,13 +1,15 @@
 //! One joint's rows: building, warm start, step, bias removal, write-back, and their leaves.
 
 use super::records::{self, BODY, JOINT, JOINT_WORDS, ROW, SETTINGS, VEL, WORLD};
+#[cfg(feature = "dim2")]
+use crate::dynamics::solver::joint_constraint::AngularLimitParams;
 use crate::dynamics::solver::joint_constraint::{
-    AngularLimitParams, JointConstraint, JointConstraintBuilder, JointConstraintHelper, MAX_ROWS,
-    blank,
+    JointConstraint, JointConstraintBuilder, JointConstraintHelper, MAX_ROWS, blank,
 };
 use crate::dynamics::solver::solver_body::{SolverBodies, SolverVel};
 use crate::dynamics::{JointMotor, RigidBodySet, SpringCoefficients};
-use crate::math::Real;
+use crate::math::{Real, SPATIAL_DIM};
+#[cfg(feature = "dim2")]
 use crate::utils::MatrixColumn;
 
 /// A joint's words, then whether a warm coefficient is given, then the substep.
@@ -17,6 +19,7 @@ pub const NUMBERS: usize = SETTINGS + 2 * BODY + JOINT + 1;
 pub const ROWS: usize = MAX_ROWS * ROW;
 
 /// Two bodies' linear x, y and angular; along x, y; moment.
+#[cfg(feature = "dim2")]
 pub const REACTION: usize = 9;
 
 const JOINT_AT: usize = SETTINGS + 2 * BODY;
@@ -34,13 +37,16 @@ pub(crate) fn generated(
     // Each field of the struct has zero bits among its values; `generate` writes them all.
     let mut builder: JointConstraintBuilder = unsafe { core::mem::zeroed() };
     let mut edge = records::joint(words, n, bodies);
-    for i in 0..3 {
+    for i in 0..SPATIAL_DIM {
         edge.weight.data.limits[i].impulse = 0.0;
         edge.weight.data.motors[i].impulse = 0.0;
         edge.weight.impulses[i] = 0.0;
     }
-    let (cosine, sine) = records::centre(n);
-    simba::scalar::hand_over_centre(cosine, sine);
+    #[cfg(feature = "dim2")]
+    {
+        let (cosine, sine) = records::centre(n);
+        simba::scalar::hand_over_centre(cosine, sine);
+    }
     JointConstraintBuilder::generate(
         &edge.weight,
         &RigidBodySet(Default::default()),
@@ -48,6 +54,7 @@ pub(crate) fn generated(
         &mut builder,
         next_row,
     );
+    #[cfg(feature = "dim2")]
     simba::scalar::take_back_centre();
     builder
 }
@@ -119,6 +126,7 @@ pub fn residual(n: &[Real], vels: &[Real]) -> Real {
 
 /// What a joint's rows gave its two bodies (linear x, y and angular, of body 1 and then of body 2), body 1's linear part along
 /// the Rust's basis, and the moment at frame 2's place. The bodies' numbers begin with their poses, and the joint's with its frames.
+#[cfg(feature = "dim2")]
 pub fn reaction(body1: &[Real], body2: &[Real], joint: &[Real], rows: &[Real]) -> [Real; REACTION] {
     let (pose1, pose2) = (records::body(body1), records::body(body2));
     let data = records::joint(&[0; JOINT_WORDS], joint, [0, 1]).weight.data;
@@ -217,6 +225,7 @@ pub fn max_impulse(max_force: Real, dt: Real) -> Real {
 }
 
 /// Centre's cosine and sine, half range.
+#[cfg(feature = "dim2")]
 pub fn angular_limit(min: Real, max: Real, cosine: Real, sine: Real) -> [Real; 3] {
     simba::scalar::hand_over_centre(cosine, sine);
     let limit = AngularLimitParams::new(min, max);

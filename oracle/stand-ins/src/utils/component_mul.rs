@@ -1,6 +1,6 @@
 //! The product of two vectors, component by component.
 
-use crate::math::{SimdReal, Vector};
+use crate::math::{SimdReal, SimdVector, Vector};
 
 /// The product component by component.
 pub trait ComponentMul {
@@ -9,11 +9,11 @@ pub trait ComponentMul {
 
 impl ComponentMul for Vector {
     fn component_mul(&self, rhs: &Vector) -> Vector {
-        Vector::new(self.x * rhs.x, self.y * rhs.y)
+        self.each(*rhs)
     }
 }
 
-impl ComponentMul for na::Vector2<SimdReal> {
+impl ComponentMul for SimdVector<SimdReal> {
     fn component_mul(&self, _: &Self) -> Self {
         unreachable!("the lane form is left out")
     }

@@ -1,4 +1,4 @@
-//! Only the dim3 branches copy a sign.
+//! The rows copy a sign by simba's `simd_copysign`, in the dim3 branches alone.
 
-/// Named by the Rust, used by no planar row.
+/// Named by the Rust, used by no row.
 pub trait CopySign {}

@@ -1,6 +1,6 @@
 //! The cross products are asked for by `ScalarType`'s bounds alone.
 
-use crate::math::{Real, SimdReal, Vector};
+use crate::math::{AngVector, Real, SimdAngVector, SimdReal, SimdVector, Vector};
 
 /// The cross product.
 pub trait CrossProduct<Rhs> {
@@ -13,14 +13,14 @@ macro_rules! unused(
         impl CrossProduct<$Right> for $Left {
             type Result = $Result;
             fn gcross(&self, _: $Right) -> $Result {
-                unreachable!("no planar row takes a cross product")
+                unreachable!("no row takes a cross product")
             }
         }
     )*}
 );
 unused!(
     Real, Vector, Vector;
-    Vector, Vector, Real;
-    SimdReal, na::Vector2<SimdReal>, na::Vector2<SimdReal>;
-    na::Vector2<SimdReal>, na::Vector2<SimdReal>, SimdReal;
+    Vector, Vector, AngVector;
+    SimdReal, SimdVector<SimdReal>, SimdVector<SimdReal>;
+    SimdVector<SimdReal>, SimdVector<SimdReal>, SimdAngVector<SimdReal>;
 );

@@ -1,6 +1,8 @@
-//! The cross matrix of a planar vector, itself a vector.
+//! The cross matrix of a vector; of a planar one it is itself a vector.
 
-use crate::math::{SimdReal, Vector};
+#[cfg(feature = "dim3")]
+use crate::math::Matrix;
+use crate::math::{SimdReal, SimdVector, Vector};
 
 /// The matrix of the cross product with a vector.
 pub trait CrossProductMatrix {
@@ -9,19 +11,28 @@ pub trait CrossProductMatrix {
     fn gcross_matrix(self) -> Self::CrossMat;
 }
 
-/// (p, q) gives (−q, p).
+#[cfg(feature = "dim2")]
+type Cross = Vector;
+#[cfg(feature = "dim3")]
+type Cross = Matrix;
+
 impl CrossProductMatrix for Vector {
-    type CrossMat = Vector;
-    type CrossMatTr = Vector;
-    fn gcross_matrix(self) -> Vector {
-        Vector::new(-self.y, self.x)
+    type CrossMat = Cross;
+    type CrossMatTr = Cross;
+    fn gcross_matrix(self) -> Cross {
+        self.cross_matrix()
     }
 }
 
-impl CrossProductMatrix for na::Vector2<SimdReal> {
-    type CrossMat = Self;
-    type CrossMatTr = Self;
-    fn gcross_matrix(self) -> Self {
+#[cfg(feature = "dim2")]
+type LaneCross = SimdVector<SimdReal>;
+#[cfg(feature = "dim3")]
+type LaneCross = crate::math::SimdMatrix<SimdReal>;
+
+impl CrossProductMatrix for SimdVector<SimdReal> {
+    type CrossMat = LaneCross;
+    type CrossMatTr = LaneCross;
+    fn gcross_matrix(self) -> LaneCross {
         unreachable!("the lane form is left out")
     }
 }

@@ -1,6 +1,6 @@
 //! Dot products and lengths.
 
-use crate::math::{Real, SimdReal, Vector};
+use crate::math::{Real, SimdReal, SimdVector, Vector};
 use simba::simd::SimdRealField;
 
 /// The dot product.
@@ -15,7 +15,7 @@ pub trait SimdLength {
     fn simd_length(&self) -> Self::Result;
 }
 
-/// Two products, one sum.
+/// A product for each component, summed from the left.
 impl DotProduct<Vector> for Vector {
     type Result = Real;
     fn gdot(&self, rhs: Vector) -> Real {
@@ -23,7 +23,7 @@ impl DotProduct<Vector> for Vector {
     }
 }
 
-/// Angular vectors are single numbers: one product.
+/// Planar angular vectors are single numbers: one product.
 impl DotProduct<Real> for Real {
     type Result = Real;
     fn gdot(&self, rhs: Real) -> Real {
@@ -31,7 +31,7 @@ impl DotProduct<Real> for Real {
     }
 }
 
-impl DotProduct<na::Vector2<SimdReal>> for na::Vector2<SimdReal> {
+impl DotProduct<SimdVector<SimdReal>> for SimdVector<SimdReal> {
     type Result = SimdReal;
     fn gdot(&self, _: Self) -> SimdReal {
         unreachable!("the lane form is left out")

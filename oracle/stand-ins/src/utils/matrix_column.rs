@@ -1,6 +1,6 @@
 //! The columns of a matrix.
 
-use crate::math::{Matrix, SimdReal, Vector};
+use crate::math::{Matrix, SimdMatrix, SimdReal, SimdVector, Vector};
 
 /// The columns of a matrix.
 pub trait MatrixColumn {
@@ -11,17 +11,13 @@ pub trait MatrixColumn {
 impl MatrixColumn for Matrix {
     type Column = Vector;
     fn column(&self, i: usize) -> Vector {
-        match i {
-            0 => self.x_axis,
-            1 => self.y_axis,
-            _ => panic!("a matrix has two columns"),
-        }
+        self.col(i)
     }
 }
 
-impl MatrixColumn for na::Matrix2<SimdReal> {
-    type Column = na::Vector2<SimdReal>;
-    fn column(&self, _: usize) -> na::Vector2<SimdReal> {
+impl MatrixColumn for SimdMatrix<SimdReal> {
+    type Column = SimdVector<SimdReal>;
+    fn column(&self, _: usize) -> SimdVector<SimdReal> {
         unreachable!("the lane form is left out")
     }
 }

@@ -1,6 +1,7 @@
 //! Bases are asked for by `ScalarType`'s bounds and by the joint constructors alone.
 
-use crate::math::{SimdReal, Vector};
+use crate::math::{SimdReal, SimdVector, Vector};
+use crate::utils::DIM_MINUS_ONE;
 
 /// A basis of what is orthogonal to a vector.
 pub trait OrthonormalBasis: Sized {
@@ -9,15 +10,15 @@ pub trait OrthonormalBasis: Sized {
 }
 
 impl OrthonormalBasis for Vector {
-    type Basis = [Vector; 1];
-    fn orthonormal_basis(self) -> [Vector; 1] {
-        unreachable!("no planar row completes a basis")
+    type Basis = [Vector; DIM_MINUS_ONE];
+    fn orthonormal_basis(self) -> [Vector; DIM_MINUS_ONE] {
+        unreachable!("no row completes a basis")
     }
 }
 
-impl OrthonormalBasis for na::Vector2<SimdReal> {
-    type Basis = [Self; 1];
-    fn orthonormal_basis(self) -> [Self; 1] {
+impl OrthonormalBasis for SimdVector<SimdReal> {
+    type Basis = [Self; DIM_MINUS_ONE];
+    fn orthonormal_basis(self) -> [Self; DIM_MINUS_ONE] {
         unreachable!("the lane form is left out")
     }
 }

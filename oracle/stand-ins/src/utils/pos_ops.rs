@@ -1,6 +1,6 @@
 //! The two parts of a pose.
 
-use crate::math::{Pose, Real, Rotation, SimdReal, Vector};
+use crate::math::{Pose, Real, Rotation, SimdPose, SimdReal, SimdRotation, SimdVector, Vector};
 use crate::utils::ScalarType;
 
 /// The two parts of a pose.
@@ -22,14 +22,14 @@ impl PoseOps<Real> for Pose {
     }
 }
 
-impl PoseOps<SimdReal> for na::Isometry2<SimdReal> {
-    fn rotation(&self) -> na::UnitComplex<SimdReal> {
+impl PoseOps<SimdReal> for SimdPose<SimdReal> {
+    fn rotation(&self) -> SimdRotation<SimdReal> {
         unreachable!("the lane form is left out")
     }
-    fn translation(&self) -> na::Vector2<SimdReal> {
+    fn translation(&self) -> SimdVector<SimdReal> {
         unreachable!("the lane form is left out")
     }
-    fn set_translation(&mut self, _: na::Vector2<SimdReal>) {
+    fn set_translation(&mut self, _: SimdVector<SimdReal>) {
         unreachable!("the lane form is left out")
     }
 }

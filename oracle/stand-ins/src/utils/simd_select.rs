@@ -1,4 +1,9 @@
-//! Only the dim3 branches select whole vectors.
+//! Whole vectors are selected by the lane form alone.
 
-/// Named by the Rust, used by no planar row.
+use crate::math::{Real, SimdReal, SimdVector, Vector};
+
+/// Named by the Rust, used by no scalar row.
 pub trait SimdSelect<N> {}
+
+impl SimdSelect<Real> for Vector {}
+impl SimdSelect<SimdReal> for SimdVector<SimdReal> {}

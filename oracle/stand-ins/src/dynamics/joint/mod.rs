@@ -15,4 +15,4 @@ macro_rules! seen_as(
         pub struct $Joint(GenericJoint);
     )*}
 );
-seen_as!(FixedJoint PrismaticJoint RevoluteJoint RopeJoint);
+seen_as!(FixedJoint PrismaticJoint RevoluteJoint RopeJoint SphericalJoint);

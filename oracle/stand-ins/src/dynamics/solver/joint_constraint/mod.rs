@@ -11,10 +11,13 @@ pub(crate) use joint_velocity_constraint::{
 };
 
 use crate::dynamics::{GenericJoint, ImpulseJoint, IntegrationParameters, RigidBody};
-use crate::math::{Pose, Real};
+use crate::math::{ANG_DIM, Pose, Real};
 
-/// The most rows that one joint makes.
+/// The most rows that one joint makes: in space without coupled axes, and with limits and motors on linear axes alone.
+#[cfg(feature = "dim2")]
 pub(crate) const MAX_ROWS: usize = 6;
+#[cfg(feature = "dim3")]
+pub(crate) const MAX_ROWS: usize = 9;
 
 /// A row before anything is built in it.
 pub(crate) fn blank() -> JointConstraint<Real, 1> {
@@ -25,10 +28,10 @@ pub(crate) fn blank() -> JointConstraint<Real, 1> {
         impulse: 0.0,
         impulse_bounds: [0.0; 2],
         lin_jac: Default::default(),
-        ang_jac1: 0.0,
-        ang_jac2: 0.0,
-        ii_ang_jac1: 0.0,
-        ii_ang_jac2: 0.0,
+        ang_jac1: Default::default(),
+        ang_jac2: Default::default(),
+        ii_ang_jac1: Default::default(),
+        ii_ang_jac2: Default::default(),
         inv_lhs: 0.0,
         rhs: 0.0,
         rhs_wo_bias: 0.0,
@@ -56,7 +59,7 @@ pub(crate) fn tried(joint: &GenericJoint) -> ([JointConstraint<Real, 1>; MAX_ROW
         &Pose::IDENTITY,
         &Pose::IDENTITY,
         joint,
-        &[limit],
+        &[limit; ANG_DIM],
         &mut rows,
     );
     (rows, count)

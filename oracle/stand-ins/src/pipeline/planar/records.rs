@@ -15,6 +15,9 @@ pub const SETTINGS: usize = 3;
 pub const BODY: usize = 7;
 /// Locked, limit, motor and coupled mask; motor models of axes 0, 1, 2.
 pub const JOINT_WORDS: usize = 7;
+/// Of a joint of a model: two bodies before these; after them `JointEnabled`, then how its centre is typed, which is not looked at here (the
+/// centre comes as cosine and sine), and its first row, which is not looked at either (the Rust counts its own).
+pub const MODEL_WORDS: usize = 2 + JOINT_WORDS + 3;
 /// Frames 1 and 2 (re, im, x, y each); limits of axes 0, 1, 2 (min, max, impulse each); motors
 /// of axes 0, 1, 2 (`target_vel`, `target_pos`, stiffness, damping, `max_force`, impulse each);
 /// `natural_frequency`, `damping_ratio`; Dof impulses 0, 1, 2; centre (cosine, sine).
