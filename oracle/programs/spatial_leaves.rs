@@ -9,8 +9,6 @@
 
 mod bits;
 mod draw;
-#[cfg(rattle)]
-mod fenced;
 #[path = "../spatial_rendering.rs"]
 mod spatial_rendering;
 
@@ -94,58 +92,87 @@ fn rendered(leaf: usize, x: &[f32; INPUTS]) -> Vec<f32> {
     }
 }
 
+/// The library's functions take and return structs of floats by value, as C passes them: a vector is three numbers, a rotation four, an inertia six, a
+/// pose seven and a matrix nine, by its columns.
+#[cfg(rattle)]
+mod exported {
+    #[repr(C)]
+    #[derive(Copy, Clone)]
+    pub struct Numbers<const N: usize>(pub [f32; N]);
+
+    pub fn numbers<const N: usize>(x: &[f32], from: usize) -> Numbers<N> {
+        Numbers(std::array::from_fn(|i| x[from + i]))
+    }
+
+    type Vector = Numbers<3>;
+    type Rotation = Numbers<4>;
+    type Inertia = Numbers<6>;
+    type Pose = Numbers<7>;
+    type Matrix = Numbers<9>;
+
+    unsafe extern "C" {
+        pub safe fn katydidzinc_space_vector_add(v: Vector, w: Vector) -> Vector;
+        pub safe fn katydidzinc_space_vector_sub(v: Vector, w: Vector) -> Vector;
+        pub safe fn katydidzinc_space_vector_mul(v: Vector, s: f32) -> Vector;
+        pub safe fn katydidzinc_space_vector_gdot(v: Vector, w: Vector) -> f32;
+        pub safe fn katydidzinc_space_vector_component_mul(v: Vector, w: Vector) -> Vector;
+        pub safe fn katydidzinc_space_gcross_matrix(v: Vector) -> Matrix;
+        pub safe fn katydidzinc_space_transform_vector(ii: Inertia, v: Vector) -> Vector;
+        pub safe fn katydidzinc_space_rotation_mul(a: Rotation, b: Rotation) -> Rotation;
+        pub safe fn katydidzinc_space_rotation_inverse(a: Rotation) -> Rotation;
+        pub safe fn katydidzinc_space_rotation_dot(a: Rotation, b: Rotation) -> f32;
+        pub safe fn katydidzinc_space_rotate(a: Rotation, v: Vector) -> Vector;
+        pub safe fn katydidzinc_space_to_mat(a: Rotation) -> Matrix;
+        pub safe fn katydidzinc_space_diff_conj1_2(a: Rotation, b: Rotation) -> Matrix;
+        pub safe fn katydidzinc_space_matrix_mul(m: Matrix, n: Matrix) -> Matrix;
+        pub safe fn katydidzinc_space_pose_mul(p: Pose, q: Pose) -> Pose;
+        pub safe fn katydidzinc_space_sign_of(x: f32) -> f32;
+    }
+}
+
 #[cfg(rattle)]
 fn rattle(leaf: usize, x: &[f32; INPUTS]) -> Vec<f32> {
-    use fenced::Fenced;
-    type Exported = unsafe extern "C" fn(*const f32, usize, *mut f32, usize);
-    unsafe extern "C" {
-        fn katydidzinc_space_vector_sums(x: *const f32, xs: usize, out: *mut f32, outs: usize);
-        fn katydidzinc_space_vector_products(x: *const f32, xs: usize, out: *mut f32, outs: usize);
-        fn katydidzinc_space_cross_matrix(x: *const f32, xs: usize, out: *mut f32, outs: usize);
-        fn katydidzinc_space_rotation_products(
-            x: *const f32,
-            xs: usize,
-            out: *mut f32,
-            outs: usize,
-        );
-        fn katydidzinc_space_rotation_columns(x: *const f32, xs: usize, out: *mut f32, outs: usize);
-        fn katydidzinc_space_derivative(x: *const f32, xs: usize, out: *mut f32, outs: usize);
-        fn katydidzinc_space_matrix_product(x: *const f32, xs: usize, out: *mut f32, outs: usize);
-        fn katydidzinc_space_pose_product(x: *const f32, xs: usize, out: *mut f32, outs: usize);
-    }
-    const EXPORTED: [Exported; 8] = [
-        katydidzinc_space_vector_sums,
-        katydidzinc_space_vector_products,
-        katydidzinc_space_cross_matrix,
-        katydidzinc_space_rotation_products,
-        katydidzinc_space_rotation_columns,
-        katydidzinc_space_derivative,
-        katydidzinc_space_matrix_product,
-        katydidzinc_space_pose_product,
-    ];
-    let mut out = vec![12345.678; LEAVES[leaf].1];
-    let mut fenced = Fenced::new(&out, 12345.678);
-    let (place, length) = fenced.place();
-    unsafe { EXPORTED[leaf](x.as_ptr(), x.len(), place, length) }
-    if fenced.taken_back(&mut out) {
-        println!("{}: wrote outside the lent storage", LEAVES[leaf].0);
-        exit(1)
-    }
-    // A slice that is too short is not written.
-    if x[6].to_bits() % 64 == 0 {
-        let mut short = vec![12345.678; out.len() - 1];
-        let mut fenced = Fenced::new(&short, 12345.678);
-        let (place, length) = fenced.place();
-        unsafe {
-            EXPORTED[leaf](x.as_ptr(), x.len(), place, length);
-            EXPORTED[leaf](x.as_ptr(), x.len() - 1, place, length);
+    use exported::*;
+    let (v, w, s) = (numbers(x, 0), numbers(x, 3), x[6]);
+    let (a, b) = (numbers(x, 7), numbers(x, 11));
+    let pose = |rotation: Numbers<4>, from| {
+        let mut p = Numbers([0.0; 7]);
+        p.0[..4].copy_from_slice(&rotation.0);
+        p.0[4..].copy_from_slice(&x[from..from + 3]);
+        p
+    };
+    match leaf {
+        0 => [
+            katydidzinc_space_vector_add(v, w).0,
+            katydidzinc_space_vector_sub(v, w).0,
+            katydidzinc_space_vector_mul(v, s).0,
+        ]
+        .concat(),
+        1 => [
+            katydidzinc_space_vector_component_mul(v, w).0,
+            katydidzinc_space_transform_vector(numbers(x, 21), v).0,
+            [
+                katydidzinc_space_vector_gdot(v, w),
+                katydidzinc_space_rotation_dot(a, b),
+                katydidzinc_space_sign_of(s),
+            ],
+        ]
+        .concat(),
+        2 => katydidzinc_space_gcross_matrix(v).0.to_vec(),
+        3 => [
+            &katydidzinc_space_rotation_mul(a, b).0[..],
+            &katydidzinc_space_rotation_inverse(a).0,
+            &katydidzinc_space_rotate(a, v).0,
+        ]
+        .concat(),
+        4 => katydidzinc_space_to_mat(a).0.to_vec(),
+        5 => katydidzinc_space_diff_conj1_2(a, b).0.to_vec(),
+        6 => {
+            let (m, n) = (katydidzinc_space_to_mat(a), katydidzinc_space_to_mat(b));
+            katydidzinc_space_matrix_mul(m, n).0.to_vec()
         }
-        if fenced.taken_back(&mut short) || short.iter().any(|x| *x != 12345.678) {
-            println!("{}: wrote to a slice that is too short", LEAVES[leaf].0);
-            exit(1)
-        }
+        _ => katydidzinc_space_pose_mul(pose(a, 15), pose(b, 18)).0.to_vec(),
     }
-    out
 }
 
 #[cfg(rattle)]
