@@ -14,6 +14,5 @@ pub mod PlanarRules
 pub mod PlanarLaws
 pub mod StoredFirsts
 pub mod FirstRowsUnread
-pub mod MaskLaws
 pub mod StudyPair
 pub mod MaskPair

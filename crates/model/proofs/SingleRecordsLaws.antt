@@ -15,27 +15,26 @@ use Rattle.model.specs.Store.{rowAt, putRow, worldPose, rest, solverPose
 use Rattle.multibody.specs.Counts.{bodyCount, jointCount, rowCapacity}
 use Rattle.model.specs.Planar.{plane}
 use Rattle.model.specs.SingleRecords.{rowIfThere, putRowIfThere, poseIfThere, velIfThere, putPoseIfThere, blankJoint, jointIfThere, putSeedIfThere}
-use Rattle.multibody.proofs.CountLaws.{joint-there}
+use Rattle.multibody.proofs.CountLaws.{row-there as row-room, there-row, body-there, there-body, joint-there}
 use Rattle.model.proofs.PlanarLaws.{planar-laws}
 
 -- ---- rows
 
 module _ (rows : List Float) (k : ℕ) where
   pub row-fits : {n : ℕ} → n ≡ rowCapacity plane rows → k < n → k * rowWidth + rowWidth ≤ length rows
-  unfolding rowCapacity
-  row-fits e h = omega (arith, e)
+  row-fits e h = row-room plane rows k (rw e at h)
 
   pub row-there : k * rowWidth + rowWidth ≤ length rows → rowIfThere rows k ≡ rowAt rows k
-  unfolding rowIfThere rowCapacity
-  row-there h = rw (lt-ltb k (length rows / rowWidth) (omega arith))
+  unfolding rowIfThere
+  row-there h = rw (lt-ltb k (rowCapacity plane rows) (there-row planar-laws rows k h))
 
   pub row-absent : {n : ℕ} → n ≡ rowCapacity plane rows → n ≤ k → rowIfThere rows k ≡ blankRow
   unfolding rowIfThere
   row-absent {n} e h = rw (← e, le-ltb k n h)
 
   pub put-row-there : (r : JointConstraint) → k * rowWidth + rowWidth ≤ length rows → putRowIfThere rows k r ≡ putRow rows k r
-  unfolding putRowIfThere rowCapacity
-  put-row-there r h = rw (lt-ltb k (length rows / rowWidth) (omega arith))
+  unfolding putRowIfThere
+  put-row-there r h = rw (lt-ltb k (rowCapacity plane rows) (there-row planar-laws rows k h))
 
   pub put-row-absent : (r : JointConstraint) {n : ℕ} → n ≡ rowCapacity plane rows → n ≤ k → putRowIfThere rows k r ≡ rows
   unfolding putRowIfThere
@@ -45,8 +44,7 @@ module _ (rows : List Float) (k : ℕ) where
 
 module _ (bodies : List Float) (i : ℕ) {n : ℕ} (e : n ≡ bodyCount plane bodies) where
   pub body-fits : i < n → i * bodyWidth + bodyWidth ≤ length bodies
-  unfolding bodyCount
-  body-fits h = omega (arith, e, h)
+  body-fits h = body-there plane bodies i (rw e at h)
 
   pub pose-there : i < n → poseIfThere bodies i ≡ solverPoseAt bodies i .pose
   unfolding poseIfThere
@@ -66,8 +64,8 @@ module _ (bodies : List Float) (i : ℕ) {n : ℕ} (e : n ≡ bodyCount plane bo
 
 module _ (bodies : List Float) (i : ℕ) (p : Pose) where
   pub put-pose-there : i * bodyWidth + bodyWidth ≤ length bodies → putPoseIfThere bodies i p ≡ putPose bodies i p
-  unfolding putPoseIfThere bodyCount
-  put-pose-there h = rw (lt-ltb i (length bodies / bodyWidth) (omega arith))
+  unfolding putPoseIfThere
+  put-pose-there h = rw (lt-ltb i (bodyCount plane bodies) (there-body planar-laws bodies i h))
 
   pub put-pose-absent : {n : ℕ} → n ≡ bodyCount plane bodies → n ≤ i → putPoseIfThere bodies i p ≡ bodies
   unfolding putPoseIfThere

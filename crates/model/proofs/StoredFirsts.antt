@@ -1,6 +1,6 @@
 -- First rows stored for all joints (document 02, R-10): each is the sum of the earlier joints' row counts (`first-rows`), after a granted load (`loaded-first`) and after a granted change of masks (`masked-first`).
-use Prim.Native.Nat.{ℕ, zero, suc, _+_, _-_, _*_, _<_, _≤_}
-use mathlib.Core.Path.{_≡_, refl, sym, ap, _∙_}
+use Prim.Native.Nat.{ℕ, zero, suc, _+_, _*_, _<_, _≤_}
+use mathlib.Core.Path.{_≡_, refl, sym, _∙_}
 use mathlib.Core.Bool.{Bool, true, false}
 use mathlib.Core.List.{List}
 use native.Mathlib.Omega.{arith}
@@ -10,8 +10,7 @@ use lib.ListN.{length, set, getD, length-set}
 use lib.Seq.{getD-set-same, getD-set-other}
 use lib.Ieee.{Float}
 use Rattle.rows.specs.declared.generic_joint.Masks.{Masks}
-use Rattle.multibody.specs.Model.{Model, mostJoints}
-use Rattle.multibody.specs.JointRows.{rowCount}
+use Rattle.multibody.specs.Model.{Model}
 use Rattle.multibody.specs.Counts.{jointCount, rowsBefore, storeFirsts}
 use Rattle.multibody.specs.Calls.{grantedOf}
 use Rattle.multibody.specs.Calls.Call.{load, setMasks}
@@ -20,7 +19,7 @@ use Rattle.model.specs.Layout.{wordsWidth, firstRowPlace}
 use Rattle.model.specs.Store.{firstAt, putFirst, putMasks}
 use Rattle.model.specs.Planar.{plane, planar}
 use Rattle.multibody.proofs.Tests.{by-cases}
-use Rattle.multibody.proofs.CountLaws.{rowsBefore-next, rowsBefore-le, joints-words}
+use Rattle.multibody.proofs.CountLaws.{joints-words}
 use Rattle.model.proofs.FirstRows.{first-reworded}
 use Rattle.model.proofs.NewMasks.{put-reworded}
 use Rattle.model.proofs.PlanarLaws.{planar-laws}
@@ -67,26 +66,3 @@ unfolding grantedOf
 masked-first m rows j ms i l =
     let e = same-count planar-laws (put-reworded (m .words) j ms) (m .numbers) in
     rw e at (stored-first (putMasks (m .words) j ms) (m .numbers) i (rw e l))
-
--- ---- the loop that stores them
-
-module _ (j n : ℕ) (w : List ℕ) where
-  pub no-first : n ≤ j → storeFirsts plane j (n - j) w ≡ w
-  unfolding storeFirsts
-  no-first g =
-      let z : n - j ≡ 0 = omega arith in
-      rw z
-
-  pub next-first : j < n → {first : ℕ} → first ≡ rowsBefore plane w j → storeFirsts plane j (n - j) w ≡ storeFirsts plane (j + 1) (n - (j + 1)) (putFirst w j first)
-  unfolding storeFirsts
-  next-first g e =
-      let z : n - j ≡ suc (n - (j + 1)) = omega arith in
-      rw (z, e)
-
--- where the rows of the next joint begin, after a store
-pub first-next : (w : List ℕ) (j first count : ℕ) → first ≡ rowsBefore plane w j → count ≡ rowCount plane (putFirst w j first) j → first + count ≡ rowsBefore plane (putFirst w j first) (j + 1)
-first-next w j first count e c =
-    rw c (ap (λ k. k + rowCount plane (putFirst w j first) j) (e ∙ sym (first-rows-kept planar-laws w j first j)) ∙ sym (rowsBefore-next plane (putFirst w j first) j))
-
-pub first-small : (w : List ℕ) (j n first : ℕ) → first ≡ rowsBefore plane w j → j < n → n ≤ mostJoints → first ≤ 768
-first-small w j n first e l few = omega (arith, e, l, few, rowsBefore-le planar-laws w j)

@@ -1,23 +1,18 @@
 -- Document 01, "Eleven refusals, in checking order", and those of document 02: 12, which it puts right after 6, and 13 to 15, of a motor table, after 8. Each rule is a test with its number, tried on the whole model before the next; a call is refused with
 -- the number of the first rule that fails.
-use Prim.Native.Nat.{ℕ, zero, suc, _+_, _*_}
-use mathlib.Core.Bool.{Bool, true, false, not, cond, _&&_, _||_}
-use mathlib.Core.List.{List, [], _∷_, _++_}
-use lib.Dec.{eqb, ltb}
-use lib.ListN.{getD}
-use lib.Ieee.{Float, nan, lt, isNan}
-use Rattle.floats.specs.Operators.{bits}
+use Prim.Native.Nat.{ℕ, _+_, _*_}
+use mathlib.Core.Bool.{Bool, true, not, _&&_}
+use mathlib.Core.List.{List}
+use lib.Ieee.{Float}
 use Rattle.floats.specs.Scalar.{isFinite}
 use Rattle.floats.specs.SinCos.{angleTooLarge}
 use Rattle.floats.specs.declared.pose.Pose.{Pose}
 use Rattle.rows.specs.declared.generic_joint.Masks.{Masks}
-use Rattle.rows.specs.declared.integration_parameters.IntegrationParameters.{IntegrationParameters}
-use Rattle.rows.specs.declared.joint_constraint_builder.Warmstart.{Warmstart}
-use Rattle.rows.specs.declared.joint_constraint_builder.Warmstart.the-variants.{Cold, Warm}
 use Rattle.model.specs.Layout.{bodyWidth, velocityPlace, wordsWidth, masksPlace, numbersWidth, limitsPlace, limitsWidth, motorsPlace, motorWidth, softnessPlace}
 use Rattle.model.specs.Records.{word}
-use Rattle.model.specs.Store.{world, body1At, body2At, centerAt}
+use Rattle.model.specs.Store.{centerAt}
 use Rattle.multibody.specs.Rules.{all, atMost}
+unfoldable pub use Rattle.multibody.specs.Finite.{finiteFrom, noNanFrom, finiteMotor}
 use Rattle.model.specs.declared.store.LimitCenter.{LimitCenter}
 use Rattle.model.specs.declared.store.LimitCenter.the-variants.{CosineSine, Angle}
 
@@ -39,23 +34,12 @@ newMasksFit ms = atMost allAxes (ms .«locked_axes») && (atMost allAxes (ms .«
 
 -- ---- what rule 6 asks: no NaN, and no infinity but in limit ends and maximum forces. Velocities and stored impulses are exempt.
 
--- n numbers from place o on
-unfoldable pub finiteFrom : List Float → ℕ → ℕ → Bool
-finiteFrom s o n = all o n (λ p. isFinite (getD s p nan))
-
-unfoldable pub noNanFrom : List Float → ℕ → ℕ → Bool
-noNanFrom s o n = all o n (λ p. not (isNan (getD s p nan)))
-
 unfoldable pub finitePose : Pose → Bool
 finitePose p = isFinite (p .rotation .re) && (isFinite (p .rotation .im) && (isFinite (p .translation .x) && isFinite (p .translation .y)))
 
 -- body i's pose, inverse inertia and inverse masses
 unfoldable pub finiteBody : List Float → ℕ → Bool
 finiteBody bodies i = finiteFrom bodies (i * bodyWidth) velocityPlace
-
--- the motor from place o on: target velocity and position, stiffness and damping; then the maximum force
-unfoldable pub finiteMotor : List Float → ℕ → Bool
-finiteMotor s o = finiteFrom s o 4 && noNanFrom s (o + 4) 1
 
 -- of a joint whose numbers start at place o, the ends of its limits, and its motors
 abbrev pub limitEnds : List Float → ℕ → Bool

@@ -11,13 +11,10 @@ use Rattle.floats.specs.Constants.{one}
 use Rattle.floats.specs.SinCos.{rotationFromAngleOf}
 use Rattle.floats.specs.declared.rotation_ops.Rotation.{Rotation}
 use Rattle.floats.specs.declared.pose.Pose.{Pose}
-use Rattle.rows.specs.declared.motor_model.MotorModel.{MotorModel}
-use Rattle.rows.specs.declared.motor_model.MotorModel.the-variants.{AccelerationBased, ForceBased}
 use Rattle.rows.specs.declared.generic_joint.JointLimits.{JointLimits}
 use Rattle.rows.specs.declared.generic_joint.JointMotor.{JointMotor}
 use Rattle.rows.specs.declared.generic_joint.Masks.{Masks}
 use Rattle.rows.specs.declared.generic_joint.JointEnabled.{JointEnabled}
-use Rattle.rows.specs.declared.generic_joint.JointEnabled.the-variants.{Enabled, DisabledByAttachedBody, Disabled}
 use Rattle.rows.specs.declared.generic_joint.GenericJoint.{GenericJoint}
 use Rattle.rows.specs.declared.joint_constraint_builder.SolverPose.{SolverPose}
 use Rattle.rows.specs.declared.joint_constraint_builder.ImpulseJoint.{ImpulseJoint}
@@ -25,6 +22,8 @@ use Rattle.rows.specs.declared.joint_velocity_constraint.SolverVel.{SolverVel}
 use Rattle.rows.specs.declared.joint_velocity_constraint.JointConstraint.{JointConstraint}
 use Rattle.rows.specs.declared.joint_velocity_constraint.WritebackId.{WritebackId}
 use Rattle.rows.specs.declared.joint_velocity_constraint.WritebackId.the-variants.{Dof, Limit, Motor}
+pub use Rattle.multibody.specs.Model.{world}
+pub use Rattle.multibody.specs.JointRecords.{limitsOf, motorModelOf, motorOf, masksOf, enabledOf, axisOf}
 use Rattle.model.specs.Layout.{rowWidth, bodyWidth, posePlace, inertiaPlace, massPlace, velocityPlace, wordsWidth, body1Place, body2Place, masksPlace, modelsPlace, numbersWidth, frame1Place, frame2Place, limitsPlace, limitsWidth, motorsPlace, motorWidth, softnessPlace, dofsPlace, centerPlace, limitSeed, motorSeed, targetPlace, enabledPlace, centerChoicePlace, firstRowPlace}
 use Rattle.model.specs.Records.{num, word, puts}
 use Rattle.model.specs.declared.store.LimitCenter.{LimitCenter}
@@ -67,10 +66,6 @@ unfoldable pub putRow : List Float → ℕ → JointConstraint → List Float
 putRow s k r = puts s (k * rowWidth) 0 (rowNumbers r)
 
 -- ---- bodies
-
--- document 01's world: a body number that no body has
-abbrev pub world : ℕ
-world = 4294967295
 
 -- body i is the world, or its record is there
 abbrev pub Present : List Float → ℕ → Type 0
@@ -121,39 +116,6 @@ putPose b i p = puts b (i * bodyWidth) posePlace (p .rotation .re ∷ p .rotatio
 
 -- ---- joints
 
--- the limits in the three numbers from number o on
-abbrev pub limitsOf : (ℕ → Float) → ℕ → JointLimits
-limitsOf f o = record { min = f o; max = f (o + 1); impulse = f (o + 2) }
-
--- 0 is acceleration based, and every other number force based
-abbrev pub motorModelOf : ℕ → MotorModel
-motorModelOf m = cond (eqb m 0) AccelerationBased ForceBased
-
--- the Rust's kinds in the order of its declaration; every other number is `Disabled`
-abbrev pub enabledOf : ℕ → JointEnabled
-enabledOf e = cond (eqb e 0) Enabled (cond (eqb e 1) DisabledByAttachedBody Disabled)
-
--- the motor in the six numbers from number o on, with the model that word m says
-abbrev pub motorOf : (ℕ → Float) → ℕ → ℕ → JointMotor
-motorOf f o m = record {
-  «target_vel» = f o;
-  «target_pos» = f (o + 1);
-  stiffness = f (o + 2);
-  damping = f (o + 3);
-  «max_force» = f (o + 4);
-  impulse = f (o + 5);
-  model = motorModelOf m;
-}
-
--- the masks of a joint whose word c is g c
-abbrev pub masksOf : (ℕ → ℕ) → Masks
-masksOf g = record {
-  «locked_axes» = g masksPlace;
-  «limit_axes» = g (masksPlace + 1);
-  «motor_axes» = g (masksPlace + 2);
-  «coupled_axes» = g (masksPlace + 3);
-}
-
 -- the limits of the three axes, and their motors
 abbrev pub allLimitsOf : (ℕ → Float) → List JointLimits
 allLimitsOf f = limitsOf f limitsPlace ∷ limitsOf f (limitsPlace + limitsWidth) ∷ limitsOf f (limitsPlace + 2 * limitsWidth) ∷ []
@@ -170,7 +132,7 @@ abbrev pub dataOf : (ℕ → Float) → (ℕ → ℕ) → GenericJoint
 dataOf f g = record {
   «local_frame1» = poseOf f frame1Place;
   «local_frame2» = poseOf f frame2Place;
-  masks = masksOf g;
+  masks = masksOf g masksPlace;
   limits = allLimitsOf f;
   motors = allMotorsOf f g;
   softness = record { «natural_frequency» = f softnessPlace; «damping_ratio» = f (softnessPlace + 1) };
@@ -203,7 +165,7 @@ centerAt words numbers j = centerOf (num numbersWidth numbers j) (word wordsWidt
 
 -- its masks
 unfoldable pub masksAt : List ℕ → ℕ → Masks
-masksAt words j = masksOf (word wordsWidth words j)
+masksAt words j = masksOf (word wordsWidth words j) masksPlace
 
 -- and these replaced (document 02, R-10)
 unfoldable pub putMasks : List ℕ → ℕ → Masks → List ℕ
@@ -235,12 +197,6 @@ abbrev pub seedIndex : WritebackId → ℕ
 seedIndex (Dof i) = dofsPlace + i
 seedIndex (Limit i) = limitsPlace + limitSeed + i * limitsWidth
 seedIndex (Motor i) = motorsPlace + motorSeed + i * motorWidth
-
--- the axis that an id is of
-abbrev pub axisOf : WritebackId → ℕ
-axisOf (Dof i) = i
-axisOf (Limit i) = i
-axisOf (Motor i) = i
 
 -- joint j's stored impulse of an id replaced; an id past the last axis has none, and changes nothing
 unfoldable pub putSeed : List Float → ℕ → WritebackId → Float → List Float

@@ -1,5 +1,6 @@
 pub mod Tests
 pub mod Strided
+pub mod RunLaws
 pub mod RuleLaws
 pub mod Laws
 pub mod JointLocality
@@ -17,12 +18,14 @@ pub mod CallLocality
 pub mod RefusalLaws
 pub mod Rewording
 pub mod CallLaws
+pub mod MaskLaws
 pub mod RefusedExactly
 pub mod Keeps
 pub mod PastTotal
 pub mod Agrees
 pub mod WriteBackLocality
 pub mod SameRefusals
+pub mod StoredFirsts
 pub mod FirstRowsUnread
 pub mod CallTurns
 pub mod TwoStudies

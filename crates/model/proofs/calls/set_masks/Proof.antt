@@ -8,7 +8,7 @@ use Rattle.multibody.proofs.RuleLaws.{holds, fails}
 use Rattle.multibody.proofs.CountLaws.{joints-words, joint-words}
 use Rattle.multibody.proofs.CallLaws.{few-joints}
 use Rattle.model.proofs.NewMasks.{put-size}
-use Rattle.model.proofs.MaskLaws.{unfit-refused, model-refused, short-refused, missing-refused, masks-granted}
+use Rattle.multibody.proofs.MaskLaws.{unfit-refused, model-refused, short-refused, missing-refused, masks-granted}
 use Rattle.model.proofs.PlanarLaws.{planar-laws}
 use Rattle.model.proofs.calls.set_masks.Statement.{statement}
 use Rattle.model.proofs.calls.set_masks.Tie as tie
@@ -26,7 +26,7 @@ returns : tie.Need-returns
 returns c =
     let t1 = c .before .before in
     let nf = t1 .before in
-    unfit-refused _ _ _ _ (fails (nf .new-masks-fit .ensures) (t1 .if1 .taken)) (c .unfit-refusal .ensures _ _)
+    unfit-refused planar-laws _ _ _ _ (fails (nf .new-masks-fit .ensures) (t1 .if1 .taken)) (c .unfit-refusal .ensures _ _)
 
 model-refusal-requires : tie.Need-model-refusal-requires
 model-refusal-requires c κs = search needs
@@ -38,7 +38,7 @@ returns-2 : tie.Need-returns-2
 returns-2 c =
     let mr = c .before in
     let e1 = mr .before .before in
-    model-refused _ _ _ _ (holds (e1 .before .new-masks-fit .ensures) (e1 .if1 .left)) (mr .model-refusal .ensures) (c .if2 .taken)
+    model-refused planar-laws _ _ _ _ (holds (e1 .before .new-masks-fit .ensures) (e1 .if1 .left)) (mr .model-refusal .ensures) (c .if2 .taken)
 
 joint-count-requires : tie.Need-joint-count-requires
 joint-count-requires c κs = search needs
@@ -60,7 +60,7 @@ returns-3 c =
     let e2 = jc .before .before in
     let mr = e2 .before in
     let e1 = mr .before .before in
-    short-refused _ _ _ _ (holds (e1 .before .new-masks-fit .ensures) (e1 .if1 .left)) (mr .model-refusal .ensures) (e2 .if2 .left) (jc .joint-count .ensures) (rt .rows-with .ensures) (rc .row-capacity .ensures)
+    short-refused planar-laws _ _ _ _ (holds (e1 .before .new-masks-fit .ensures) (e1 .if1 .left)) (mr .model-refusal .ensures) (e2 .if2 .left) (jc .joint-count .ensures) (rt .rows-with .ensures) (rc .row-capacity .ensures)
     (c .if3 .taken)
 
 same-length-4 : tie.Need-same-length-4
@@ -75,7 +75,7 @@ returns-4 c =
     let e2 = jc .before .before in
     let mr = e2 .before in
     let e1 = mr .before .before in
-    missing-refused _ _ _ _ (holds (e1 .before .new-masks-fit .ensures) (e1 .if1 .left)) (mr .model-refusal .ensures) (e2 .if2 .left) (jc .joint-count .ensures) (rt .rows-with .ensures) (rc .row-capacity .ensures)
+    missing-refused planar-laws _ _ _ _ (holds (e1 .before .new-masks-fit .ensures) (e1 .if1 .left)) (mr .model-refusal .ensures) (e2 .if2 .left) (jc .joint-count .ensures) (rt .rows-with .ensures) (rc .row-capacity .ensures)
     (e3 .if3 .left) (c .if4 .taken)
 
 put-masks-requires : tie.Need-put-masks-requires
@@ -109,7 +109,7 @@ returns-5 c =
     let mr = e2 .before in
     let e1 = mr .before .before in
     rw (sf .store-firsts .ensures, pm .put-masks .ensures, jc .joint-count .ensures)
-    (masks-granted _ _ _ _ (holds (e1 .before .new-masks-fit .ensures) (e1 .if1 .left)) (mr .model-refusal .ensures) (e2 .if2 .left) (jc .joint-count .ensures) (rt .rows-with .ensures) (rc .row-capacity .ensures)
+    (masks-granted planar-laws _ _ _ _ (holds (e1 .before .new-masks-fit .ensures) (e1 .if1 .left)) (mr .model-refusal .ensures) (e2 .if2 .left) (jc .joint-count .ensures) (rt .rows-with .ensures) (rc .row-capacity .ensures)
     (e3 .if3 .left) (e4 .if4 .left))
 
 pub set-masks-spec : {M : Type 1} → statement M

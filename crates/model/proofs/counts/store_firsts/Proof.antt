@@ -10,7 +10,7 @@ use Rattle.multibody.specs.Counts.{rowsBefore, storeFirsts}
 use Rattle.model.specs.Planar.{plane}
 use Rattle.multibody.proofs.JointRowsLaws.{few-rows}
 use Rattle.multibody.proofs.CountLaws.{rowsBefore-none}
-use Rattle.model.proofs.StoredFirsts.{no-first, next-first, first-next, first-small}
+use Rattle.multibody.proofs.StoredFirsts.{no-first, next-first, first-next, first-small}
 use Rattle.model.proofs.PlanarLaws.{planar-laws}
 use Rattle.model.proofs.counts.store_firsts.Statement.{statement}
 use Rattle.model.proofs.counts.store_firsts.Tie as tie
@@ -26,7 +26,7 @@ loop-holds : tie.Need-loop-holds Inv-loop μ-loop
 loop-holds c = (omega arith, refl, sym (rowsBefore-none plane _), rw sub-zero)
 
 cast-words : tie.Need-cast-words Inv-loop μ-loop
-cast-words c = let lp = c .before in omega (arith, first-small _ _ _ _ (lp .loop .inv .2) (c .loop-test .taken) (lp .before .before .pre .0))
+cast-words c = let lp = c .before in omega (arith, first-small planar-laws _ _ _ _ (lp .loop .inv .2) (c .loop-test .taken) (lp .before .before .pre .0))
 
 mul-words : tie.Need-mul-words Inv-loop μ-loop
 mul-words c = search needs
@@ -47,7 +47,7 @@ add-first : tie.Need-add-first Inv-loop μ-loop
 add-first c =
     let l = c .before .before in
     let lp = l .before in
-    omega (arith, first-small _ _ _ _ (lp .loop .inv .2) (l .loop-test .taken) (lp .before .before .pre .0), few-rows planar-laws _ _ (c .count-at .ensures))
+    omega (arith, first-small planar-laws _ _ _ _ (lp .loop .inv .2) (l .loop-test .taken) (lp .before .before .pre .0), few-rows planar-laws _ _ (c .count-at .ensures))
 
 add-j : tie.Need-add-j Inv-loop μ-loop
 add-j c = search needs
@@ -62,15 +62,15 @@ loop-again c =
     let v = l .before .loop .inv in (
       omega (arith, l .loop-test .taken),
       simp length-set (v .1),
-      first-next _ _ _ _ (v .2) (c .count-at .ensures),
-      sym (next-first _ _ _ (l .loop-test .taken) (v .2)) ∙ v .3,
+      first-next planar-laws _ _ _ _ (v .2) (c .count-at .ensures),
+      sym (next-first plane _ _ _ (l .loop-test .taken) (v .2)) ∙ v .3,
     )
 
 same-length : tie.Need-same-length Inv-loop μ-loop
 same-length c = search needs
 
 returns : tie.Need-returns Inv-loop μ-loop
-returns c = sym (no-first _ _ _ (c .loop-test .left)) ∙ c .before .loop .inv .3
+returns c = sym (no-first plane _ _ _ (c .loop-test .left)) ∙ c .before .loop .inv .3
 
 pub store-firsts-spec : {M : Type 1} → statement M
 store-firsts-spec =
