@@ -1,4 +1,5 @@
 pub mod MakerShapes
+pub mod SpatialMasksLaws
 pub mod NineRows
 pub mod RowSlotsLaws
 pub mod UpdateRows

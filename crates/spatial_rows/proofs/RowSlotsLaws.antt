@@ -18,7 +18,7 @@ use Rattle.rows.proofs.MaskBits.{below, at}
 use Rattle.rows.proofs.RowSlotsLaws.{slotsFrom, places, places-slots, bits-lt, pieces, map-places, ones-places}
 use Rattle.spatial_rows.specs.SpatialMasks.{spatialMasks}
 use Rattle.spatial_rows.specs.RowSlots.{slotId, linearAxes, angularAxes, slots, slotBits}
-use Rattle.spatial_rows.proofs.NineRows.{no-axis, none-coupled}
+use Rattle.spatial_rows.proofs.SpatialMasksLaws.{no-axis, none-coupled}
 
 -- ---- the ids of tests, axis by axis
 
