@@ -16,6 +16,8 @@ use spatial_floats::rotation_ops::Rotation;
 use spatial_floats::sign::sign_of;
 use spatial_floats::vector::Vector;
 
+pub mod joint;
+
 #[no_mangle]
 pub extern "C" fn katydidzinc_space_vector_add(v: Vector, w: Vector) -> Vector
     ensures { λ r. ⌜ r ≡ addOf v w ⌝ }

@@ -21,6 +21,7 @@ use spatial_floats::pose::Pose;
 use spatial_floats::vector::Vector;
 
 // What the rows read of a body, its pose being that of its centre of mass.
+#[repr(C)]
 pub struct SolverPose {
     pub pose: Pose,
     pub ii: SdpMatrix3,

@@ -29,18 +29,21 @@ pub struct JointSolverBody {
     pub world_com: Vector,
 }
 
+#[repr(C)]
 pub struct SolverVel {
     pub linear: Vector,
     pub angular: Vector,
 }
 
 // The velocities of a row's two bodies.
+#[repr(C)]
 pub struct SolverVels {
     pub vel1: SolverVel,
     pub vel2: SolverVel,
 }
 
 // A row. Its bodies, its joint and its id are not kept in it: they come from the model.
+#[repr(C)]
 pub struct JointConstraint {
     pub impulse: f32,
     pub impulse_min: f32,
@@ -71,6 +74,7 @@ pub struct RowContext {
 }
 
 // A joint's rows: `len` of them, and blank ones.
+#[repr(C)]
 pub struct Rows {
     pub rows: [JointConstraint; 9],
     pub len: usize,
