@@ -13,9 +13,6 @@ use borrow.Author.Tests.{eqb-true}
 use lib.Dec.{eqb}
 use lib.Ieee.{Float}
 use Rattle.rows.specs.declared.integration_parameters.IntegrationParameters.{IntegrationParameters}
-use Rattle.rows.specs.declared.generic_joint.GenericJoint.{GenericJoint}
-use Rattle.rows.specs.declared.generic_joint.JointLimits.{JointLimits}
-use Rattle.rows.specs.declared.generic_joint.JointMotor.{JointMotor}
 use Rattle.rows.specs.declared.generic_joint.Masks.{Masks}
 use Rattle.rows.specs.declared.joint_constraint_builder.SolverPose.{SolverPose}
 use Rattle.rows.specs.declared.joint_constraint_builder.ImpulseJoint.{ImpulseJoint}
@@ -31,6 +28,7 @@ use Rattle.rows.specs.Update.{contextOf, motorLimitsOf, rowOf, updateOf}
 use Rattle.rows.specs.Builder.{jointContextOf, seedOf, builderUpdateOf}
 use Rattle.rows.specs.Named.{GivesRow, SameNamed}
 use Rattle.rows.proofs.WarmedFinalize.{warmedAll-seeds}
+use Rattle.rows.proofs.WritebackNamed.{named-seeds}
 
 -- ---- what each row reads
 
@@ -217,14 +215,8 @@ module _ (params : IntegrationParameters) (body1 body2 : SolverPose) (a b : Impu
         s .masks,
       )
 
-  named-seed : (id : WritebackId) → GivesRow (a .«data» .masks) id → seedOf a id ≡ seedOf b id
-  unfolding seedOf
-  named-seed (Dof i) m = s .dof i m
-  named-seed (Limit i) m = ap (λ (l : JointLimits). l .impulse) (s .limits i m)
-  named-seed (Motor i) m = ap (λ (l : JointMotor). l .impulse) (s .motor i m)
-
   pub same-named : (substep : ℕ) (warm : Warmstart) (prevs : List Float)
       → builderUpdateOf params substep warm body1 body2 a prevs ≡ builderUpdateOf params substep warm body1 body2 b prevs
   unfolding builderUpdateOf x y
   same-named substep warm prevs =
-      warmedAll-seeds withImpulse warm substep (seedOf a) (seedOf b) (rowIds 2 1 (a .«data» .masks)) prevs (updateOf x) named-seed ∙ rw (same-update, s .masks)
+      warmedAll-seeds withImpulse warm substep (seedOf a) (seedOf b) (rowIds 2 1 (a .«data» .masks)) prevs (updateOf x) (named-seeds a b s) ∙ rw (same-update, s .masks)

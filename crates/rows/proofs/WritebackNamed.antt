@@ -17,7 +17,7 @@ use Rattle.rows.specs.Writeback.{writebackOf}
 use Rattle.rows.specs.Named.{SameNamed}
 
 -- an element that two lists share, after a store at one place in both
-set-same : {A : Type 0} (l l′ : List A) (i i′ : ℕ) (v v′ d : A) → length l ≡ length l′ → (i′ ≡ i → v ≡ v′) → getD l i′ d ≡ getD l′ i′ d
+pub set-same : {A : Type 0} (l l′ : List A) (i i′ : ℕ) (v v′ d : A) → length l ≡ length l′ → (i′ ≡ i → v ≡ v′) → getD l i′ d ≡ getD l′ i′ d
     → getD (set l i v) i′ d ≡ getD (set l′ i v′) i′ d
 set-same [] [] i i′ v v′ d n h e = refl
 set-same [] (b ∷ l′) i i′ v v′ d n h e = absurd (omega arith)
