@@ -5,4 +5,9 @@ pub mod RowSlotsLaws
 pub mod UpdateRows
 pub mod WarmedRows
 pub mod ListedIds
+pub mod BuilderLaws
+pub mod RowArrays
+pub mod WritebackKinds
 pub mod Cases
+pub mod NamedRows
+pub mod WritebackNamed

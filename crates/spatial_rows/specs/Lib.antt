@@ -11,3 +11,4 @@ pub mod Step
 pub mod Builder
 pub mod Writeback
 pub mod Cases
+pub mod Named
