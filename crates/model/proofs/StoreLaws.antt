@@ -6,7 +6,7 @@ use mathlib.Core.List.{List, [], _∷_}
 use Prim.Native.Nat.{ℕ, _+_, _*_, _-_, _≤_, _<_}
 use native.Mathlib.Nat.{zero-add}
 use native.Mathlib.Omega.{arith}
-use borrow.Author.Tests.{eqb-true, eqb-false, ne-eqb, lt-ltb, le-ltb, ltb-true}
+use borrow.Author.Tests.{ne-eqb, lt-ltb, le-ltb, ltb-true}
 use lib.ListN.{length, getD, set}
 use lib.Seq.{getD-set-same}
 use lib.Dec.{eqb, ltb, lit<}
@@ -20,7 +20,7 @@ use Rattle.rows.specs.declared.joint_velocity_constraint.WritebackId.the-varian
 use Rattle.model.specs.Layout.{rowWidth, bodyWidth, posePlace, inertiaPlace, massPlace, velocityPlace, wordsWidth, numbersWidth, targetPlace}
 use Rattle.model.specs.Records.{num, word, puts}
 use Rattle.model.specs.Store.{rowOfNumbers, rowAt, rowNumbers, putRow, world, Present, poseOf, worldPose, solverPoseAt, rest, velAt, putVel, putPose, seedIndex, axisOf, putSeed, putTarget, jointAt, jointOf}
-use Rattle.multibody.proofs.Strided.{length-puts, num-stored, num-kept, num-other, num-beside}
+use Rattle.multibody.proofs.Strided.{length-puts, num-stored, num-kept, num-set, num-other, num-beside}
 
 -- an id of one of the three axes has its stored impulse among the joint's numbers
 pub seed-index-below : (id : WritebackId) → axisOf id < 3 → seedIndex id < numbersWidth
@@ -207,13 +207,6 @@ pub putSeed-past : (numbers : List Float) (j : ℕ) (id : WritebackId) (p : Floa
 unfolding putSeed
 putSeed-past numbers j id p h = rw (le-ltb (axisOf id) 3 h)
 
--- the seed's number
-pub num-putSeed : (numbers : List Float) (j : ℕ) (id : WritebackId) (p : Float) → axisOf id < 3 → j * numbersWidth + numbersWidth ≤ length numbers → num numbersWidth (putSeed numbers j id p) j (seedIndex id) ≡ p
-unfolding putSeed
-num-putSeed numbers j id p h room =
-    let l = seed-index-below id h in
-    rw (lt-ltb (axisOf id) 3 h) (getD-set-same numbers (j * numbersWidth + seedIndex id) p nan (omega arith))
-
 -- every other number of the joint
 pub num-putSeed-kept : (numbers : List Float) (j : ℕ) (id : WritebackId) (p : Float) (c : ℕ) → c ≢ seedIndex id → num numbersWidth (putSeed numbers j id p) j c ≡ num numbersWidth numbers j c
 unfolding putSeed
@@ -292,13 +285,12 @@ jointAt-putSeed-other words numbers j j′ id p ne =
 -- The same joint: its numbers with p at the id's place.
 pub jointAt-putSeed : (words : List ℕ) (numbers : List Float) (j : ℕ) (id : WritebackId) (p : Float) → axisOf id < 3 → j * numbersWidth + numbersWidth ≤ length numbers
     → jointAt words (putSeed numbers j id p) j ≡ jointOf (λ c. cond (eqb c (seedIndex id)) p (num numbersWidth numbers j c)) (word wordsWidth words j)
-unfolding jointAt
+unfolding jointAt putSeed
 jointAt-putSeed words numbers j id p h room =
-    jointOf-cong (num numbersWidth (putSeed numbers j id p) j) (λ c. cond (eqb c (seedIndex id)) p (num numbersWidth numbers j c)) (word wordsWidth words j) (λ c _. at c (eqb c (seedIndex id)) refl)
-  where
-    at : (c : ℕ) (t : Bool) → eqb c (seedIndex id) ≡ t → num numbersWidth (putSeed numbers j id p) j c ≡ cond t p (num numbersWidth numbers j c)
-    at c true e = rw (eqb-true c (seedIndex id) e) (num-putSeed numbers j id p h room)
-    at c false e = num-putSeed-kept numbers j id p c (eqb-false c (seedIndex id) e)
+    let l = seed-index-below id h in
+    rw (lt-ltb (axisOf id) 3 h)
+    (jointOf-cong (num numbersWidth (set numbers (j * numbersWidth + seedIndex id) p) j) (λ c. cond (eqb c (seedIndex id)) p (num numbersWidth numbers j c)) (word wordsWidth words j)
+    (λ c _. num-set numbersWidth numbers p j (seedIndex id) c (omega arith)))
 
 -- ---- a target velocity stored
 
@@ -329,10 +321,7 @@ module _ (numbers : List Float) (j i : ℕ) (v : Float) where
   -- the same joint: its numbers with v at the target's place
   pub jointAt-putTarget : (words : List ℕ) → i < 3 → j * numbersWidth + numbersWidth ≤ length numbers
       → jointAt words (putTarget numbers j i v) j ≡ jointOf (λ c. cond (eqb c (targetPlace i)) v (num numbersWidth numbers j c)) (word wordsWidth words j)
-  unfolding jointAt
+  unfolding jointAt putTarget
   jointAt-putTarget words h room =
-      jointOf-cong (num numbersWidth (putTarget numbers j i v) j) (λ c. cond (eqb c (targetPlace i)) v (num numbersWidth numbers j c)) (word wordsWidth words j) (λ c _. at c (eqb c (targetPlace i)) refl)
-    where
-      at : (c : ℕ) (t : Bool) → eqb c (targetPlace i) ≡ t → num numbersWidth (putTarget numbers j i v) j c ≡ cond t v (num numbersWidth numbers j c)
-      at c true e = rw (eqb-true c (targetPlace i) e) (num-putTarget h room)
-      at c false e = num-putTarget-kept c (eqb-false c (targetPlace i) e)
+      jointOf-cong (num numbersWidth (putTarget numbers j i v) j) (λ c. cond (eqb c (targetPlace i)) v (num numbersWidth numbers j c)) (word wordsWidth words j)
+      (λ c _. num-set numbersWidth numbers v j (targetPlace i) c (omega arith))

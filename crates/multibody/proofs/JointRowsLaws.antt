@@ -47,12 +47,12 @@ module _ (store : Store) where
 
   -- ---- impulses read
 
-  pub length-impulsesAt : (s : List Float) (k n : ℕ) → length (impulsesAt store s k n) ≡ n
+  length-impulsesAt : (s : List Float) (k n : ℕ) → length (impulsesAt store s k n) ≡ n
   unfolding impulsesAt
   length-impulsesAt s k zero = refl
   length-impulsesAt s k (suc n) = ap suc (length-impulsesAt s (k + 1) n)
 
-  pub impulses-snoc : (s : List Float) (k n : ℕ) → impulsesAt store s k (suc n) ≡ impulsesAt store s k n ++ (impulseOf (rowAt s (k + n)) ∷ [])
+  impulses-snoc : (s : List Float) (k n : ℕ) → impulsesAt store s k (suc n) ≡ impulsesAt store s k n ++ (impulseOf (rowAt s (k + n)) ∷ [])
   unfolding impulsesAt
   impulses-snoc s k zero = rw add-zero
   impulses-snoc s k (suc n) =

@@ -2,7 +2,7 @@
 -- leaves the stored numbers where they were stored, and every other number as it was; every other record it leaves whole, and all that stands past it (`record-past`). Stated once, over the width.
 use mathlib.Core.Path.{_≡_, refl, ap, _∙_}
 use mathlib.Core.Logic.{_≢_, _⊎_, inl, inr, ⊎-elim}
-use mathlib.Core.Bool.{Bool, true, false}
+use mathlib.Core.Bool.{Bool, true, false, cond}
 use mathlib.Core.List.{List, [], _∷_}
 use Prim.Native.Nat.{ℕ, zero, suc, _+_, _*_, _≤_, _<_}
 use native.Mathlib.Nat.{add-zero, suc-mul, mul-le-mul-right}
@@ -67,6 +67,14 @@ num-past w s vs k j c h = puts-outside vs s (k * w) j (k * w + c) (inr (omega ar
 -- one number stored: another one of the same record
 pub num-kept : (w : ℕ) (s : List Float) (v : Float) (k j c : ℕ) → c ≢ j → num w (set s (k * w + j) v) k c ≡ num w s k c
 num-kept w s v k j c ne = ⊎-elim (λ h. num-before w s (v ∷ []) k j c h) (λ h. num-past w s (v ∷ []) k j c (omega arith)) (apart c j ne)
+
+-- so a record's numbers are as they were, but for the one that is stored
+pub num-set : (w : ℕ) (s : List Float) (v : Float) (k j c : ℕ) → k * w + j < length s → num w (set s (k * w + j) v) k c ≡ cond (eqb c j) v (num w s k c)
+num-set w s v k j c h = go (eqb c j) refl
+  where
+    go : (t : Bool) → eqb c j ≡ t → num w (set s (k * w + j) v) k c ≡ cond t v (num w s k c)
+    go true e = rw (eqb-true c j e) (getD-set-same s (k * w + j) v nan h)
+    go false e = num-kept w s v k j c (eqb-false c j e)
 
 -- a number of another record
 pub num-other : (w : ℕ) (s vs : List Float) (k k′ j c : ℕ) → k′ ≢ k → j + length vs ≤ w → c < w → num w (puts s (k * w) j vs) k′ c ≡ num w s k′ c
