@@ -1,19 +1,22 @@
 -- Orthogonalising a group of rows of any kind. First the outer loop of `finalize_constraints`: a turn at a lock, with the inverse that is taken once for its
 -- row; the start, where the whole group is left to do; a group of no rows. Then what comes out: as many rows as went in, the first one's head step, no row that
 -- depends on the rows after it (`take-finalizeOf`), and of each row what head step and reducing keep. Then two groups in one array that is filled up
--- (`finalize-filled`, `made-groups`). Assumes nothing.
-use mathlib.Core.Path.{_≡_, refl, ap, _∙_}
+-- (`finalize-filled`, `made-array`). Assumes nothing.
+use mathlib.Core.Path.{_≡_, refl, ap, sym, _∙_}
 use Prim.Native.Nat.{ℕ, zero, suc, _+_, _-_, _<_, _≤_}
 use native.Mathlib.Nat.{not-suc-le-zero, le-refl}
 use native.Mathlib.Omega.{arith}
 use mathlib.Core.Bool.{true}
-use mathlib.Core.List.{List, [], _∷_, _++_, map, append-nil, append-assoc, map-append}
+use mathlib.Core.List.{List, [], _∷_, _++_, map, append-nil, append-assoc, map-append, map-map}
 use lib.ListN.{length, getD, set, take, drop, replicate, length-append, length-map, drop-of-length-le}
 use lib.Seq.{take-all}
 use lib.Ieee.{Float}
-use Rattle.rows.specs.RowIds.{filled}
+use Rattle.rows.specs.declared.joint_velocity_constraint.WritebackId.{WritebackId}
+use Rattle.rows.specs.declared.joint_velocity_constraint.WritebackId.the-variants.{Dof}
+use Rattle.rows.specs.declared.row_ids.RowId.{RowId}
+use Rattle.rows.specs.RowIds.{filled, rowId, idsFilled}
 use Rattle.rows.specs.Groups.{Group, orthogonalise, reduceOf, finalizeOf, finalizeGroups}
-use Rattle.rows.proofs.Filled.{drop-filled, filled-split, first-part, second-part}
+use Rattle.rows.proofs.Filled.{take-filled, drop-filled, filled-split, first-part, second-part}
 use Rattle.rows.proofs.Orthogonalise.{between, rest, lock-turn}
 use Rattle.rows.proofs.OrthogonaliseLaws.{Every, length-orthogonalise, first-row, take-orthogonalise, kept-orthogonalise, every-orthogonalise}
 
@@ -112,9 +115,18 @@ module _ (group : Group) where
       let room : length (finalizeOf group cs ++ finalizeOf group ds) ≤ m = omega (arith, count) in
       rw (one, two, after, filled-split blank m (finalizeOf group cs ++ finalizeOf group ds) room, count, append-assoc)
 
-  pub made-groups : {A : Type 0} (blank : Row) (f : A → Row) (m : ℕ) (l r : List A) → length (l ++ r) ≤ m
+  -- the rows that f makes of two lists, in an array
+  made-groups : {A : Type 0} (blank : Row) (f : A → Row) (m : ℕ) (l r : List A) → length (l ++ r) ≤ m
       → finalizeGroups group (length l) (length (l ++ r)) (filled m blank (map f (l ++ r))) ≡ filled m blank (finalizeOf group (map f l) ++ finalizeOf group (map f r))
   made-groups blank f m l r h =
       let count : length (map f l ++ map f r) ≡ length (l ++ r) = omega (arith, length-append (map f l) (map f r), length-map l f, length-map r f, length-append l r) in
       ap (λ t. finalizeGroups group (length l) (length (l ++ r)) (filled m blank t)) (map-append f l r)
       ∙ finalize-filled blank m (length l) (length (l ++ r)) (map f l) (map f r) (length-map l f) count h
+
+  -- What `update` puts together: the rows of an array of ids, of which each group is orthogonalised; and how many they are.
+  pub made-array : (blank : Row) (f : WritebackId → Row) (m : ℕ) (l r : List WritebackId) → length (l ++ r) ≤ m → {ids : List RowId} {first len : ℕ} {rows : List Row}
+      → ids ≡ idsFilled m (l ++ r) → first ≡ length l → len ≡ length (l ++ r) → rows ≡ finalizeGroups group first len (filled m blank (map (λ i. f (i .id)) (take len ids)))
+      → (rows ≡ filled m blank (finalizeOf group (map f l) ++ finalizeOf group (map f r))) × (len ≡ length (finalizeOf group (map f l) ++ finalizeOf group (map f r)))
+  made-array blank f m l r h ei ef el e =
+      let back : take (length (l ++ r)) (idsFilled m (l ++ r)) ≡ map rowId (l ++ r) = take-filled (rowId (Dof 0)) m (length (l ++ r)) (map rowId (l ++ r)) (length-map (l ++ r) rowId) h in
+      (e ∙ rw (ei, ef, el, back, map-map (λ (i : RowId). f (i .id)) rowId (l ++ r)) (made-groups blank f m l r h), el ∙ sym (length-groups f l r))
