@@ -18,7 +18,11 @@ column-requires-3 c κs = search needs
 
 returns : tie.Need-returns
 unfolding linearAxisOf
-returns c = cc
+returns c =
+    let d = c .before in
+    let e = d .before in
+    let f = e .before in
+    simp (c .column3 .ensures, d .column2 .ensures, e .gdot .ensures, f .column .ensures)
 
 pub linear-axis-spec : {M : Type 1} → statement M
 linear-axis-spec = tie.close (tie.spec column-requires gdot-requires column-requires-2 column-requires-3 returns)
