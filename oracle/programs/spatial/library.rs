@@ -56,10 +56,34 @@ pub fn rattle(call: &mut Call) {
     exported::run(call)
 }
 
+/// The library's functions on rows: structs of floats by value, as C passes them, and a joint's words and numbers as slices.
 #[cfg(rattle)]
 mod exported {
     use super::{Call, Function};
     use crate::fenced::Fenced;
+    use rapier3d::pipeline::records::ROW;
+
+    /// A row is 29 numbers, a velocity six, two of them twelve, a body sixteen, and nine last impulses are nine.
+    #[repr(C)]
+    #[derive(Copy, Clone)]
+    struct Numbers<const N: usize>([f32; N]);
+
+    fn numbers<const N: usize>(x: &[f32], from: usize) -> Numbers<N> {
+        Numbers(std::array::from_fn(|i| x[from + i]))
+    }
+
+    #[repr(C)]
+    struct Stepped {
+        row: Numbers<ROW>,
+        vels: Numbers<12>,
+        side: u32,
+    }
+
+    #[repr(C)]
+    struct Rows {
+        rows: [Numbers<ROW>; 9],
+        len: usize,
+    }
 
     unsafe extern "C" {
         fn katydidzinc_space_rows_build(
@@ -67,68 +91,118 @@ mod exported {
             words_len: usize,
             numbers: *const f32,
             numbers_len: usize,
-            rows: *mut f32,
-            rows_len: usize,
-            ids: *mut u32,
-            ids_len: usize,
-        ) -> usize;
-        fn katydidzinc_space_rows_step(
-            row: *mut f32,
-            row_len: usize,
-            vels: *mut f32,
-            vels_len: usize,
+            dt: f32,
+            length_unit: f32,
+            normalized: f32,
+            warm: u32,
+            coefficient: f32,
+            substep_id: u32,
+            body1: Numbers<16>,
+            body2: Numbers<16>,
+            prevs: Numbers<9>,
+        ) -> Rows;
+        safe fn katydidzinc_space_row_id(
+            locked_axes: u32,
+            limit_axes: u32,
+            motor_axes: u32,
+            coupled_axes: u32,
+            k: usize,
         ) -> u32;
-        fn katydidzinc_space_rows_warmstart(
-            row: *const f32,
-            row_len: usize,
-            vels: *mut f32,
-            vels_len: usize,
-        );
-        fn katydidzinc_space_rows_remove_bias(row: *mut f32, row_len: usize);
+        safe fn katydidzinc_space_rows_step(
+            row: Numbers<ROW>,
+            vel1: Numbers<6>,
+            vel2: Numbers<6>,
+        ) -> Stepped;
+        safe fn katydidzinc_space_rows_warmstart(
+            row: Numbers<ROW>,
+            vel1: Numbers<6>,
+            vel2: Numbers<6>,
+        ) -> Numbers<12>;
+        safe fn katydidzinc_space_rows_remove_bias(row: Numbers<ROW>) -> Numbers<ROW>;
+        safe fn katydidzinc_space_rows_finalize(rows: Rows) -> Rows;
         fn katydidzinc_space_rows_writeback(
             id: u32,
             impulse: f32,
             numbers: *mut f32,
             numbers_len: usize,
         );
-        fn katydidzinc_space_rows_finalize(n: usize, rows: *mut f32, rows_len: usize);
+    }
+
+    /// The first rows of those that came back, in their place; the rest stays.
+    fn stored(lent: &mut [f32], made: &Rows, count: usize) {
+        for (place, row) in lent.chunks_exact_mut(ROW).zip(&made.rows).take(count) {
+            place.copy_from_slice(&row.0);
+        }
     }
 
     pub fn run(call: &mut Call) {
         let (w, n) = (&call.words, &call.numbers);
-        let mut fenced = Fenced::new(&call.lent, 12345.678);
-        let mut fenced_vels = Fenced::new(&call.vels, 12345.678);
-        let mut fenced_ids = Fenced::new(&call.ids, 0xDEAD_BEEF);
-        let (lent, lents) = fenced.place();
-        let (vels, vels_len) = fenced_vels.place();
-        let (ids, ids_len) = fenced_ids.place();
-        unsafe {
-            match call.function {
-                Function::Build => {
-                    call.count = katydidzinc_space_rows_build(
-                        w.as_ptr(),
-                        w.len(),
-                        n.as_ptr(),
-                        n.len(),
-                        lent,
-                        lents,
-                        ids,
-                        ids_len,
+        let (lent, vels) = (&mut call.lent, &mut call.vels);
+        match call.function {
+            Function::Build => {
+                // A model's words of the joint: its two bodies, masks, motor models, and that it is enabled.
+                let words = [0, 1, w[0], w[1], w[2], w[3], w[4], w[5], w[6], 0];
+                let joint = &n[35..84];
+                let prevs = Numbers(std::array::from_fn(|k| lent[k * ROW]));
+                let made = unsafe {
+                    katydidzinc_space_rows_build(
+                        words.as_ptr(),
+                        words.len(),
+                        joint.as_ptr(),
+                        joint.len(),
+                        n[0],
+                        n[1],
+                        n[2],
+                        w[7],
+                        n[84],
+                        w[8],
+                        numbers(n, 3),
+                        numbers(n, 19),
+                        prevs,
                     )
+                };
+                call.count = made.len;
+                stored(lent, &made, made.len);
+                for (k, id) in call.ids.iter_mut().enumerate().take(made.len) {
+                    *id = katydidzinc_space_row_id(w[0], w[1], w[2], w[3], k);
                 }
-                Function::Step => {
-                    call.count = katydidzinc_space_rows_step(lent, lents, vels, vels_len) as usize
-                }
-                Function::Warmstart => {
-                    katydidzinc_space_rows_warmstart(lent, lents, vels, vels_len)
-                }
-                Function::RemoveBias => katydidzinc_space_rows_remove_bias(lent, lents),
-                Function::Writeback => katydidzinc_space_rows_writeback(w[0], n[0], lent, lents),
-                Function::Finalize => katydidzinc_space_rows_finalize(w[0] as usize, lent, lents),
+            }
+            Function::Step => {
+                let done = katydidzinc_space_rows_step(
+                    numbers(lent, 0),
+                    numbers(vels, 0),
+                    numbers(vels, 6),
+                );
+                call.count = done.side as usize;
+                lent.copy_from_slice(&done.row.0);
+                vels.copy_from_slice(&done.vels.0);
+            }
+            Function::Warmstart => {
+                let done = katydidzinc_space_rows_warmstart(
+                    numbers(lent, 0),
+                    numbers(vels, 0),
+                    numbers(vels, 6),
+                );
+                vels.copy_from_slice(&done.0);
+            }
+            Function::RemoveBias => {
+                let done = katydidzinc_space_rows_remove_bias(numbers(lent, 0));
+                lent.copy_from_slice(&done.0);
+            }
+            Function::Writeback => {
+                let mut fenced = Fenced::new(lent, 12345.678);
+                let (place, length) = fenced.place();
+                unsafe { katydidzinc_space_rows_writeback(w[0], n[0], place, length) }
+                call.outside = fenced.taken_back(lent);
+            }
+            Function::Finalize => {
+                let rows = Rows {
+                    rows: std::array::from_fn(|k| numbers(lent, k * ROW)),
+                    len: w[0] as usize,
+                };
+                let done = katydidzinc_space_rows_finalize(rows);
+                stored(lent, &done, 9);
             }
         }
-        call.outside = fenced.taken_back(&mut call.lent)
-            | fenced_vels.taken_back(&mut call.vels)
-            | fenced_ids.taken_back(&mut call.ids);
     }
 }
