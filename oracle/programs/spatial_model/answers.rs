@@ -4,8 +4,8 @@ use crate::bits::bits;
 use crate::generator::{Generator, Size, total};
 use crate::library::{ORACLE, Side};
 use crate::spatial_model::{
-    Answer, BODY, Call, ENABLED, FINITE, GRANTED, JOINT, KINDS, NUMBER, POSED, REFUSALS, ROW,
-    Study, VELOCITY, WORDS, WORLD, refusal,
+    Answer, BODY, Call, ENABLED, FINITE, JOINT, KINDS, NUMBER, POSED, REFUSALS, ROW, Study,
+    VELOCITY, WORDS, WORLD, refusal,
 };
 use std::fmt::Write;
 

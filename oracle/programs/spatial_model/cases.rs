@@ -3,7 +3,7 @@
 use crate::library::{Side, same, same_study, sides};
 use crate::spatial_model::{
     Answer, BODY, Call, ENABLED, FINITE, GRANTED, JOINT, MOST_ROWS, NUMBER, POSE, POSED, REFUSALS,
-    ROW, STORED, Study, WORDS, WORLD,
+    ROW, STORED, Study, WORLD,
 };
 use std::process::exit;
 
@@ -211,6 +211,8 @@ impl Cases {
         self.refused("a part of a body", &part, &Call::ReadVelocity(128), 11);
         let tied = |n: usize| study(2, &vec![([0, 1], [56, 7, 7, 0]); n]);
         self.granted("128 joints", &tied(128), load);
+        let code = self.code(&tied(128), &COLD);
+        self.expect("128 joints of nine rows", code == GRANTED + 1152);
         self.refused("129 joints", &tied(129), load, 2);
         let mut uneven = tied(129);
         uneven.words.pop();
@@ -493,7 +495,50 @@ impl Cases {
     }
 }
 
+/// The library's answers where a slice that it is to write is too short.
+#[cfg(rattle)]
+fn short_slices() {
+    use crate::library::rattle_lent;
+    let mut built = arm();
+    (crate::library::ORACLE)(&mut built, &COLD);
+    let unbuilt = arm();
+    let shorter = |call: &Call, out: usize, ids: usize| {
+        let mut answer = Answer::none(call);
+        answer.out.truncate(answer.out.len() - out);
+        answer.ids.truncate(answer.ids.len() - ids);
+        answer
+    };
+    let mut count = 0;
+    for (s, call, out, ids, code) in [
+        (&built, Call::ReadRows(0), 1, 0, 1000),
+        (&built, Call::ReadRows(0), 0, 1, 1000),
+        (&built, Call::ReadVelocity(0), 1, 0, 1000),
+        (&built, Call::Sweep(1), 0, 1, 1000),
+        (&built, Call::Sweep(65), 0, 1, 1000),
+        (&built, Call::ReadRows(9), 1, 1, 11),
+        (&built, Call::ReadVelocity(9), 1, 0, 11),
+        (&unbuilt, Call::ReadRows(0), 1, 1, 10),
+        (&unbuilt, Call::Sweep(1), 0, 1, 1000),
+    ] {
+        let lent = shorter(&call, out, ids);
+        let mut after = s.clone();
+        let answer = rattle_lent(&mut after, &call, lent.clone());
+        let left = same_study(s, &after) && same(&lent.out, &answer.out) && lent.ids == answer.ids;
+        count += 1;
+        if answer.code != code || answer.outside || !left {
+            println!(
+                "{call:?} with a short slice: {} by the library",
+                answer.code
+            );
+            exit(1)
+        }
+    }
+    println!("{count} cases about short slices in space by the library");
+}
+
 pub fn cases() {
+    #[cfg(rattle)]
+    short_slices();
     for (name, side) in sides() {
         let mut cases = Cases {
             side,

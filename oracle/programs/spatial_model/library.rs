@@ -19,6 +19,9 @@ pub const RATTLE: Option<Side> = Some(exported::call);
 #[cfg(not(rattle))]
 pub const RATTLE: Option<Side> = None;
 
+#[cfg(rattle)]
+pub use exported::call_lent as rattle_lent;
+
 /// The sides that are there.
 pub fn sides() -> Vec<(&'static str, Side)> {
     let mut all = vec![("the oracle", ORACLE), ("the second rendering", RENDERING)];
@@ -81,9 +84,12 @@ mod exported {
         katydidzinc_space_read_velocity(body: u32, out: *mut f32, out_len: usize);
     );
 
-    /// The mark follows from the answer: a granted load clears it, a granted build sets it.
     pub fn call(s: &mut Study, call: &Call) -> Answer {
-        let mut answer = Answer::none(call);
+        call_lent(s, call, Answer::none(call))
+    }
+
+    /// The call with the storage that `answer` has. The mark follows from the answer: a granted load clears it, a granted build sets it.
+    pub fn call_lent(s: &mut Study, call: &Call, mut answer: Answer) -> Answer {
         let mut bodies_in = Fenced::new(&s.bodies, 12345.678);
         let mut words_in = Fenced::new(&s.words, 0xDEAD_BEEF);
         let mut numbers_in = Fenced::new(&s.numbers, 12345.678);
