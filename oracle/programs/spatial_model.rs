@@ -7,12 +7,16 @@
 //!   spatial_model pairs SEED COUNT          two studies side by side, by the Rattle library or, without it, by the oracle
 //!   spatial_model answers                   a fixed list of calls with the oracle's answers
 //!   spatial_model replay < ANSWERS          the answers again, by each side that is there
+//!   spatial_model bench                     the same work by the Rust and by the Rattle library, timed
 //!   spatial_model rendering SEED CALLS      against the second rendering
 //!   spatial_model fault NUMBER SEED CALLS   against the second rendering with one fault
 //!   spatial_model faults SEED CALLS PAIRS   each fault in turn: how many calls show it, how many pairs
 
 #[path = "spatial_model/answers.rs"]
 mod answers;
+#[cfg(rattle)]
+#[path = "spatial_model/bench.rs"]
+mod bench;
 mod bits;
 #[path = "spatial_model/cases.rs"]
 mod cases;
@@ -67,6 +71,8 @@ fn main() {
         Some("has-library") => exit(library::RATTLE.is_none() as i32),
         Some("pairs") => pairs::pairs(side, by, number(1, 1), number(2, 10_000)),
         Some("answers") => answers::answers(),
+        #[cfg(rattle)]
+        Some("bench") => bench::bench(),
         Some("replay") => {
             let text = std::io::read_to_string(std::io::stdin()).unwrap();
             for (name, side) in library::sides() {
@@ -94,7 +100,7 @@ fn main() {
         Some("faults") => run::faults(number(1, 1), number(2, calls), number(3, 1_000)),
         _ => {
             eprintln!(
-                "spatial_model: cases | compare SEED CALLS | has-library | pairs SEED COUNT | answers | replay | rendering SEED CALLS | \
+                "spatial_model: cases | compare SEED CALLS | has-library | pairs SEED COUNT | answers | replay | bench | rendering SEED CALLS | \
                  fault NUMBER SEED CALLS | faults SEED CALLS PAIRS"
             );
             exit(2)

@@ -22,6 +22,10 @@ pub const RATTLE: Option<Side> = None;
 #[cfg(rattle)]
 pub use exported::call_lent as rattle_lent;
 
+/// A call of a step by the Rattle library on the study's own storage, with no guards about it; its code.
+#[cfg(rattle)]
+pub use exported::direct;
+
 /// The sides that are there.
 pub fn sides() -> Vec<(&'static str, Side)> {
     let mut all = vec![("the oracle", ORACLE), ("the second rendering", RENDERING)];
@@ -172,5 +176,36 @@ mod exported {
             _ => {}
         }
         answer
+    }
+
+    pub fn direct(s: &mut Study, call: &Call) -> u64 {
+        let (b, bs) = (s.bodies.as_mut_ptr(), s.bodies.len());
+        let (w, ws) = (s.words.as_ptr(), s.words.len());
+        let (n, ns) = (s.numbers.as_mut_ptr(), s.numbers.len());
+        let (r, rs) = (s.rows.as_mut_ptr(), s.rows.len());
+        let [dt, unit, most] = s.settings;
+        let built = s.built as u32;
+        macro_rules! made(
+            ($name: ident $(, $argument: expr)*) => {
+                $name(dt, unit, most, built, b, bs, w, ws, n, ns, r, rs $(, $argument)*)
+            }
+        );
+        unsafe {
+            match *call {
+                Call::Build {
+                    warm,
+                    coefficient,
+                    substep,
+                } => made!(katydidzinc_space_build, warm as u32, coefficient, substep),
+                Call::WarmStart => made!(katydidzinc_space_warm_start),
+                Call::Sweep(rounds) => {
+                    let mut counts = [0u8; 128];
+                    made!(katydidzinc_space_sweep, rounds, counts.as_mut_ptr(), 128)
+                }
+                Call::RemoveBias => made!(katydidzinc_space_remove_bias),
+                Call::WriteBack => made!(katydidzinc_space_write_back),
+                _ => unreachable!(),
+            }
+        }
     }
 }
