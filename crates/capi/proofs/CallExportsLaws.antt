@@ -5,6 +5,7 @@ use mathlib.Core.List.{List, [], _∷_, _++_}
 use lib.ListN.{drop}
 use lib.Ieee.{Float}
 use Rattle.multibody.specs.Model.{Model}
+use Rattle.multibody.specs.Store.{Store}
 use Rattle.multibody.specs.Calls.{Answer, Outcome, outcome}
 use Rattle.model.specs.Planar.{plane}
 use Rattle.model.specs.Answers.{sweepAnswerOf}
@@ -17,21 +18,21 @@ pub settings-kept : (dt unit normalized : Float) (built : ℕ) → settingsOf (h
 settings-kept dt unit normalized built = refl
 
 -- a number that shows the answer shows that of the outcome
-pub number-told : {a : Answer plane} {m : Model} {rows : List Float} {o : Outcome plane} (r : ℕ) → r ≡ number a → outcome a m rows ≡ o → r ≡ number (o .answer)
-number-told r e told = e ∙ ap (λ (o : Outcome plane). number (o .answer)) told
+pub number-told : {store : Store} {a : Answer store} {m : Model} {rows : List Float} {o : Outcome store} (r : ℕ) → r ≡ number a → outcome a m rows ≡ o → r ≡ number (o .answer)
+number-told r e told = e ∙ ap (λ (o : Outcome _). number (o .answer)) told
 
 -- what is left in the bodies, the joints' words and numbers and the row storage
-pub bodies-left : {a : Answer plane} {m : Model} {rows : List Float} {o : Outcome plane} → outcome a m rows ≡ o → m .bodies ≡ o .after .bodies
-bodies-left told = ap (λ (o : Outcome plane). o .after .bodies) told
+pub bodies-left : {store : Store} {a : Answer store} {m : Model} {rows : List Float} {o : Outcome store} → outcome a m rows ≡ o → m .bodies ≡ o .after .bodies
+bodies-left told = ap (λ (o : Outcome _). o .after .bodies) told
 
-pub words-left : {a : Answer plane} {m : Model} {rows : List Float} {o : Outcome plane} → outcome a m rows ≡ o → m .words ≡ o .after .words
-words-left told = ap (λ (o : Outcome plane). o .after .words) told
+pub words-left : {store : Store} {a : Answer store} {m : Model} {rows : List Float} {o : Outcome store} → outcome a m rows ≡ o → m .words ≡ o .after .words
+words-left told = ap (λ (o : Outcome _). o .after .words) told
 
-pub numbers-left : {a : Answer plane} {m : Model} {rows : List Float} {o : Outcome plane} → outcome a m rows ≡ o → m .numbers ≡ o .after .numbers
-numbers-left told = ap (λ (o : Outcome plane). o .after .numbers) told
+pub numbers-left : {store : Store} {a : Answer store} {m : Model} {rows : List Float} {o : Outcome store} → outcome a m rows ≡ o → m .numbers ≡ o .after .numbers
+numbers-left told = ap (λ (o : Outcome _). o .after .numbers) told
 
-pub rows-left : {a : Answer plane} {m : Model} {rows : List Float} {o : Outcome plane} → outcome a m rows ≡ o → rows ≡ o .rows
-rows-left told = ap (λ (o : Outcome plane). o .rows) told
+pub rows-left : {store : Store} {a : Answer store} {m : Model} {rows : List Float} {o : Outcome store} → outcome a m rows ≡ o → rows ≡ o .rows
+rows-left told = ap (λ (o : Outcome _). o .rows) told
 
 -- what a sweep stores of its counts where it is granted, and where it is refused
 pub counts-stored : {r : SweepAnswer} {out′ : List ℕ} (a : Answer plane) (out : List ℕ) → r ≡ sweepAnswerOf a → r .answer ≡ Plain.Granted → out′ ≡ r .counts ++ drop 128 out
@@ -45,8 +46,8 @@ pub counts-kept : {r : SweepAnswer} {k : ℕ} (a : Answer plane) (out : List ℕ
 counts-kept {r} {k} a out told g = sym (refused-counts r k out g) ∙ ap (λ (r : SweepAnswer). countsOut r out) told
 
 -- the same of a number that shows the mark too, and of what a velocity read answers and stores
-pub marked-told : {a : Answer plane} {m : Model} {rows : List Float} {o : Outcome plane} (r : ℕ) → r ≡ marked a (m .built) → outcome a m rows ≡ o → r ≡ markedNumber o
-marked-told r e told = e ∙ ap (λ (o : Outcome plane). markedNumber o) told
+pub marked-told : {store : Store} {a : Answer store} {m : Model} {rows : List Float} {o : Outcome store} (r : ℕ) → r ≡ marked a (m .built) → outcome a m rows ≡ o → r ≡ markedNumber o
+marked-told r e told = e ∙ ap (λ (o : Outcome _). markedNumber o) told
 
 pub velocity-told : {a : Answer plane} {m : Model} {rows : List Float} {o : Outcome plane} (out : List Float) (r : ℕ) → r ≡ velocityNumber a out → outcome a m rows ≡ o → r ≡ velocityNumber (o .answer) out
 velocity-told out r e told = e ∙ ap (λ (o : Outcome plane). velocityNumber (o .answer) out) told

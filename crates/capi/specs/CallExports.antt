@@ -15,6 +15,7 @@ use Rattle.rows.specs.declared.joint_velocity_constraint.Rows.{Rows}
 use Rattle.rows.specs.declared.row_ids.RowIds.{RowIds}
 use Rattle.multibody.specs.JointRows.{rowMasksAt}
 use Rattle.multibody.specs.Model.{Model}
+use Rattle.multibody.specs.Store.{Store}
 use Rattle.multibody.specs.Calls.{Answer, Outcome, run}
 use Rattle.multibody.specs.Calls.Answer.{granted, total, rowsRead, velocityRead, swept, refused}
 use Rattle.multibody.specs.Calls.Call.{sweep, readRows}
@@ -58,11 +59,11 @@ warmOf warm coefficient = cond (flag warm) (Warm coefficient) Cold
 
 -- ---- answers as numbers
 
--- a refusal is its number, and what is granted 0, or 2^32 plus the number of rows; of a number only the lower 32 bits count
+-- of any kind of system: a refusal is its number, and what is granted 0, or 2^32 plus the number of rows; of a number only the lower 32 bits count
 abbrev pub rowsGranted : ℕ → ℕ
 rowsGranted n = 4294967296 + n % 4294967296
 
-abbrev pub number : Answer plane → ℕ
+abbrev pub number : {store : Store} → Answer store → ℕ
 number granted = 0
 number (total n) = rowsGranted n
 number (rowsRead ids rows) = rowsGranted (length rows)
@@ -71,7 +72,7 @@ number (swept counts) = 0
 number (refused k) = k
 
 -- the same, where a granted load that left the mark set, or a build that left it clear, would show
-abbrev pub marked : Answer plane → Bool → ℕ
+abbrev pub marked : {store : Store} → Answer store → Bool → ℕ
 marked granted true = 100
 marked granted false = 0
 marked (total n) true = rowsGranted n
@@ -81,7 +82,7 @@ marked (velocityRead v) built = 0
 marked (swept counts) built = 0
 marked (refused k) built = k
 
-abbrev pub markedNumber : Outcome plane → ℕ
+abbrev pub markedNumber : {store : Store} → Outcome store → ℕ
 markedNumber o = marked (o .answer) (o .after .built)
 
 -- the answer where the model grants a read for which a slice has no room: a number above all refusals

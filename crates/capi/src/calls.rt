@@ -57,7 +57,7 @@ pub const READ_IDS: usize = 6;
 
 pub const VELOCITY_NUMBERS: usize = 3;
 
-fn flag_of(word: u32) -> bool
+pub fn flag_of(word: u32) -> bool
     ensures { λ r. ⌜ r ≡ flag word ⌝ }
 {
     word != 0
