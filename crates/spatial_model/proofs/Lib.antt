@@ -1,0 +1,10 @@
+pub mod StoreLaws
+pub mod WritebackLaws
+pub mod Keeps
+pub mod MaskLaws
+pub mod SpatialRules
+pub mod SpatialLaws
+pub mod JointRowsLaws
+pub mod CallLaws
+pub mod SingleRecordsLaws
+pub mod StudyPair

@@ -1,0 +1,71 @@
+-- `finite_from` meets its contract. Before turn i, what was so far and the numbers from place o + i on decide.
+use Prim.Native.Nat.{_+_, _-_, _≤_}
+use mathlib.Core.Path.{_≡_, sym, _∙_}
+use mathlib.Core.Bool.{_&&_}
+use native.Mathlib.Nat.{add-zero, sub-zero}
+use borrow.Author.Needs.{needs}
+use lib.ListN.{getD}
+use lib.Ieee.{nan}
+use Rattle.floats.specs.Scalar.{isFinite}
+use Rattle.multibody.specs.Finite.{finiteFrom}
+use Rattle.multibody.specs.Rules.{all}
+use Rattle.multibody.proofs.RuleLaws.{all-next, all-over}
+use Rattle.spatial_model.proofs.refusals.finite_from.Statement.{statement}
+use Rattle.spatial_model.proofs.refusals.finite_from.Tie as tie
+
+abbrev Inv-loop : tie.InvT-loop
+Inv-loop s o n so-far₀ i₀ so-far i = (i ≤ n) × ((so-far && all (o + i) (n - i) (λ p. isFinite (getD s p nan))) ≡ finiteFrom s o n)
+
+abbrev μ-loop : tie.MeasureT-loop
+μ-loop s o n so-far₀ i₀ so-far i = n - i
+
+loop-holds : tie.Need-loop-holds Inv-loop μ-loop
+unfolding finiteFrom
+loop-holds c = (search needs, rw (add-zero, sub-zero))
+
+add-is-finite : tie.Need-add-is-finite Inv-loop μ-loop
+add-is-finite c = search needs
+
+mul-is-finite : tie.Need-mul-is-finite Inv-loop μ-loop
+mul-is-finite c = search needs
+
+shared-slice-read-is-finite : tie.Need-shared-slice-read-is-finite Inv-loop μ-loop
+shared-slice-read-is-finite c = search needs
+
+is-finite-requires : tie.Need-is-finite-requires Inv-loop μ-loop
+is-finite-requires c κs = search needs
+
+add-i : tie.Need-add-i Inv-loop μ-loop
+add-i c = search needs
+
+loop-less : tie.Need-loop-less Inv-loop μ-loop
+loop-less c = search needs
+
+loop-again : tie.Need-loop-again Inv-loop μ-loop
+loop-again c =
+    let lt = c .before .before in
+    let l = lt .before .loop in
+    let a = lt .before .before .before .args in
+    (search needs, rw (c .is-finite .ensures) (all-next (λ p. isFinite (getD (a .s .now) p nan)) (l .finite) (a .o) (a .n) (l .i) (lt .loop-test .taken)) ∙ l .inv .1)
+
+returns : tie.Need-returns Inv-loop μ-loop
+returns c =
+    let l = c .before .loop in
+    let a = c .before .before .before .args in
+    sym (all-over (λ p. isFinite (getD (a .s .now) p nan)) (l .finite) (a .o + l .i) (a .n) (l .i) (c .loop-test .left)) ∙ l .inv .1
+
+pub finite-from-spec : {M : Type 1} → statement M
+finite-from-spec =
+    tie.close
+    (tie.spec
+    Inv-loop
+    μ-loop
+    loop-holds
+    add-is-finite
+    mul-is-finite
+    shared-slice-read-is-finite
+    is-finite-requires
+    add-i
+    loop-less
+    loop-again
+    returns)

@@ -1,0 +1,10 @@
+pub mod Layout
+pub mod Records
+pub mod Store
+pub mod JointRows
+pub mod Model
+pub mod Refusals
+pub mod Spatial
+pub mod SingleRecords
+pub mod Answers
+pub mod Studies
