@@ -156,12 +156,12 @@ extern "C" {
 #define KATYDIDZINC_ROWS_GRANTED UINT64_C(4294967296)
 
 enum katydidzinc_refusal {
-    /* The model's rules: a call is refused with the number of the first that fails, in the order 1 to 6, 12, 7 to 11, 13 to 15, and of a frame 16 after 9 and its moves' 6 last. Each of 1 to 12 is tried
+    /* The model's rules: a call is refused with the number of the first that fails, in the order 1 to 6, 12, 7 to 11, 13 to 15, of a frame 16 after 9 and its moves' 6 last, and in space (katydidzinc_space.h) 17 after 3. Each of 1 to 12 is tried
      * on the whole model before the next; 13 to 15, in this order, on one record of the motor table before the next record. A call that is handed no row
      * storage passes over 8. */
     KATYDIDZINC_TOO_MANY_BODIES = 1,   /* More than 128 bodies are given. */
     KATYDIDZINC_TOO_MANY_JOINTS = 2,   /* More than 128 joints are given. */
-    KATYDIDZINC_LARGE_MASK = 3,        /* A mask exceeds 7, of a joint or of the new ones. */
+    KATYDIDZINC_LARGE_MASK = 3,        /* A mask exceeds 7, of a joint or of the new ones; in space 63. */
     KATYDIDZINC_ABSENT_BODY = 4,       /* A joint names a body that is neither present nor the world. */
     KATYDIDZINC_SAME_BODY = 5,         /* A joint names one body twice, the world included. */
     KATYDIDZINC_NOT_FINITE = 6,        /* A pose, mass, inertia, setting, centre, joint frame, softness or motor number, limit end or warm
@@ -178,6 +178,7 @@ enum katydidzinc_refusal {
     KATYDIDZINC_NOT_THREE_NUMBERS = 14, /* A record of the table is not exactly three whole numbers, each at most 8000000 in size. */
     KATYDIDZINC_ABSENT_AXIS = 15,      /* A record's joint or axis is absent. */
     KATYDIDZINC_SUBSTEPS = 16,         /* A frame of no substep or of more than 16 is wanted. */
+    KATYDIDZINC_NOT_LINEAR = 17,       /* A joint in space, enabled or not, has a coupled axis, or a limit or motor bit on an angular axis, locked or not. */
 
     /* Tried after all of these by a read, and before all of these by a sweep and by a frame. */
     KATYDIDZINC_SHORT_SLICE = 1000,    /* The model grants the read, and a slice that the read is to write is too short for it; or the slice for a
@@ -383,7 +384,7 @@ static inline const char *katydidzinc_rule(uint64_t answer)
     switch (answer) {
     case KATYDIDZINC_TOO_MANY_BODIES: return "more than 128 bodies are given";
     case KATYDIDZINC_TOO_MANY_JOINTS: return "more than 128 joints are given";
-    case KATYDIDZINC_LARGE_MASK: return "a mask exceeds 7";
+    case KATYDIDZINC_LARGE_MASK: return "a mask exceeds 7, in space 63";
     case KATYDIDZINC_ABSENT_BODY: return "a joint names a body that is neither present nor the world";
     case KATYDIDZINC_SAME_BODY: return "a joint names one body twice";
     case KATYDIDZINC_NOT_FINITE: return "a number is NaN or infinite";
@@ -397,6 +398,7 @@ static inline const char *katydidzinc_rule(uint64_t answer)
     case KATYDIDZINC_NOT_THREE_NUMBERS: return "a record is not exactly three whole numbers, each at most 8000000 in size";
     case KATYDIDZINC_ABSENT_AXIS: return "a record's joint or axis is absent";
     case KATYDIDZINC_SUBSTEPS: return "a frame of no substep or of more than 16 is wanted";
+    case KATYDIDZINC_NOT_LINEAR: return "a joint in space has a coupled axis, or a limit or a motor on an angular axis";
     case KATYDIDZINC_SHORT_SLICE: return "a slice is too short for what is read, counted or drawn";
     case KATYDIDZINC_BAD_SLICE: return "a slice is NULL, not aligned or longer than memory";
     case KATYDIDZINC_OVERLAP: return "two slices overlap";

@@ -2,30 +2,21 @@
  *
  *   boundary [COUNT] [SEED]
  *
- * Each slice lies in a page of its own between two pages that cannot be read, flush with one of them, and the rest of its page holds a pattern. So a
- * number or byte read or written past an end of a slice that is flush there ends the program; one that is written elsewhere breaks the pattern. A refused call, and one whose
+ * Slices lie between pages that cannot be read (tests/lent.h). A refused call, and one whose
  * slice is too short, must leave every slice as it was; a granted one may change only the slices that the header names, a build and a row read only so
  * many rows as they answer, a sweep and a frame only the first 128 of the bytes for their counts, a frame no mass and no part of a record, a load only first rows, a mask change these and four masks. The program itself is to be compiled with -fsanitize=address,undefined.
  */
 #define _DEFAULT_SOURCE
 #include "katydidzinc.h"
+#include "lent.h"
 
 #include <inttypes.h>
 #include <stdio.h>
 #include <stdlib.h>
 #include <string.h>
-#include <sys/mman.h>
 
 #define JOINTS 3
 #define BODIES 3
-#define MOST 512 /* words in a page that a slice may take */
-#define BYTES 200  /* bytes of a motor table, at most */
-#define COUNTS 160 /* bytes for the counts of a sweep or a frame are fewer */
-#define GUARD 16
-#define PATTERN UINT32_C(0x7FEDCBA9)
-
-enum { IN_BODIES, IN_WORDS, IN_NUMBERS, IN_ROWS, IN_OUT, IN_IDS, SLICES };
-static const char *const slice_names[SLICES] = {"bodies", "words", "numbers", "rows", "out", "ids"};
 static const size_t whole[SLICES] = {BODIES * KATYDIDZINC_BODY_WIDTH,
                                      JOINTS *KATYDIDZINC_WORDS_WIDTH,
                                      JOINTS *KATYDIDZINC_NUMBERS_WIDTH,
@@ -40,17 +31,8 @@ static const char *const call_names[CALLS] = {"load",          "place",       "b
 static const unsigned writes[CALLS] = {1 << IN_WORDS, 1 << IN_BODIES, 1 << IN_ROWS, 1 << IN_BODIES, 1 << IN_BODIES | 1 << IN_ROWS,
                                        1 << IN_ROWS, 1 << IN_NUMBERS, 1 << IN_OUT | 1 << IN_IDS, 1 << IN_OUT, 1 << IN_NUMBERS, 1 << IN_WORDS, 1 << IN_BODIES | 1 << IN_NUMBERS | 1 << IN_ROWS, 1 << IN_OUT, 0};
 
-/* A slice of bytes beside those: the counts of a sweep or a frame, or a motor table. */
-static unsigned char *byte_page;
-static unsigned char byte_model[BYTES];
-static unsigned char byte_lengths_seen[COUNTS];
-
-static uint32_t *pages[SLICES];
-static size_t page_words;
-static uint32_t model[SLICES][MOST]; /* what a slice holds before the call */
 static uint64_t answers[CALLS][18]; /* granted, refused with 1 to 16, short */
 #define SHORT 17
-static unsigned char lengths_seen[SLICES][MOST];
 
 static uint64_t motors_at_bound; /* counted by granted sweeps and frames */
 static uint64_t moves;           /* bodies that granted frames moved */
@@ -58,16 +40,6 @@ static uint64_t first_rows;      /* above 0, stored by granted loads and mask ch
 static uint64_t tables_read;
 static uint64_t models_drawn, models_short;
 static uint64_t residuals; /* that are not 0 */
-
-static uint64_t state;
-
-static uint32_t draw(uint32_t below)
-{
-    state ^= state << 13;
-    state ^= state >> 7;
-    state ^= state << 17;
-    return (uint32_t)((state >> 32) % below);
-}
 
 static uint32_t bits(float x)
 {
@@ -138,16 +110,6 @@ static void vary(void)
     }
 }
 
-/* The slice's first words in its page: flush with one of the page's ends. */
-static uint32_t *lend(int slice, size_t len, int at_end)
-{
-    uint32_t *at = at_end ? pages[slice] + page_words - len : pages[slice];
-    if (len > 0) {
-        memcpy(at, model[slice], len * sizeof *at);
-    }
-    return at;
-}
-
 /* A motor table's bytes: mostly of records that are read, now and then with a fault; and its length, around 128 too. */
 static size_t draw_table(void)
 {
@@ -173,36 +135,6 @@ static size_t draw_table(void)
     return len;
 }
 
-/* Bytes for counts: their number around 128, and what they hold before the call. */
-static size_t draw_counts(void)
-{
-    size_t k;
-    for (k = 0; k < COUNTS; k++) {
-        byte_model[k] = (unsigned char)(0x80 + draw(100));
-    }
-    return draw(2) ? KATYDIDZINC_MOST_JOINTS : draw(3) == 0 ? 120 + draw(16) : draw(COUNTS);
-}
-
-static unsigned char *lend_bytes(size_t len, int at_end)
-{
-    unsigned char *at = at_end ? byte_page + page_words * sizeof(uint32_t) - len : byte_page;
-    memcpy(at, byte_model, len);
-    return at;
-}
-
-/* Whether the bytes about the slice still hold the pattern; the slice's own get it again. */
-static int guarded_bytes(unsigned char *at, size_t len)
-{
-    unsigned char *end = byte_page + page_words * sizeof(uint32_t), *p;
-    for (p = at - byte_page < GUARD ? byte_page : at - GUARD; p < end && p < at + len + GUARD; p++) {
-        if ((p < at || p >= at + len) && *p != 0xA9) {
-            return 0;
-        }
-    }
-    memset(at, 0xA9, len);
-    return 1;
-}
-
 static void fail(const char *what, int call, int slice, uint64_t answer, const size_t *lens)
 {
     int i;
@@ -212,23 +144,6 @@ static void fail(const char *what, int call, int slice, uint64_t answer, const s
     }
     printf("\n");
     exit(1);
-}
-
-/* Whether the words about a slice still hold the pattern; the slice's own get it again. */
-static int guarded(int slice, uint32_t *at, size_t len)
-{
-    uint32_t *from = at - pages[slice] < GUARD ? pages[slice] : at - GUARD;
-    uint32_t *end = pages[slice] + page_words - (at + len) < GUARD ? pages[slice] + page_words : at + len + GUARD;
-    uint32_t *p;
-    for (p = from; p < end; p++) {
-        if ((p < at || p >= at + len) && *p != PATTERN) {
-            return 0;
-        }
-    }
-    for (p = at; p < at + len; p++) {
-        *p = PATTERN;
-    }
-    return 1;
 }
 
 /* The words after a granted load, or a mask change of a joint: the joints that are there have their first rows, each at most six rows after the one before; that joint has the
@@ -586,32 +501,12 @@ static void checks(void)
 int main(int argc, char **argv)
 {
     long count = argc > 1 ? atol(argv[1]) : 1000000, i;
-    size_t bytes = 4096, k;
-    int call, slice;
+    size_t k;
+    int call;
     state = (argc > 2 ? (uint64_t)atol(argv[2]) : 1) * UINT64_C(0x9E3779B97F4A7C15) + 1;
-    page_words = bytes / sizeof(uint32_t);
-    for (slice = 0; slice < SLICES; slice++) {
-        char *three = (char *)mmap(NULL, 3 * bytes, PROT_NONE, MAP_PRIVATE | MAP_ANONYMOUS, -1, 0);
-        if (three == (char *)MAP_FAILED || mprotect(three + bytes, bytes, PROT_READ | PROT_WRITE) != 0) {
-            printf("no pages\n");
-            return 1;
-        }
-        pages[slice] = (uint32_t *)(void *)(three + bytes);
-        for (k = 0; k < page_words; k++) {
-            pages[slice][k] = PATTERN;
-        }
-        for (k = 0; k < MOST; k++) {
-            model[slice][k] = UINT32_C(0x3F000000) + (uint32_t)k;
-        }
-    }
-    {
-        char *three = (char *)mmap(NULL, 3 * bytes, PROT_NONE, MAP_PRIVATE | MAP_ANONYMOUS, -1, 0);
-        if (three == (char *)MAP_FAILED || mprotect(three + bytes, bytes, PROT_READ | PROT_WRITE) != 0) {
-            printf("no pages\n");
-            return 1;
-        }
-        byte_page = (unsigned char *)three + bytes;
-        memset(byte_page, 0xA9, bytes);
+    if (!lay_pages()) {
+        printf("no pages\n");
+        return 1;
     }
     checks();
     for (i = 0; i < count; i++) {
@@ -635,19 +530,8 @@ int main(int argc, char **argv)
         }
         printf("\n");
     }
-    for (slice = 0; slice < SLICES; slice++) {
-        for (k = 0; k < whole[slice] + 3; k++) {
-            if (!lengths_seen[slice][k]) {
-                printf("no slice %s of length %zu was lent: too few calls\n", slice_names[slice], k);
-                return count >= 100000;
-            }
-        }
-    }
-    for (k = 0; k < COUNTS; k++) {
-        if (!byte_lengths_seen[k]) {
-            printf("no counts of length %zu were lent: too few calls\n", k);
-            return count >= 100000;
-        }
+    if (!every_length(whole)) {
+        return count >= 100000;
     }
     printf("%" PRIu64 " motors at a bound in the last rounds; %" PRIu64 " bodies moved by frames; %" PRIu64 " residuals that are not 0; %" PRIu64 " motor tables read, written and read again; %" PRIu64 " first rows above 0 stored\n",
            motors_at_bound, moves, residuals, tables_read, first_rows);
