@@ -13,7 +13,7 @@
 
 A study holds its model in flat arrays, `bodies`, `words`, `numbers` and `rows`: numpy's where numpy is installed, else those of the module array. A caller
 may read and write them between calls. include/katydidzinc.h describes the records and the calls, and this module has its names and numbers. A call that is
-refused raises `Refused` and leaves everything as it was.
+refused raises `Refused` and leaves everything as it was. `space` is the same for joints in space.
 """
 
 import array
@@ -63,13 +63,13 @@ MICRO_OVER, MICRO_NAN = 4294967296, 8589934592
 
 TOO_MANY_BODIES, TOO_MANY_JOINTS, LARGE_MASK, ABSENT_BODY, SAME_BODY, NOT_FINITE = range(1, 7)
 NEGATIVE_DT, SMALL_STORAGE, TOO_MANY_ROUNDS, NOT_BUILT, ABSENT, LARGE_ANGLE = range(7, 13)
-BROKEN_TABLE, NOT_THREE_NUMBERS, ABSENT_AXIS, SUBSTEPS = range(13, 17)
+BROKEN_TABLE, NOT_THREE_NUMBERS, ABSENT_AXIS, SUBSTEPS, NOT_LINEAR = range(13, 18)
 SHORT_SLICE, BAD_SLICE, OVERLAP, FLOAT_MODE = range(1000, 1004)
 
 RULES = {
     TOO_MANY_BODIES: "more than 128 bodies are given",
     TOO_MANY_JOINTS: "more than 128 joints are given",
-    LARGE_MASK: "a mask exceeds 7",
+    LARGE_MASK: "a mask exceeds 7, in space 63",
     ABSENT_BODY: "a joint names a body that is neither present nor the world",
     SAME_BODY: "a joint names one body twice",
     NOT_FINITE: "a number is NaN or infinite",
@@ -83,6 +83,7 @@ RULES = {
     NOT_THREE_NUMBERS: "a record is not exactly three whole numbers, each at most 8000000 in size",
     ABSENT_AXIS: "a record's joint or axis is absent",
     SUBSTEPS: "a frame of no substep or of more than 16 is wanted",
+    NOT_LINEAR: "a joint in space has a coupled axis, or a limit or a motor on an angular axis",
     SHORT_SLICE: "a slice is too short for what is read, counted or drawn",
     BAD_SLICE: "a slice is NULL, not aligned or longer than memory",
     OVERLAP: "two slices overlap",
@@ -187,6 +188,11 @@ def _word(n):
     if not 0 <= n < 2**32:
         raise OverflowError(f"{n} is not from 0 to 4294967295")
     return n
+
+
+def _enabled(given):
+    """The word of JointEnabled, of True, False or one of its three numbers."""
+    return {True: JOINT_ENABLED, False: JOINT_DISABLED}[given] if isinstance(given, bool) else given
 
 
 def _table_bytes(table):
@@ -352,8 +358,7 @@ class Joint:
     def _words(self, number):
         models = [m.model for m in self._axes(self.motors, Motor)]
         masks = [self.locked_axes, self.limit_axes, self.motor_axes, self.coupled_axes]
-        enabled = {True: JOINT_ENABLED, False: JOINT_DISABLED}[self.enabled] if isinstance(self.enabled, bool) else self.enabled
-        return [_word(w) for w in (number(self.body1), number(self.body2), *masks, *models, enabled, self._center()[0], 0)]
+        return [_word(w) for w in (number(self.body1), number(self.body2), *masks, *models, _enabled(self.enabled), self._center()[0], 0)]
 
     def _numbers(self):
         flat = self.frame1._list() + self.frame2._list()
@@ -417,8 +422,14 @@ def _shown(x):
 # ---- a study
 
 
-class Study:
-    """A model with its row storage. `built` is the mark: load and a mask change clear it, and build and frame set it."""
+Widths = collections.namedtuple("Widths", "prefix body words numbers row most_rows read_numbers read_ids velocity")
+Widths.__doc__ = "The prefix of a kind of model's functions, how many numbers and words its records have, how many rows a joint at most, and what its reads are lent."
+
+
+class Model:
+    """A model with its row storage, of the plane or of space: the calls that both have. `built` is the mark: load clears it, and build sets it."""
+
+    _widths = None
 
     def __init__(self, bodies=(), joints=(), dt=1.0 / 60.0, length_unit=1.0, normalized_max_corrective_velocity=3.0):
         self.dt, self.length_unit, self.normalized_max_corrective_velocity = dt, length_unit, normalized_max_corrective_velocity
@@ -426,10 +437,11 @@ class Study:
         bodies, joints = list(bodies), list(joints)
         self.body_names = [b.name or str(i) for i, b in enumerate(bodies)]
         self.joint_names = [j.name or str(i) for i, j in enumerate(joints)]
-        self.bodies = self._floats([x for b in bodies for x in b._list()], BODY_WIDTH)
-        self.words = self._integers([w for j in joints for w in j._words(self.body_number)], WORDS_WIDTH)
-        self.numbers = self._floats([x for j in joints for x in j._numbers()], NUMBERS_WIDTH)
-        self.rows = self._floats([0.0] * (len(joints) * MOST_ROWS * ROW_WIDTH), ROW_WIDTH)
+        of = self._widths
+        self.bodies = self._floats([x for b in bodies for x in b._list()], of.body)
+        self.words = self._integers([w for j in joints for w in j._words(self.body_number)], of.words)
+        self.numbers = self._floats([x for j in joints for x in j._numbers()], of.numbers)
+        self.rows = self._floats([0.0] * (len(joints) * of.most_rows * of.row), of.row)
 
     @staticmethod
     def _floats(flat, width):
@@ -473,7 +485,7 @@ class Study:
             raise Refused(name, OVERLAP)
         flat = [part for one in slices + (storage if rows else []) for part in one]
         last = [part for one in reads for part in one] + list(of_bytes or ())
-        answer = getattr(_lib, "katydidzinc_" + name)(
+        answer = getattr(_lib, self._widths.prefix + name)(
             self.dt, self.length_unit, self.normalized_max_corrective_velocity, int(bool(self.built)), *flat, *arguments, *last
         )
         if answer != GRANTED and answer < ROWS_GRANTED:
@@ -481,22 +493,9 @@ class Study:
         return answer - ROWS_GRANTED if answer else 0
 
     def load(self):
-        """Checks the model, stores each joint's first row in its words, and clears the mark."""
+        """Checks the model and clears the mark. In the plane it stores each joint's first row in its words."""
         self._call("load", True)
         self.built = False
-
-    def set_masks(self, joint, locked_axes=None, limit_axes=None, motor_axes=None, coupled_axes=None):
-        """Gives a joint new masks, stores each joint's first row, and clears the mark; stored impulses stay. A mask that is not given stays, too."""
-        number, words = _word(self.joint_number(joint)), memoryview(self.words).cast("B").cast("I")
-        places = range(number * WORDS_WIDTH + LOCKED_AXES, number * WORDS_WIDTH + COUPLED_AXES + 1)
-        own = [words[at] if at < len(words) else 0 for at in places]
-        given = (locked_axes, limit_axes, motor_axes, coupled_axes)
-        self._call("set_masks", True, number, *(_word(old if new is None else new) for old, new in zip(own, given)))
-        self.built = False
-
-    def place(self, body, x, y, re=1.0, im=0.0):
-        """Gives a body a new pose."""
-        self._call("place", False, _word(self.body_number(body)), re, im, x, y)
 
     def build(self, warm=None, substep=0):
         """Makes all rows and sets the mark; the number of rows. Impulses start at 0, or, with a warm coefficient, at it times the stored impulse (substep
@@ -513,17 +512,10 @@ class Study:
         """Solves each row n times, joints ascending. A list, a number a joint: how many of its motor rows were at a bound in the last round."""
         return self._counted("sweep", _word(n))
 
-    def frame(self, sweeps=4, substeps=1, warm=None):
-        """Moves the study on by dt, in substeps of dt/substeps: each builds, with the warm coefficient where one is given, warm starts, sweeps so many rounds, moves every body by its velocity, takes the
-        bias from each row and sweeps again; after the last comes a write-back. Sets the mark. A list as of the last sweep. Where a body would leave the finite numbers it is refused, and nothing has moved."""
-        counts = self._counted("frame", int(warm is not None), 0.0 if warm is None else warm, _word(sweeps), _word(substeps))
-        self.built = True
-        return counts
-
     def _counted(self, name, *arguments):
         counts = (ctypes.c_uint8 * MOST_JOINTS)()
         self._call(name, True, *arguments, of_bytes=(counts, MOST_JOINTS))
-        joints = min(memoryview(self.words).nbytes // (4 * WORDS_WIDTH), memoryview(self.numbers).nbytes // (4 * NUMBERS_WIDTH))
+        joints = min(memoryview(self.words).nbytes // (4 * self._widths.words), memoryview(self.numbers).nbytes // (4 * self._widths.numbers))
         return list(counts[:joints])
 
     def remove_bias(self):
@@ -534,27 +526,99 @@ class Study:
         """Stores each row's impulse in its joint."""
         self._call("write_back", True)
 
+    def _read(self, joint):
+        """A joint's rows and ids as a row read writes them, and their number."""
+        out, ids = array.array("f", bytes(4 * self._widths.read_numbers)), array.array("I", bytes(4 * self._widths.read_ids))
+        count = self._call("read_rows", True, _word(self.joint_number(joint)), out=out, ids=ids)
+        return out, ids, count
+
     def read_rows(self, joint):
         """A joint's rows, a Row each."""
-        out, ids = array.array("f", bytes(4 * READ_NUMBERS)), array.array("I", bytes(4 * READ_IDS))
-        count = self._call("read_rows", True, _word(self.joint_number(joint)), out=out, ids=ids)
-        found = []
-        for i in range(count):
-            n = out[i * ROW_WIDTH : (i + 1) * ROW_WIDTH]
-            kind, axis = ("Dof", "Limit", "Motor")[ids[i] // 4], ids[i] % 4
-            found.append(Row(f"{kind}{axis}", kind, axis, n[0], n[1], n[2], (n[3], n[4]), *n[5:14], (n[14], n[15]), (n[16], n[17])))
-        return found
+        out, ids, count = self._read(joint)
+        width = self._widths.row
+        return [self._row(ids[i], out[i * width : (i + 1) * width]) for i in range(count)]
 
     def read_velocity(self, body):
-        """A body's velocity: x, y, angular."""
-        out = array.array("f", bytes(4 * VELOCITY_NUMBERS))
+        """A body's velocity, linear and angular."""
+        out = array.array("f", bytes(4 * self._widths.velocity))
         self._call("read_velocity", False, _word(self.body_number(body)), out=out)
-        return Velocity(*out)
+        return self._velocity(out)
+
+    def _end(self, number):
+        return "world" if number == WORLD else self.body_names[number]
+
+    def table(self):
+        """All rows of the built study, with their bounds and the definitions that made them."""
+        rows, flat, width = Table(), memoryview(self.words).cast("B").cast("I"), self._widths.words
+        for j, name in enumerate(self.joint_names):
+            words = flat[j * width : (j + 1) * width]
+            for r in self.read_rows(j):
+                low, high = r.impulse == r.impulse_min, r.impulse == r.impulse_max
+                at = "both" if low and high else "low" if low else "high" if high else ""
+                unit, rule, definition = self._rule(r, words)
+                rows.append(TableRow(name, self._end(words[0]), self._end(words[1]), r.id, unit, r.impulse, r.impulse_min, r.impulse_max, at, rule, definition))
+        return rows
+
+    def plot(self, path=None):
+        """The impulses of all rows as bars, by matplotlib: saved to `path`, or shown."""
+        try:
+            from matplotlib import pyplot
+        except ImportError:
+            raise ImportError("a plot needs matplotlib, which is not installed; table() needs nothing") from None
+        rows = self.table()
+        figure, axes = pyplot.subplots(figsize=(max(4.0, 0.5 * len(rows) + 2.0), 4.0), layout="constrained")
+        axes.bar(range(len(rows)), [r.impulse for r in rows], color=["tab:orange" if r.at else "tab:blue" for r in rows])
+        axes.set_xticks(range(len(rows)), [f"{r.joint} {r.id}" for r in rows], rotation=90)
+        axes.axhline(0.0, color="black", linewidth=0.5)
+        axes.set_ylabel("impulse [N s, N m s]; orange: at a bound")
+        if path is None:
+            pyplot.show()
+        else:
+            figure.savefig(path)
+        pyplot.close(figure)
+
+
+class Study(Model):
+    """A planar model with its row storage. `built` is the mark: load and a mask change clear it, and build and frame set it."""
+
+    _widths = Widths("katydidzinc_", BODY_WIDTH, WORDS_WIDTH, NUMBERS_WIDTH, ROW_WIDTH, MOST_ROWS, READ_NUMBERS, READ_IDS, VELOCITY_NUMBERS)
+
+    @staticmethod
+    def _row(number, n):
+        kind, axis = ("Dof", "Limit", "Motor")[number // 4], number % 4
+        return Row(f"{kind}{axis}", kind, axis, n[0], n[1], n[2], (n[3], n[4]), *n[5:14], (n[14], n[15]), (n[16], n[17]))
+
+    @staticmethod
+    def _velocity(n):
+        return Velocity(*n)
+
+    @staticmethod
+    def _rule(row, words):
+        return ("N*m*s" if row.axis == 2 else "N*s", *_rule(row.kind, row.axis, words[COUPLED_AXES]))
+
+    def set_masks(self, joint, locked_axes=None, limit_axes=None, motor_axes=None, coupled_axes=None):
+        """Gives a joint new masks, stores each joint's first row, and clears the mark; stored impulses stay. A mask that is not given stays, too."""
+        number, words = _word(self.joint_number(joint)), memoryview(self.words).cast("B").cast("I")
+        places = range(number * WORDS_WIDTH + LOCKED_AXES, number * WORDS_WIDTH + COUPLED_AXES + 1)
+        own = [words[at] if at < len(words) else 0 for at in places]
+        given = (locked_axes, limit_axes, motor_axes, coupled_axes)
+        self._call("set_masks", True, number, *(_word(old if new is None else new) for old, new in zip(own, given)))
+        self.built = False
+
+    def place(self, body, x, y, re=1.0, im=0.0):
+        """Gives a body a new pose."""
+        self._call("place", False, _word(self.body_number(body)), re, im, x, y)
+
+    def frame(self, sweeps=4, substeps=1, warm=None):
+        """Moves the study on by dt, in substeps of dt/substeps: each builds, with the warm coefficient where one is given, warm starts, sweeps so many rounds, moves every body by its velocity, takes the
+        bias from each row and sweeps again; after the last comes a write-back. Sets the mark. A list as of the last sweep. Where a body would leave the finite numbers it is refused, and nothing has moved."""
+        counts = self._counted("frame", int(warm is not None), 0.0 if warm is None else warm, _word(sweeps), _word(substeps))
+        self.built = True
+        return counts
 
     def _rows_read(self, joint):
-        """The slices of the bodies, the words and the numbers, a joint's number, and the slice of its rows, for a function that is no call on the model."""
-        out, ids = array.array("f", bytes(4 * READ_NUMBERS)), array.array("I", bytes(4 * READ_IDS))
-        count = self._call("read_rows", True, _word(joint), out=out, ids=ids)
+        """The slices of the bodies, the words and the numbers, and the slice of a joint's rows with their number, for a function that is no call on the model."""
+        out, _, count = self._read(joint)
         return self._slice(self.bodies, "f"), self._slice(self.words, "IL"), self._slice(self.numbers, "f"), out, count
 
     def reactions(self):
@@ -579,39 +643,6 @@ class Study:
         """Sets the motors' target velocities that a motor table names: text or bytes of RFC 4180 records, each a joint's number, an axis and thousandths."""
         self._call("set_targets", False, of_bytes=_table_bytes(table))
 
-    def _end(self, number):
-        return "world" if number == WORLD else self.body_names[number]
-
-    def table(self):
-        """All rows of the built study, with their bounds and the definitions that made them."""
-        rows, flat = Table(), memoryview(self.words).cast("B").cast("I")
-        for j, name in enumerate(self.joint_names):
-            body1, body2, coupled = (flat[j * WORDS_WIDTH + at] for at in (BODY1, BODY2, COUPLED_AXES))
-            for r in self.read_rows(j):
-                low, high = r.impulse == r.impulse_min, r.impulse == r.impulse_max
-                at = "both" if low and high else "low" if low else "high" if high else ""
-                unit = "N*m*s" if r.axis == 2 else "N*s"
-                rows.append(TableRow(name, self._end(body1), self._end(body2), r.id, unit, r.impulse, r.impulse_min, r.impulse_max, at, *_rule(r.kind, r.axis, coupled)))
-        return rows
-
-    def plot(self, path=None):
-        """The impulses of all rows as bars, by matplotlib: saved to `path`, or shown."""
-        try:
-            from matplotlib import pyplot
-        except ImportError:
-            raise ImportError("a plot needs matplotlib, which is not installed; table() needs nothing") from None
-        rows = self.table()
-        figure, axes = pyplot.subplots(figsize=(max(4.0, 0.5 * len(rows) + 2.0), 4.0), layout="constrained")
-        axes.bar(range(len(rows)), [r.impulse for r in rows], color=["tab:orange" if r.at else "tab:blue" for r in rows])
-        axes.set_xticks(range(len(rows)), [f"{r.joint} {r.id}" for r in rows], rotation=90)
-        axes.axhline(0.0, color="black", linewidth=0.5)
-        axes.set_ylabel("impulse [N s, N m s]; orange: at a bound")
-        if path is None:
-            pyplot.show()
-        else:
-            figure.savefig(path)
-        pyplot.close(figure)
-
 
 def seeded(seed):
     """The study that a seed from 0 to 4294967295 draws, of one to eight bodies and up to eight joints: a load that others can repeat. Its load is always granted."""
@@ -631,3 +662,5 @@ def seeded(seed):
 
 
 _NONE = ctypes.c_uint32()
+
+import katydidzinc_space as space  # noqa: E402: it takes what is above from here
