@@ -69,13 +69,16 @@ macro_rules! calls {
                 bodies: $bodies, bodies_len: usize, words: $words, words_len: usize, numbers: $numbers, numbers_len: usize,
                 $($argument: $type),*
             ) -> u64;)*
-            fn katydidzinc_micro_report(x: f32) -> i64;
-            fn katydidzinc_seeded(
-                seed: u32, settings: *mut f32, settings_len: usize,
-                bodies: *mut f32, bodies_len: usize, words: *mut u32, words_len: usize, numbers: *mut f32, numbers_len: usize,
-            ) -> u64;
         }
     };
+}
+
+unsafe extern "C" {
+    fn katydidzinc_micro_report(x: f32) -> i64;
+    fn katydidzinc_seeded(
+        seed: u32, settings: *mut f32, settings_len: usize,
+        bodies: *mut f32, bodies_len: usize, words: *mut u32, words_len: usize, numbers: *mut f32, numbers_len: usize,
+    ) -> u64;
 }
 
 calls! {
@@ -100,7 +103,7 @@ pub struct Refused(pub u64);
 /// What a call answers: a number of rows, 0 where it has none to tell.
 pub type Answer = Result<u32, Refused>;
 
-fn answer(number: u64) -> Answer {
+pub fn answer(number: u64) -> Answer {
     match number {
         0 => Ok(0),
         ROWS_GRANTED.. => Ok((number - ROWS_GRANTED) as u32),
@@ -152,6 +155,10 @@ macro_rules! call {
         })
     }};
 }
+
+/// For katydidzinc_space.rs too.
+#[allow(unused_imports)]
+pub(crate) use {call, calls};
 
 /// The Rust's `set_limits`, of a joint's words and numbers: limits an axis, 0, 1 or 2. A centre of the angular limit that is not given is the middle of its ends, typed as an angle; where they are a
 /// turn or more apart it stays.
