@@ -20,9 +20,6 @@ Inv-loop bodies words numbers rows₀ warmstart substep-id n params j₀ first�
 abbrev μ-loop : tie.MeasureT-loop
 μ-loop bodies words numbers rows₀ warmstart substep-id n params j₀ first₀ rows j first = n - j
 
-joint-count-requires : tie.Need-joint-count-requires Inv-loop μ-loop
-joint-count-requires c κs = search needs
-
 loop-holds : tie.Need-loop-holds Inv-loop μ-loop
 loop-holds c = (first-turn space _ _ _ _, refl)
 
@@ -46,12 +43,6 @@ add-first c =
     let st = jc .before .before .before .before .before in
     omega (arith, st .good .1 .1 .1 .1 .0, rows-within space _ _ _ (st .pre .1) (jc .joint-count .ensures) (lt .loop-test .taken) (lp .loop .inv .0 .begins) (bj .build-joint .ensures .0))
 
-add-j : tie.Need-add-j Inv-loop μ-loop
-add-j c = search needs
-
-loop-less : tie.Need-loop-less Inv-loop μ-loop
-loop-less c = search needs
-
 loop-again : tie.Need-loop-again Inv-loop μ-loop
 unfolding buildOne
 loop-again c =
@@ -60,9 +51,6 @@ loop-again c =
     let t = lt .before .loop .inv .0 in
     let made = bj .build-joint .ensures in
     (next-turn space _ _ _ t (lt .loop-test .taken) (made .0) (made .1 ∙ rw (t .begins)), bj .build-joint .kept .1 .1 .1 .1 .1 .0 ∙ lt .before .loop .inv .1)
-
-same-length : tie.Need-same-length Inv-loop μ-loop
-same-length c = search needs
 
 returns : tie.Need-returns Inv-loop μ-loop
 unfolding buildOne
@@ -73,15 +61,4 @@ returns c =
 pub build-all-spec : {M : Type 1} → statement M
 build-all-spec =
     tie.close
-    (tie.spec
-    Inv-loop
-    μ-loop
-    joint-count-requires
-    loop-holds
-    build-joint-requires
-    add-first
-    add-j
-    loop-less
-    loop-again
-    same-length
-    returns)
+    (tie.spec Inv-loop μ-loop (λ c κs. search needs) loop-holds build-joint-requires add-first (λ c. search needs) (λ c. search needs) loop-again (λ c. search needs) returns)

@@ -17,9 +17,6 @@ Inv-loop bodies words numbers rows₀ n j₀ first₀ rows j first = Turn space 
 abbrev μ-loop : tie.MeasureT-loop
 μ-loop bodies words numbers rows₀ n j₀ first₀ rows j first = n - j
 
-joint-count-requires : tie.Need-joint-count-requires Inv-loop μ-loop
-joint-count-requires c κs = search needs
-
 loop-holds : tie.Need-loop-holds Inv-loop μ-loop
 loop-holds c = (first-turn space _ _ _ _, refl)
 
@@ -43,12 +40,6 @@ add-first c =
     let st = jc .before .before .before .before .before in
     omega (arith, st .good .1 .1 .1 .1 .0, rows-within space _ _ _ (st .pre) (jc .joint-count .ensures) (lt .loop-test .taken) (lp .loop .inv .0 .begins) (ca .count-at .ensures))
 
-add-j : tie.Need-add-j Inv-loop μ-loop
-add-j c = search needs
-
-loop-less : tie.Need-loop-less Inv-loop μ-loop
-loop-less c = search needs
-
 loop-again : tie.Need-loop-again Inv-loop μ-loop
 unfolding removeBiasOne
 loop-again c =
@@ -58,25 +49,10 @@ loop-again c =
     let t = lp .loop .inv .0 in
     (next-turn space _ _ _ t (ca .before .loop-test .taken) (ca .count-at .ensures) (rb .remove-bias-joint .ensures ∙ rw (t .begins, ca .count-at .ensures)), rb .remove-bias-joint .kept .0 ∙ lp .loop .inv .1)
 
-same-length : tie.Need-same-length Inv-loop μ-loop
-same-length c = search needs
-
 returns : tie.Need-returns Inv-loop μ-loop
 returns c = rw (← c .before .before .joint-count .ensures) (no-turn space _ _ _ (c .before .loop .inv .0) (c .loop-test .left))
 
 pub remove-bias-all-spec : {M : Type 1} → statement M
 remove-bias-all-spec =
     tie.close
-    (tie.spec
-    Inv-loop
-    μ-loop
-    joint-count-requires
-    loop-holds
-    count-at-requires
-    remove-bias-joint-requires
-    add-first
-    add-j
-    loop-less
-    loop-again
-    same-length
-    returns)
+    (tie.spec Inv-loop μ-loop (λ c κs. search needs) loop-holds count-at-requires remove-bias-joint-requires add-first (λ c. search needs) (λ c. search needs) loop-again (λ c. search needs) returns)

@@ -30,12 +30,6 @@ sweep-round-requires c κs =
     let st = lp .before .before .before .before .before .before in
     (still-sound space _ _ (lp .loop .inv .1) (st .pre .0), (still-room space _ _ (lp .loop .inv .2) (st .pre .1 .0), rw (lp .loop .inv .3) (st .pre .1 .1)))
 
-add-round : tie.Need-add-round Inv-loop μ-loop
-add-round c = search needs
-
-loop-less : tie.Need-loop-less Inv-loop μ-loop
-loop-less c = search needs
-
 loop-again : tie.Need-loop-again Inv-loop μ-loop
 loop-again c =
     let sr = c .before .before .before .before .before .before in
@@ -48,30 +42,10 @@ loop-again c =
       next-round _ _ _ _ (lt .loop-test .taken) (sr .sweep-round .ensures) ∙ v .4,
     )
 
-same-length : tie.Need-same-length Inv-loop μ-loop
-same-length c = search needs
-
-same-length-2 : tie.Need-same-length-2 Inv-loop μ-loop
-same-length-2 c = search needs
-
-same-length-3 : tie.Need-same-length-3 Inv-loop μ-loop
-same-length-3 c = search needs
-
 returns : tie.Need-returns Inv-loop μ-loop
 returns c = sym (no-round _ _ _ _ (c .loop-test .left)) ∙ c .before .loop .inv .4
 
 pub sweep-all-spec : {M : Type 1} → statement M
 sweep-all-spec =
     tie.close
-    (tie.spec
-    Inv-loop
-    μ-loop
-    loop-holds
-    sweep-round-requires
-    add-round
-    loop-less
-    loop-again
-    same-length
-    same-length-2
-    same-length-3
-    returns)
+    (tie.spec Inv-loop μ-loop loop-holds sweep-round-requires (λ c. search needs) (λ c. search needs) loop-again (λ c. search needs) (λ c. search needs) (λ c. search needs) returns)

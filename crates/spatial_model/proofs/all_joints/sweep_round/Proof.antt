@@ -23,9 +23,6 @@ Inv-loop bodies₀ words numbers rows₀ counts₀ n j₀ first₀ bodies rows c
 abbrev μ-loop : tie.MeasureT-loop
 μ-loop bodies₀ words numbers rows₀ counts₀ n j₀ first₀ bodies rows counts j first = n - j
 
-joint-count-requires : tie.Need-joint-count-requires Inv-loop μ-loop
-joint-count-requires c κs = search needs
-
 loop-holds : tie.Need-loop-holds Inv-loop μ-loop
 loop-holds c = (first-turn space _ _ _ _, refl, refl, refl)
 
@@ -84,12 +81,6 @@ add-first c =
     let st = jc .before .before .before .before .before .before in
     omega (arith, st .good .1 .1 .1 .1 .0, rows-within space _ _ _ (st .pre .1 .0) (jc .joint-count .ensures) (lt .loop-test .taken) (lp .loop .inv .0 .begins) (ca .count-at .ensures))
 
-add-j : tie.Need-add-j Inv-loop μ-loop
-add-j c = search needs
-
-loop-less : tie.Need-loop-less Inv-loop μ-loop
-loop-less c = search needs
-
 loop-again : tie.Need-loop-again Inv-loop μ-loop
 loop-again c =
     let sj = c .before .before .before .before in
@@ -107,15 +98,6 @@ loop-again c =
       length-set (lp .loop .counts) (lp .loop .j) (sj .sweep-joint .result) ∙ lp .loop .inv .3,
     )
 
-same-length : tie.Need-same-length Inv-loop μ-loop
-same-length c = search needs
-
-same-length-2 : tie.Need-same-length-2 Inv-loop μ-loop
-same-length-2 c = search needs
-
-same-length-3 : tie.Need-same-length-3 Inv-loop μ-loop
-same-length-3 c = search needs
-
 returns : tie.Need-returns Inv-loop μ-loop
 unfolding countedRound
 returns c = rw (← c .before .before .joint-count .ensures) (no-turn space _ _ _ (c .before .loop .inv .0) (c .loop-test .left))
@@ -123,22 +105,4 @@ returns c = rw (← c .before .before .joint-count .ensures) (no-turn space _ _ 
 pub sweep-round-spec : {M : Type 1} → statement M
 sweep-round-spec =
     tie.close
-    (tie.spec
-    Inv-loop
-    μ-loop
-    joint-count-requires
-    loop-holds
-    count-at-requires
-    body1-at-requires
-    body2-at-requires
-    motors-at-requires
-    sweep-joint-requires
-    slice-write-counts
-    add-first
-    add-j
-    loop-less
-    loop-again
-    same-length
-    same-length-2
-    same-length-3
-    returns)
+    (tie.spec Inv-loop μ-loop (λ c κs. search needs) loop-holds count-at-requires body1-at-requires body2-at-requires motors-at-requires sweep-joint-requires slice-write-counts add-first (λ c. search needs) (λ c. search needs) loop-again (λ c. search needs) (λ c. search needs) (λ c. search needs) returns)

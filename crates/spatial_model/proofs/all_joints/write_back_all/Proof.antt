@@ -17,9 +17,6 @@ Inv-loop bodies words numbers₀ rows n j₀ first₀ numbers j first = Turn spa
 abbrev μ-loop : tie.MeasureT-loop
 μ-loop bodies words numbers₀ rows n j₀ first₀ numbers j first = n - j
 
-joint-count-requires : tie.Need-joint-count-requires Inv-loop μ-loop
-joint-count-requires c κs = search needs
-
 loop-holds : tie.Need-loop-holds Inv-loop μ-loop
 loop-holds c = (first-turn space _ _ _ _, refl)
 
@@ -51,12 +48,6 @@ add-first c =
     let st = jc .before .before .before .before .before .before in
     omega (arith, st .good .1 .1 .1 .1 .0, rows-within space _ _ _ (st .pre) (jc .joint-count .ensures) (lt .loop-test .taken) (lp .loop .inv .0 .begins) (c .count-at .ensures))
 
-add-j : tie.Need-add-j Inv-loop μ-loop
-add-j c = search needs
-
-loop-less : tie.Need-loop-less Inv-loop μ-loop
-loop-less c = search needs
-
 loop-again : tie.Need-loop-again Inv-loop μ-loop
 unfolding writeBackOne
 loop-again c =
@@ -65,25 +56,10 @@ loop-again c =
     let t = lt .before .loop .inv .0 in
     (next-turn space _ _ _ t (lt .loop-test .taken) (c .count-at .ensures) (wb .write-back-joint .ensures ∙ rw (t .begins)), wb .write-back-joint .kept .1 .1 .1 .1 .0 ∙ lt .before .loop .inv .1)
 
-same-length : tie.Need-same-length Inv-loop μ-loop
-same-length c = search needs
-
 returns : tie.Need-returns Inv-loop μ-loop
 returns c = rw (← c .before .before .joint-count .ensures) (no-turn space _ _ _ (c .before .loop .inv .0) (c .loop-test .left))
 
 pub write-back-all-spec : {M : Type 1} → statement M
 write-back-all-spec =
     tie.close
-    (tie.spec
-    Inv-loop
-    μ-loop
-    joint-count-requires
-    loop-holds
-    write-back-joint-requires
-    count-at-requires
-    add-first
-    add-j
-    loop-less
-    loop-again
-    same-length
-    returns)
+    (tie.spec Inv-loop μ-loop (λ c κs. search needs) loop-holds write-back-joint-requires count-at-requires add-first (λ c. search needs) (λ c. search needs) loop-again (λ c. search needs) returns)

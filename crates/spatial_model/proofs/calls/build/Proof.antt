@@ -11,25 +11,10 @@ use borrow.Author.Tests.{not-true, not-false}
 use Rattle.spatial_model.proofs.calls.build.Statement.{statement}
 use Rattle.spatial_model.proofs.calls.build.Tie as tie
 
-finite-warm-requires : tie.Need-finite-warm-requires
-finite-warm-requires c κs = search needs
-
-storage-refusal-requires : tie.Need-storage-refusal-requires
-storage-refusal-requires c κs = search needs
-
-same-length : tie.Need-same-length
-same-length c = search needs
-
 returns : tie.Need-returns
 returns c =
     let sr = c .before in
     refused-early spatial-laws _ _ _ (rw (sr .before .before .finite-warm .ensures) at (sr .storage-refusal .ensures)) (c .if1 .taken)
-
-reads-rows-requires : tie.Need-reads-rows-requires
-reads-rows-requires c κs = search needs
-
-same-length-2 : tie.Need-same-length-2
-same-length-2 c = search needs
 
 returns-2 : tie.Need-returns-2
 returns-2 c =
@@ -46,9 +31,6 @@ build-all-requires c κs =
     let e = e1 .before .storage-refusal .ensures in
     (call-sound spatial-laws _ _ _ e (e1 .if1 .left), call-room spatial-laws _ _ _ e (e1 .if1 .left))
 
-same-length-3 : tie.Need-same-length-3
-same-length-3 c = search needs
-
 returns-3 : tie.Need-returns-3
 unfolding grantedOf
 returns-3 c =
@@ -64,14 +46,4 @@ returns-3 c =
 pub build-spec : {M : Type 1} → statement M
 build-spec =
     tie.close
-    (tie.spec
-    finite-warm-requires
-    storage-refusal-requires
-    same-length
-    returns
-    reads-rows-requires
-    same-length-2
-    returns-2
-    build-all-requires
-    same-length-3
-    returns-3)
+    (tie.spec (λ c κs. search needs) (λ c κs. search needs) (λ c. search needs) returns (λ c κs. search needs) (λ c. search needs) returns-2 build-all-requires (λ c. search needs) returns-3)

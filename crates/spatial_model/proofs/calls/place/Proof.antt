@@ -11,25 +11,10 @@ use borrow.Author.Needs.{needs}
 use Rattle.spatial_model.proofs.calls.place.Statement.{statement}
 use Rattle.spatial_model.proofs.calls.place.Tie as tie
 
-finite-pose-requires : tie.Need-finite-pose-requires
-finite-pose-requires c κs = search needs
-
-model-refusal-requires : tie.Need-model-refusal-requires
-model-refusal-requires c κs = search needs
-
-same-length : tie.Need-same-length
-same-length c = search needs
-
 returns : tie.Need-returns
 returns c rows =
     let mr = c .before in
     refused-early spatial-laws _ _ _ (rw (mr .before .before .finite-pose .ensures) at (mr .model-refusal .ensures)) (c .if1 .taken)
-
-body-count-requires : tie.Need-body-count-requires
-body-count-requires c κs = search needs
-
-same-length-2 : tie.Need-same-length-2
-same-length-2 c = search needs
 
 returns-2 : tie.Need-returns-2
 returns-2 c rows =
@@ -43,9 +28,6 @@ put-pose-requires : tie.Need-put-pose-requires
 put-pose-requires c κs =
     let e2 = c .before in
     body-there space _ _ (rw (e2 .before .body-count .ensures) at (e2 .if2 .left))
-
-same-length-3 : tie.Need-same-length-3
-same-length-3 c = search needs
 
 returns-3 : tie.Need-returns-3
 unfolding grantedOf
@@ -62,14 +44,4 @@ returns-3 c rows =
 pub place-spec : {M : Type 1} → statement M
 place-spec =
     tie.close
-    (tie.spec
-    finite-pose-requires
-    model-refusal-requires
-    same-length
-    returns
-    body-count-requires
-    same-length-2
-    returns-2
-    put-pose-requires
-    same-length-3
-    returns-3)
+    (tie.spec (λ c κs. search needs) (λ c κs. search needs) (λ c. search needs) returns (λ c κs. search needs) (λ c. search needs) returns-2 put-pose-requires (λ c. search needs) returns-3)

@@ -14,19 +14,10 @@ use borrow.Author.Tests.{not-true, not-false}
 use Rattle.spatial_model.proofs.calls.read_rows.Statement.{statement}
 use Rattle.spatial_model.proofs.calls.read_rows.Tie as tie
 
-storage-refusal-requires : tie.Need-storage-refusal-requires
-storage-refusal-requires c κs = search needs
-
-no-rows-requires : tie.Need-no-rows-requires
-no-rows-requires c κs = search needs
-
 returns : tie.Need-returns
 returns c =
     let t1 = c .before in
     rows-refused _ _ _ (c .no-rows .ensures) (refused-early spatial-laws _ _ _ (t1 .before .storage-refusal .ensures) (t1 .if1 .taken))
-
-no-rows-requires-2 : tie.Need-no-rows-requires-2
-no-rows-requires-2 c κs = search needs
 
 returns-2 : tie.Need-returns-2
 returns-2 c =
@@ -34,12 +25,6 @@ returns-2 c =
     let e1 = t2 .before .before in
     rows-refused _ _ _ (c .no-rows2 .ensures)
     (refused-late spatial-laws _ _ _ (e1 .before .storage-refusal .ensures) (e1 .if1 .left) (not-built _ _ (not-true _ (t2 .if2 .taken))) (omega arith))
-
-joint-count-requires : tie.Need-joint-count-requires
-joint-count-requires c κs = search needs
-
-no-rows-requires-3 : tie.Need-no-rows-requires-3
-no-rows-requires-3 c κs = search needs
 
 returns-3 : tie.Need-returns-3
 returns-3 c =
@@ -89,17 +74,4 @@ returns-4 c =
 pub read-rows-spec : {M : Type 1} → statement M
 read-rows-spec =
     tie.close
-    (tie.spec
-    storage-refusal-requires
-    no-rows-requires
-    returns
-    no-rows-requires-2
-    returns-2
-    joint-count-requires
-    no-rows-requires-3
-    returns-3
-    ids-at-requires
-    rows-before-requires
-    count-at-requires
-    rows-from-requires
-    returns-4)
+    (tie.spec (λ c κs. search needs) (λ c κs. search needs) returns (λ c κs. search needs) returns-2 (λ c κs. search needs) (λ c κs. search needs) returns-3 ids-at-requires rows-before-requires count-at-requires rows-from-requires returns-4)

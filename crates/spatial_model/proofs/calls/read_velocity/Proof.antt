@@ -11,14 +11,8 @@ use borrow.Author.Needs.{needs}
 use Rattle.spatial_model.proofs.calls.read_velocity.Statement.{statement}
 use Rattle.spatial_model.proofs.calls.read_velocity.Tie as tie
 
-model-refusal-requires : tie.Need-model-refusal-requires
-model-refusal-requires c κs = search needs
-
 returns : tie.Need-returns
 returns c rows = refused-early spatial-laws _ _ _ (c .before .model-refusal .ensures) (c .if1 .taken)
-
-body-count-requires : tie.Need-body-count-requires
-body-count-requires c κs = search needs
 
 returns-2 : tie.Need-returns-2
 returns-2 c rows =
@@ -41,10 +35,4 @@ returns-3 c rows =
 pub read-velocity-spec : {M : Type 1} → statement M
 read-velocity-spec =
     tie.close
-    (tie.spec
-    model-refusal-requires
-    returns
-    body-count-requires
-    returns-2
-    vel-at-requires
-    returns-3)
+    (tie.spec (λ c κs. search needs) returns (λ c κs. search needs) returns-2 vel-at-requires returns-3)

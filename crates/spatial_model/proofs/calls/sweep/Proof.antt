@@ -10,31 +10,10 @@ use borrow.Author.Tests.{not-true, not-false}
 use Rattle.spatial_model.proofs.calls.sweep.Statement.{statement}
 use Rattle.spatial_model.proofs.calls.sweep.Tie as tie
 
-storage-refusal-requires : tie.Need-storage-refusal-requires
-storage-refusal-requires c κs = search needs
-
-no-counts-requires : tie.Need-no-counts-requires
-no-counts-requires c κs = search needs
-
-same-length : tie.Need-same-length
-same-length c = search needs
-
-same-length-2 : tie.Need-same-length-2
-same-length-2 c = search needs
-
 returns : tie.Need-returns
 returns c =
     let t1 = c .before in
     sweep-refused _ _ _ (c .no-counts .ensures) (refused-early spatial-laws _ _ _ (t1 .before .storage-refusal .ensures) (t1 .if1 .taken))
-
-no-counts-requires-2 : tie.Need-no-counts-requires-2
-no-counts-requires-2 c κs = search needs
-
-same-length-3 : tie.Need-same-length-3
-same-length-3 c = search needs
-
-same-length-4 : tie.Need-same-length-4
-same-length-4 c = search needs
 
 returns-2 : tie.Need-returns-2
 returns-2 c =
@@ -42,15 +21,6 @@ returns-2 c =
     let e1 = t2 .before in
     sweep-refused _ _ _ (c .no-counts2 .ensures)
     (refused-late spatial-laws _ _ _ (e1 .before .storage-refusal .ensures) (e1 .if1 .left) (too-many _ _ (t2 .if2 .taken)) (omega arith))
-
-no-counts-requires-3 : tie.Need-no-counts-requires-3
-no-counts-requires-3 c κs = search needs
-
-same-length-5 : tie.Need-same-length-5
-same-length-5 c = search needs
-
-same-length-6 : tie.Need-same-length-6
-same-length-6 c = search needs
 
 returns-3 : tie.Need-returns-3
 returns-3 c =
@@ -61,20 +31,11 @@ returns-3 c =
     (refused-late spatial-laws _ _ _ (e1 .before .storage-refusal .ensures) (e1 .if1 .left)
     (not-built _ _ (not-true _ (t3 .if3 .taken)) ∙ sym (few-rounds _ _ (e2 .if2 .left))) (omega arith))
 
-slice-aggregate-sweep-all : tie.Need-slice-aggregate-sweep-all
-slice-aggregate-sweep-all c = search needs
-
 sweep-all-requires : tie.Need-sweep-all-requires
 sweep-all-requires c κs =
     let e1 = c .before .before .before .before .before .before in
     let e = e1 .before .storage-refusal .ensures in
     (call-sound spatial-laws _ _ _ e (e1 .if1 .left), (call-room spatial-laws _ _ _ e (e1 .if1 .left), call-few-joints spatial-laws _ _ _ e (e1 .if1 .left)))
-
-same-length-7 : tie.Need-same-length-7
-same-length-7 c = search needs
-
-same-length-8 : tie.Need-same-length-8
-same-length-8 c = search needs
 
 returns-4 : tie.Need-returns-4
 returns-4 c =
@@ -89,22 +50,4 @@ returns-4 c =
 pub sweep-spec : {M : Type 1} → statement M
 sweep-spec =
     tie.close
-    (tie.spec
-    storage-refusal-requires
-    no-counts-requires
-    same-length
-    same-length-2
-    returns
-    no-counts-requires-2
-    same-length-3
-    same-length-4
-    returns-2
-    no-counts-requires-3
-    same-length-5
-    same-length-6
-    returns-3
-    slice-aggregate-sweep-all
-    sweep-all-requires
-    same-length-7
-    same-length-8
-    returns-4)
+    (tie.spec (λ c κs. search needs) (λ c κs. search needs) (λ c. search needs) (λ c. search needs) returns (λ c κs. search needs) (λ c. search needs) (λ c. search needs) returns-2 (λ c κs. search needs) (λ c. search needs) (λ c. search needs) returns-3 (λ c. search needs) sweep-all-requires (λ c. search needs) (λ c. search needs) returns-4)

@@ -20,20 +20,11 @@ abbrev μ-loop : tie.MeasureT-loop
 loop-holds : tie.Need-loop-holds Inv-loop μ-loop
 loop-holds c = (search needs, sym (rowsBefore-none space _))
 
-count-at-requires : tie.Need-count-at-requires Inv-loop μ-loop
-count-at-requires c κs = search needs
-
 add-first : tie.Need-add-first Inv-loop μ-loop
 add-first c =
     let lp = c .before .before in
     let words = lp .before .before .args .words .now in
     omega (arith, rowsBefore-le spatial-laws words (lp .loop .i), few-rows spatial-laws words (lp .loop .i) (c .count-at .ensures))
-
-add-i : tie.Need-add-i Inv-loop μ-loop
-add-i c = search needs
-
-loop-less : tie.Need-loop-less Inv-loop μ-loop
-loop-less c = search needs
 
 loop-again : tie.Need-loop-again Inv-loop μ-loop
 loop-again c =
@@ -48,13 +39,4 @@ returns c =
 pub rows-before-spec : {M : Type 1} → statement M
 rows-before-spec =
     tie.close
-    (tie.spec
-    Inv-loop
-    μ-loop
-    loop-holds
-    count-at-requires
-    add-first
-    add-i
-    loop-less
-    loop-again
-    returns)
+    (tie.spec Inv-loop μ-loop loop-holds (λ c κs. search needs) add-first (λ c. search needs) (λ c. search needs) loop-again returns)

@@ -10,19 +10,10 @@ use borrow.Author.Needs.{needs}
 use Rattle.spatial_model.proofs.joint_rows.build_enabled.Statement.{statement}
 use Rattle.spatial_model.proofs.joint_rows.build_enabled.Tie as tie
 
-count-at-requires : tie.Need-count-at-requires
-count-at-requires c κs = search needs
-
 last-impulses-requires : tie.Need-last-impulses-requires
 last-impulses-requires c κs =
     let e = c .before .count-at .ensures in
     (few-rows spatial-laws _ _ e, omega (arith, e, c .before .before .before .before .before .before .pre .1 .1 .1 .1 .0))
-
-joint-at-requires : tie.Need-joint-at-requires
-joint-at-requires c κs = search needs
-
-body1-at-requires : tie.Need-body1-at-requires
-body1-at-requires c κs = search needs
 
 solver-pose-at-requires : tie.Need-solver-pose-at-requires
 solver-pose-at-requires c κs = rw (c .body1-at .ensures) (c .before .before .before .before .before .before .before .before .before .pre .1 .1 .0)
@@ -33,9 +24,6 @@ body2-at-requires c κs = c .before .before .before .before .before .before .bef
 solver-pose-at-requires-2 : tie.Need-solver-pose-at-requires-2
 solver-pose-at-requires-2 c κs = rw (c .body2-at .ensures) (c .before .before .before .before .before .before .before .before .before .before .before .pre .1 .1 .1 .0)
 
-update-requires : tie.Need-update-requires
-update-requires c κs = search needs
-
 put-rows-requires : tie.Need-put-rows-requires
 put-rows-requires c κs =
     let up = c .before in
@@ -44,9 +32,6 @@ put-rows-requires c κs =
     let on = ia .before .before .before .before .before .before .before .pre .1 .1 .1 .1 .1 in
     let e = built-len _ _ _ _ _ _ _ _ _ _ _ on (ja .joint-at .ensures) refl (up .update .ensures ∙ ap rowsArray (ia .last-impulses .ensures _ _ _ _)) in
     (few-rows spatial-laws _ _ e, omega (arith, e, ia .before .before .before .before .before .before .before .pre .1 .1 .1 .1 .0))
-
-same-length : tie.Need-same-length
-same-length c = search needs
 
 returns : tie.Need-returns
 returns c =
@@ -69,15 +54,4 @@ returns c =
 pub build-enabled-spec : {M : Type 1} → statement M
 build-enabled-spec =
     tie.close
-    (tie.spec
-    count-at-requires
-    last-impulses-requires
-    joint-at-requires
-    body1-at-requires
-    solver-pose-at-requires
-    body2-at-requires
-    solver-pose-at-requires-2
-    update-requires
-    put-rows-requires
-    same-length
-    returns)
+    (tie.spec (λ c κs. search needs) last-impulses-requires (λ c κs. search needs) (λ c κs. search needs) solver-pose-at-requires body2-at-requires solver-pose-at-requires-2 (λ c κs. search needs) put-rows-requires (λ c. search needs) returns)

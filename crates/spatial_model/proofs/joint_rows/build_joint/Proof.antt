@@ -7,20 +7,11 @@ use Rattle.spatial_model.proofs.SpatialLaws.{spatial-laws}
 use Rattle.spatial_model.proofs.joint_rows.build_joint.Statement.{statement}
 use Rattle.spatial_model.proofs.joint_rows.build_joint.Tie as tie
 
-enabled-at-requires : tie.Need-enabled-at-requires
-enabled-at-requires c κs = search needs
-
-is-enabled-requires : tie.Need-is-enabled-requires
-is-enabled-requires c κs = search needs
-
 build-enabled-requires : tie.Need-build-enabled-requires
 build-enabled-requires c κs =
     let e = c .before in
     let pre = e .before .before .before .before .before .before .before .pre in
     (pre .0, (pre .1 .0, (pre .1 .1 .0, (pre .1 .1 .1 .0, (pre .1 .1 .1 .1, read-enabled space _ _ (e .before .before .enabled-at .ensures) (e .before .is-enabled .ensures) (e .if1 .taken))))))
-
-same-length : tie.Need-same-length
-same-length c = search needs
 
 returns : tie.Need-returns
 returns c = c .before .before .build-enabled .ensures
@@ -31,4 +22,4 @@ returns-2 c =
     (sym (count-disabled spatial-laws _ _ off), build-disabled space _ _ _ _ _ _ _ _ _ off)
 
 pub build-joint-spec : {M : Type 1} → statement M
-build-joint-spec = tie.close (tie.spec enabled-at-requires is-enabled-requires build-enabled-requires same-length returns returns-2)
+build-joint-spec = tie.close (tie.spec (λ c κs. search needs) (λ c κs. search needs) build-enabled-requires (λ c. search needs) returns returns-2)

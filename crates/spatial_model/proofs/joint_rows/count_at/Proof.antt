@@ -6,15 +6,9 @@ use Rattle.spatial_model.proofs.MaskLaws.{rowMasksAt-spatial}
 use Rattle.spatial_model.proofs.joint_rows.count_at.Statement.{statement}
 use Rattle.spatial_model.proofs.joint_rows.count_at.Tie as tie
 
-row-masks-at-requires : tie.Need-row-masks-at-requires
-row-masks-at-requires c κs = search needs
-
-row-count-requires : tie.Need-row-count-requires
-row-count-requires c κs = search needs
-
 returns : tie.Need-returns
 unfolding jointIds rowCount
 returns c = c .row-count .ensures ∙ rw (c .before .row-masks-at .ensures, rowMasksAt-spatial)
 
 pub count-at-spec : {M : Type 1} → statement M
-count-at-spec = tie.close (tie.spec row-masks-at-requires row-count-requires returns)
+count-at-spec = tie.close (tie.spec (λ c κs. search needs) (λ c κs. search needs) returns)

@@ -10,15 +10,6 @@ returns : tie.Need-returns
 unfolding countRow
 returns c = (simp (le-ltb _ _ (c .if1 .taken)), omega arith)
 
-enum-told : tie.Need-enum-told
-enum-told c = search needs
-
-enum-told-2 : tie.Need-enum-told-2
-enum-told-2 c = search needs
-
-enum-told-3 : tie.Need-enum-told-3
-enum-told-3 c = search needs
-
 returns-2 : tie.Need-returns-2
 unfolding countRow atBound
 returns-2 c = (simp (c .enum-told .given .1, lt-ltb _ _ (c .before .before .if1 .left)), omega arith)
@@ -32,4 +23,4 @@ unfolding countRow atBound
 returns-4 c = (simp (c .enum-told3 .given .1, lt-ltb _ _ (c .before .before .if1 .left)), omega arith)
 
 pub count-row-spec : {M : Type 1} → statement M
-count-row-spec = tie.close (tie.spec returns enum-told enum-told-2 enum-told-3 returns-2 returns-3 returns-4)
+count-row-spec = tie.close (tie.spec returns (λ c. search needs) (λ c. search needs) (λ c. search needs) returns-2 returns-3 returns-4)

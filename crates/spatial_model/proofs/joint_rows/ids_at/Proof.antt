@@ -4,14 +4,8 @@ use borrow.Author.Needs.{needs}
 use Rattle.spatial_model.proofs.joint_rows.ids_at.Statement.{statement}
 use Rattle.spatial_model.proofs.joint_rows.ids_at.Tie as tie
 
-row-masks-at-requires : tie.Need-row-masks-at-requires
-row-masks-at-requires c κs = search needs
-
-row-ids-requires : tie.Need-row-ids-requires
-row-ids-requires c κs = search needs
-
 returns : tie.Need-returns
 returns c = c .row-ids .ensures ∙ rw (c .before .row-masks-at .ensures)
 
 pub ids-at-spec : {M : Type 1} → statement M
-ids-at-spec = tie.close (tie.spec row-masks-at-requires row-ids-requires returns)
+ids-at-spec = tie.close (tie.spec (λ c κs. search needs) (λ c κs. search needs) returns)

@@ -8,12 +8,6 @@ use Rattle.spatial_model.proofs.SpatialLaws.{spatial-laws}
 use Rattle.spatial_model.proofs.joint_rows.last_impulses.Statement.{statement}
 use Rattle.spatial_model.proofs.joint_rows.last_impulses.Tie as tie
 
-reads-rows-requires : tie.Need-reads-rows-requires
-reads-rows-requires c κs = search needs
-
-impulses-at-requires : tie.Need-impulses-at-requires
-impulses-at-requires c κs = search needs
-
 returns : tie.Need-returns
 returns c params body1 body2 joint =
     let a = c .before .before .before .before .args in
@@ -26,4 +20,4 @@ returns-2 c params body1 body2 joint =
     (λ t. absurd (true≢false (sym t ∙ sym (c .before .reads-rows .ensures) ∙ c .if1 .left)))
 
 pub last-impulses-spec : {M : Type 1} → statement M
-last-impulses-spec = tie.close (tie.spec reads-rows-requires impulses-at-requires returns returns-2)
+last-impulses-spec = tie.close (tie.spec (λ c κs. search needs) (λ c κs. search needs) returns returns-2)

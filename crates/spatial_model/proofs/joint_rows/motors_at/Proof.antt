@@ -9,15 +9,9 @@ use Rattle.spatial_model.proofs.MaskLaws.{rowMasksAt-spatial}
 use Rattle.spatial_model.proofs.joint_rows.motors_at.Statement.{statement}
 use Rattle.spatial_model.proofs.joint_rows.motors_at.Tie as tie
 
-row-masks-at-requires : tie.Need-row-masks-at-requires
-row-masks-at-requires c κs = search needs
-
-motor-count-requires : tie.Need-motor-count-requires
-motor-count-requires c κs = search needs
-
 returns : tie.Need-returns
 unfolding motorCount
 returns c = c .motor-count .ensures ∙ ap (λ k. length (groupOne 3 3 k)) (ap spatialMasks (c .before .row-masks-at .ensures) ∙ rowMasksAt-spatial _ _)
 
 pub motors-at-spec : {M : Type 1} → statement M
-motors-at-spec = tie.close (tie.spec row-masks-at-requires motor-count-requires returns)
+motors-at-spec = tie.close (tie.spec (λ c κs. search needs) (λ c κs. search needs) returns)

@@ -22,24 +22,6 @@ loop-holds c =
     let six = simp length-map at (c .before .good .1 .1 .0 .1 .1 .0 .1 .0 .1) in
     (search needs, omega (arith, six), refl, rw add-zero)
 
-mul-row : tie.Need-mul-row Inv-loop μ-loop
-mul-row c = search needs
-
-element-copy-out-row : tie.Need-element-copy-out-row Inv-loop μ-loop
-element-copy-out-row c = search needs
-
-add-put-row : tie.Need-add-put-row Inv-loop μ-loop
-add-put-row c = search needs
-
-put-row-requires : tie.Need-put-row-requires Inv-loop μ-loop
-put-row-requires c κs = search needs
-
-add-i : tie.Need-add-i Inv-loop μ-loop
-add-i c = search needs
-
-loop-less : tie.Need-loop-less Inv-loop μ-loop
-loop-less c = search needs
-
 loop-again : tie.Need-loop-again Inv-loop μ-loop
 loop-again c =
     let pr = c .before .before in
@@ -48,9 +30,6 @@ loop-again c =
     let st = lp .before .before in
     let h = put-turn space (lp .loop .rows) (st .args .k) (lp .loop .i) (st .args .t3 .len) (st .args .t3 .rows) _ (lt .loop-test .taken) (lp .loop .inv .1) (pr .put-row .ensures) in
     (omega (arith, lt .loop-test .taken), lp .loop .inv .1, pr .put-row .kept .0 ∙ lp .loop .inv .2, h ∙ lp .loop .inv .3)
-
-same-length : tie.Need-same-length Inv-loop μ-loop
-same-length c = search needs
 
 returns : tie.Need-returns Inv-loop μ-loop
 returns c =
@@ -61,16 +40,4 @@ returns c =
 pub put-rows-spec : {M : Type 1} → statement M
 put-rows-spec =
     tie.close
-    (tie.spec
-    Inv-loop
-    μ-loop
-    loop-holds
-    mul-row
-    element-copy-out-row
-    add-put-row
-    put-row-requires
-    add-i
-    loop-less
-    loop-again
-    same-length
-    returns)
+    (tie.spec Inv-loop μ-loop loop-holds (λ c. search needs) (λ c. search needs) (λ c. search needs) (λ c κs. search needs) (λ c. search needs) (λ c. search needs) loop-again (λ c. search needs) returns)

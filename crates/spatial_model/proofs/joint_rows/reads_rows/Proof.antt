@@ -4,12 +4,6 @@ use borrow.Author.Needs.{needs}
 use Rattle.spatial_model.proofs.joint_rows.reads_rows.Statement.{statement}
 use Rattle.spatial_model.proofs.joint_rows.reads_rows.Tie as tie
 
-enum-told : tie.Need-enum-told
-enum-told c = search needs
-
-enum-told-2 : tie.Need-enum-told-2
-enum-told-2 c = search needs
-
 returns : tie.Need-returns
 unfolding readsRows
 returns c = cc
@@ -19,4 +13,4 @@ unfolding readsRows
 returns-2 c = cc
 
 pub reads-rows-spec : {M : Type 1} → statement M
-reads-rows-spec = tie.close (tie.spec enum-told enum-told-2 returns returns-2)
+reads-rows-spec = tie.close (tie.spec (λ c. search needs) (λ c. search needs) returns returns-2)

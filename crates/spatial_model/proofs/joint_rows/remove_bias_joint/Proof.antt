@@ -21,27 +21,6 @@ abbrev μ-loop : tie.MeasureT-loop
 loop-holds : tie.Need-loop-holds Inv-loop μ-loop
 loop-holds c = (search needs, refl, rw (sub-zero, add-zero))
 
-add-row-at : tie.Need-add-row-at Inv-loop μ-loop
-add-row-at c = search needs
-
-row-at-requires : tie.Need-row-at-requires Inv-loop μ-loop
-row-at-requires c κs = search needs
-
-add-put-row : tie.Need-add-put-row Inv-loop μ-loop
-add-put-row c = search needs
-
-remove-bias-from-rhs-requires : tie.Need-remove-bias-from-rhs-requires Inv-loop μ-loop
-remove-bias-from-rhs-requires c κs = search needs
-
-put-row-requires : tie.Need-put-row-requires Inv-loop μ-loop
-put-row-requires c κs = search needs
-
-add-i : tie.Need-add-i Inv-loop μ-loop
-add-i c = search needs
-
-loop-less : tie.Need-loop-less Inv-loop μ-loop
-loop-less c = search needs
-
 loop-again : tie.Need-loop-again Inv-loop μ-loop
 loop-again c =
     let pr = c .before .before in
@@ -53,9 +32,6 @@ loop-again c =
     let h = bias-turn space (st .args .n) (lp .loop .i) (st .args .k) (lp .loop .rows) (lt .loop-test .taken) in
     (omega (arith, lt .loop-test .taken), search needs, cc (h, pr .put-row .ensures, rb .remove-bias-from-rhs .ensures, ra .row-at .ensures, lp .loop .inv .2))
 
-same-length : tie.Need-same-length Inv-loop μ-loop
-same-length c = search needs
-
 returns : tie.Need-returns Inv-loop μ-loop
 returns c =
     let lp = c .before in
@@ -65,17 +41,4 @@ returns c =
 pub remove-bias-joint-spec : {M : Type 1} → statement M
 remove-bias-joint-spec =
     tie.close
-    (tie.spec
-    Inv-loop
-    μ-loop
-    loop-holds
-    add-row-at
-    row-at-requires
-    add-put-row
-    remove-bias-from-rhs-requires
-    put-row-requires
-    add-i
-    loop-less
-    loop-again
-    same-length
-    returns)
+    (tie.spec Inv-loop μ-loop loop-holds (λ c. search needs) (λ c κs. search needs) (λ c. search needs) (λ c κs. search needs) (λ c κs. search needs) (λ c. search needs) (λ c. search needs) loop-again (λ c. search needs) returns)

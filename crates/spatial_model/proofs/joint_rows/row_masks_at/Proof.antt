@@ -5,22 +5,10 @@ use Rattle.spatial_model.specs.Spatial.{space}
 use Rattle.spatial_model.proofs.joint_rows.row_masks_at.Statement.{statement}
 use Rattle.spatial_model.proofs.joint_rows.row_masks_at.Tie as tie
 
-enabled-at-requires : tie.Need-enabled-at-requires
-enabled-at-requires c κs = search needs
-
-is-enabled-requires : tie.Need-is-enabled-requires
-is-enabled-requires c κs = search needs
-
-masks-at-requires : tie.Need-masks-at-requires
-masks-at-requires c κs = search needs
-
 returns : tie.Need-returns
 returns c =
     let e = c .before in
     own-masks space _ _ (e .before .before .enabled-at .ensures) (e .before .is-enabled .ensures) (e .if1 .taken) (c .masks-at .ensures)
-
-no-masks-requires : tie.Need-no-masks-requires
-no-masks-requires c κs = search needs
 
 returns-2 : tie.Need-returns-2
 returns-2 c =
@@ -28,4 +16,4 @@ returns-2 c =
     no-masks space _ _ (e .before .before .enabled-at .ensures) (e .before .is-enabled .ensures) (e .if1 .left) (c .no-masks .ensures)
 
 pub row-masks-at-spec : {M : Type 1} → statement M
-row-masks-at-spec = tie.close (tie.spec enabled-at-requires is-enabled-requires masks-at-requires returns no-masks-requires returns-2)
+row-masks-at-spec = tie.close (tie.spec (λ c κs. search needs) (λ c κs. search needs) (λ c κs. search needs) returns (λ c κs. search needs) returns-2)

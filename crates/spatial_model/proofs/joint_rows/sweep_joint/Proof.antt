@@ -24,9 +24,6 @@ abbrev μ-loop : tie.MeasureT-loop
 loop-holds : tie.Need-loop-holds Inv-loop μ-loop
 loop-holds c = (search needs, refl, refl, rw (sub-zero, add-zero), search needs, rw (sub-zero, sub-zero, add-zero, zero-add))
 
-add-sweep-row : tie.Need-add-sweep-row Inv-loop μ-loop
-add-sweep-row c = search needs
-
 sweep-row-requires : tie.Need-sweep-row-requires Inv-loop μ-loop
 sweep-row-requires c κs =
     let lt = c .before .before in
@@ -36,19 +33,10 @@ sweep-row-requires c κs =
       ((λ h. omega (arith, lp .loop .inv .2, st .pre .1 .1 .0 h)), (λ h. omega (arith, lp .loop .inv .2, st .pre .1 .1 .1 h))),
     )
 
-count-row-requires : tie.Need-count-row-requires Inv-loop μ-loop
-count-row-requires c κs = search needs
-
 add-count : tie.Need-add-count Inv-loop μ-loop
 add-count c =
     let lp = c .before .before .before .before .before .before .before .before .before in
     record { fits = omega (arith, lp .loop .inv .4, c .count-row .ensures .1, c .before .before .before .before .before .before .before .before .loop-test .taken, lp .before .before .before .pre .0) }
-
-add-i : tie.Need-add-i Inv-loop μ-loop
-add-i c = search needs
-
-loop-less : tie.Need-loop-less Inv-loop μ-loop
-loop-less c = search needs
 
 loop-again : tie.Need-loop-again Inv-loop μ-loop
 loop-again c =
@@ -67,12 +55,6 @@ loop-again c =
       rw (sr .sweep-row .ensures .1, c .count-row .ensures .0, sr .sweep-row .ensures .0, add-assoc) (rw g at (lp .loop .inv .5)),
     )
 
-same-length : tie.Need-same-length Inv-loop μ-loop
-same-length c = search needs
-
-same-length-2 : tie.Need-same-length-2 Inv-loop μ-loop
-same-length-2 c = search needs
-
 returns : tie.Need-returns Inv-loop μ-loop
 returns c =
     let lp = c .before in
@@ -89,17 +71,4 @@ returns c =
 pub sweep-joint-spec : {M : Type 1} → statement M
 sweep-joint-spec =
     tie.close
-    (tie.spec
-    Inv-loop
-    μ-loop
-    loop-holds
-    add-sweep-row
-    sweep-row-requires
-    count-row-requires
-    add-count
-    add-i
-    loop-less
-    loop-again
-    same-length
-    same-length-2
-    returns)
+    (tie.spec Inv-loop μ-loop loop-holds (λ c. search needs) sweep-row-requires (λ c κs. search needs) add-count (λ c. search needs) (λ c. search needs) loop-again (λ c. search needs) (λ c. search needs) returns)

@@ -15,18 +15,6 @@ use Rattle.spatial_model.proofs.joint_rows.sweep_row.Tie as tie
 abbrev stepped : Solved → Stepped JointConstraint SolverVel
 stepped t = record { row = t .row; vel1 = t .vels .vel1; vel2 = t .vels .vel2; side = t .side }
 
-row-at-requires : tie.Need-row-at-requires
-row-at-requires c κs = search needs
-
-vel-at-requires : tie.Need-vel-at-requires
-vel-at-requires c κs = search needs
-
-vel-at-requires-2 : tie.Need-vel-at-requires-2
-vel-at-requires-2 c κs = search needs
-
-solve-row-requires : tie.Need-solve-row-requires
-solve-row-requires c κs = search needs
-
 put-row-requires : tie.Need-put-row-requires
 put-row-requires c κs = c .before .before .before .before .before .before .before .before .before .before .before .before .pre .0
 
@@ -37,12 +25,6 @@ put-vel-requires-2 : tie.Need-put-vel-requires-2
 put-vel-requires-2 c κs h =
     let pv = c .before .before .before in
     omega (arith, pv .put-vel .kept .0, pv .before .before .before .before .before .before .before .before .before .before .before .before .before .before .before .before .before .pre .1 .1 h)
-
-same-length : tie.Need-same-length
-same-length c = search needs
-
-same-length-2 : tie.Need-same-length-2
-same-length-2 c = search needs
 
 returns : tie.Need-returns
 returns c =
@@ -63,14 +45,4 @@ returns c =
 pub sweep-row-spec : {M : Type 1} → statement M
 sweep-row-spec =
     tie.close
-    (tie.spec
-    row-at-requires
-    vel-at-requires
-    vel-at-requires-2
-    solve-row-requires
-    put-row-requires
-    put-vel-requires
-    put-vel-requires-2
-    same-length
-    same-length-2
-    returns)
+    (tie.spec (λ c κs. search needs) (λ c κs. search needs) (λ c κs. search needs) (λ c κs. search needs) put-row-requires put-vel-requires put-vel-requires-2 (λ c. search needs) (λ c. search needs) returns)

@@ -21,9 +21,6 @@ abbrev μ-loop : tie.MeasureT-loop
 loop-holds : tie.Need-loop-holds Inv-loop μ-loop
 loop-holds c = (search needs, refl, rw (sub-zero, add-zero))
 
-add-warmstart-row : tie.Need-add-warmstart-row Inv-loop μ-loop
-add-warmstart-row c = search needs
-
 warmstart-row-requires : tie.Need-warmstart-row-requires Inv-loop μ-loop
 warmstart-row-requires c κs =
     let lt = c .before in
@@ -32,12 +29,6 @@ warmstart-row-requires c κs =
       omega (arith, lt .loop-test .taken, st .pre .0),
       ((λ h. omega (arith, lp .loop .inv .1, st .pre .1 .0 h)), (λ h. omega (arith, lp .loop .inv .1, st .pre .1 .1 h))),
     )
-
-add-i : tie.Need-add-i Inv-loop μ-loop
-add-i c = search needs
-
-loop-less : tie.Need-loop-less Inv-loop μ-loop
-loop-less c = search needs
 
 loop-again : tie.Need-loop-again Inv-loop μ-loop
 loop-again c =
@@ -48,9 +39,6 @@ loop-again c =
     let h = warmstart-turn space (st .args .n) (lp .loop .i) (st .args .k) (st .args .b1) (st .args .b2) _ _ (lt .loop-test .taken) (wr .warmstart-row .ensures) in
     (omega (arith, lt .loop-test .taken), search needs, h ∙ lp .loop .inv .2)
 
-same-length : tie.Need-same-length Inv-loop μ-loop
-same-length c = search needs
-
 returns : tie.Need-returns Inv-loop μ-loop
 returns c =
     let lp = c .before in
@@ -60,14 +48,4 @@ returns c =
 pub warmstart-joint-spec : {M : Type 1} → statement M
 warmstart-joint-spec =
     tie.close
-    (tie.spec
-    Inv-loop
-    μ-loop
-    loop-holds
-    add-warmstart-row
-    warmstart-row-requires
-    add-i
-    loop-less
-    loop-again
-    same-length
-    returns)
+    (tie.spec Inv-loop μ-loop loop-holds (λ c. search needs) warmstart-row-requires (λ c. search needs) (λ c. search needs) loop-again (λ c. search needs) returns)

@@ -5,18 +5,6 @@ use borrow.Author.Needs.{needs}
 use Rattle.spatial_model.proofs.joint_rows.warmstart_row.Statement.{statement}
 use Rattle.spatial_model.proofs.joint_rows.warmstart_row.Tie as tie
 
-row-at-requires : tie.Need-row-at-requires
-row-at-requires c κs = search needs
-
-vel-at-requires : tie.Need-vel-at-requires
-vel-at-requires c κs = search needs
-
-vel-at-requires-2 : tie.Need-vel-at-requires-2
-vel-at-requires-2 c κs = search needs
-
-warmstart-generic-requires : tie.Need-warmstart-generic-requires
-warmstart-generic-requires c κs = search needs
-
 put-vel-requires : tie.Need-put-vel-requires
 put-vel-requires c κs = c .before .before .before .before .before .before .before .before .before .pre .1 .0
 
@@ -24,9 +12,6 @@ put-vel-requires-2 : tie.Need-put-vel-requires-2
 put-vel-requires-2 c κs h =
     let pv = c .before .before .before in
     omega (arith, pv .put-vel .kept .0, pv .before .before .before .before .before .before .before .before .before .before .pre .1 .1 h)
-
-same-length : tie.Need-same-length
-same-length c = search needs
 
 returns : tie.Need-returns
 unfolding warmstartRow
@@ -42,12 +27,4 @@ returns c =
 pub warmstart-row-spec : {M : Type 1} → statement M
 warmstart-row-spec =
     tie.close
-    (tie.spec
-    row-at-requires
-    vel-at-requires
-    vel-at-requires-2
-    warmstart-generic-requires
-    put-vel-requires
-    put-vel-requires-2
-    same-length
-    returns)
+    (tie.spec (λ c κs. search needs) (λ c κs. search needs) (λ c κs. search needs) (λ c κs. search needs) put-vel-requires put-vel-requires-2 (λ c. search needs) returns)

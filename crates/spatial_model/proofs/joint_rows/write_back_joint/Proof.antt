@@ -23,41 +23,11 @@ Inv-loop rows words k j numbers₀ ids n i₀ numbers i =
 abbrev μ-loop : tie.MeasureT-loop
 μ-loop rows words k j numbers₀ ids n i₀ numbers i = n - i
 
-ids-at-requires : tie.Need-ids-at-requires Inv-loop μ-loop
-ids-at-requires c κs = search needs
-
 loop-holds : tie.Need-loop-holds Inv-loop μ-loop
 loop-holds c =
     let e = c .ids-at .ensures in
     let q = ids-len _ _ e in
     (search needs, few-rows spatial-laws _ _ q, q, omega (arith, q, c .before .before .before .before .pre .1 .1), refl, e, rw add-zero)
-
-mul-named : tie.Need-mul-named Inv-loop μ-loop
-mul-named c = search needs
-
-element-copy-out-named : tie.Need-element-copy-out-named Inv-loop μ-loop
-element-copy-out-named c = search needs
-
-add-put-seed : tie.Need-add-put-seed Inv-loop μ-loop
-add-put-seed c = search needs
-
-mul-put-seed : tie.Need-mul-put-seed Inv-loop μ-loop
-mul-put-seed c = search needs
-
-mul-put-seed-2 : tie.Need-mul-put-seed-2 Inv-loop μ-loop
-mul-put-seed-2 c = search needs
-
-shared-slice-read-put-seed : tie.Need-shared-slice-read-put-seed Inv-loop μ-loop
-shared-slice-read-put-seed c = search needs
-
-put-seed-requires : tie.Need-put-seed-requires Inv-loop μ-loop
-put-seed-requires c κs = search needs
-
-add-i : tie.Need-add-i Inv-loop μ-loop
-add-i c = search needs
-
-loop-less : tie.Need-loop-less Inv-loop μ-loop
-loop-less c = search needs
 
 loop-again : tie.Need-loop-again Inv-loop μ-loop
 loop-again c =
@@ -70,9 +40,6 @@ loop-again c =
     let h = back-turn spatial-laws _ _ (st .args .k) (st .args .j) (lp .loop .i) (lp .loop .numbers) _ l (id-at _ _ _ _ l (v .5)) (ps .put-seed .ensures) in
     (omega (arith, lt .loop-test .taken), v .1, v .2, v .3, ps .put-seed .kept .0 ∙ v .4, v .5, h ∙ v .6)
 
-same-length : tie.Need-same-length Inv-loop μ-loop
-same-length c = search needs
-
 returns : tie.Need-returns Inv-loop μ-loop
 unfolding writeBackJoint
 returns c =
@@ -84,20 +51,4 @@ returns c =
 pub write-back-joint-spec : {M : Type 1} → statement M
 write-back-joint-spec =
     tie.close
-    (tie.spec
-    Inv-loop
-    μ-loop
-    ids-at-requires
-    loop-holds
-    mul-named
-    element-copy-out-named
-    add-put-seed
-    mul-put-seed
-    mul-put-seed-2
-    shared-slice-read-put-seed
-    put-seed-requires
-    add-i
-    loop-less
-    loop-again
-    same-length
-    returns)
+    (tie.spec Inv-loop μ-loop (λ c κs. search needs) loop-holds (λ c. search needs) (λ c. search needs) (λ c. search needs) (λ c. search needs) (λ c. search needs) (λ c. search needs) (λ c κs. search needs) (λ c. search needs) (λ c. search needs) loop-again (λ c. search needs) returns)

@@ -8,14 +8,8 @@ use Rattle.spatial_model.proofs.refusals.all_finite.Tie as tie
 returns : tie.Need-returns
 returns c = rw (not-true (c .before .before .before .before .args .finite) (c .if1 .taken))
 
-all-finite-bodies-requires : tie.Need-all-finite-bodies-requires
-all-finite-bodies-requires c κs = search needs
-
 returns-2 : tie.Need-returns-2
 returns-2 c = rw (not-false (c .before .before .before .before .before .before .args .finite) (c .before .before .if1 .left), fails (c .before .all-finite-bodies .ensures) (c .if2 .taken))
-
-all-finite-joints-requires : tie.Need-all-finite-joints-requires
-all-finite-joints-requires c κs = search needs
 
 returns-3 : tie.Need-returns-3
 returns-3 c =
@@ -24,4 +18,4 @@ returns-3 c =
 
 pub all-finite-spec : {M : Type 1} → statement M
 all-finite-spec =
-    tie.close (tie.spec returns all-finite-bodies-requires returns-2 all-finite-joints-requires returns-3)
+    tie.close (tie.spec returns (λ c κs. search needs) returns-2 (λ c κs. search needs) returns-3)

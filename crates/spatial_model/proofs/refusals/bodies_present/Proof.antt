@@ -5,21 +5,9 @@ use Rattle.multibody.proofs.RuleLaws.{holds, fails}
 use Rattle.spatial_model.proofs.refusals.bodies_present.Statement.{statement}
 use Rattle.spatial_model.proofs.refusals.bodies_present.Tie as tie
 
-body1-at-requires : tie.Need-body1-at-requires
-body1-at-requires c κs = search needs
-
-present-or-world-requires : tie.Need-present-or-world-requires
-present-or-world-requires c κs = search needs
-
 returns : tie.Need-returns
 unfolding bodiesPresent
 returns c = rw (← c .before .before .body1-at .ensures, fails (c .before .present-or-world .ensures) (c .if1 .taken))
-
-body2-at-requires : tie.Need-body2-at-requires
-body2-at-requires c κs = search needs
-
-present-or-world-requires-2 : tie.Need-present-or-world-requires-2
-present-or-world-requires-2 c κs = search needs
 
 returns-2 : tie.Need-returns-2
 unfolding bodiesPresent
@@ -30,10 +18,4 @@ returns-2 c =
 pub bodies-present-spec : {M : Type 1} → statement M
 bodies-present-spec =
     tie.close
-    (tie.spec
-    body1-at-requires
-    present-or-world-requires
-    returns
-    body2-at-requires
-    present-or-world-requires-2
-    returns-2)
+    (tie.spec (λ c κs. search needs) (λ c κs. search needs) returns (λ c κs. search needs) (λ c κs. search needs) returns-2)

@@ -5,18 +5,9 @@ use Rattle.multibody.proofs.RuleLaws.{holds, fails}
 use Rattle.spatial_model.proofs.refusals.finite_joint.Statement.{statement}
 use Rattle.spatial_model.proofs.refusals.finite_joint.Tie as tie
 
-mul-o : tie.Need-mul-o
-mul-o c = search needs
-
-finite-from-requires : tie.Need-finite-from-requires
-finite-from-requires c κs = search needs
-
 returns : tie.Need-returns
 unfolding finiteJoint
 returns c = rw (fails (c .before .finite-from .ensures) (c .if1 .taken))
-
-limit-ends-requires : tie.Need-limit-ends-requires
-limit-ends-requires c κs = search needs
 
 returns-2 : tie.Need-returns-2
 unfolding finiteJoint
@@ -24,21 +15,12 @@ returns-2 c =
     let d = c .before .before in
     rw (holds (d .before .finite-from .ensures) (d .if1 .left), fails (c .before .limit-ends .ensures) (c .if2 .taken))
 
-finite-motors-requires : tie.Need-finite-motors-requires
-finite-motors-requires c κs = search needs
-
 returns-3 : tie.Need-returns-3
 unfolding finiteJoint
 returns-3 c =
     let d = c .before .before in
     let e = d .before .before in
     rw (holds (e .before .finite-from .ensures) (e .if1 .left), holds (d .before .limit-ends .ensures) (d .if2 .left), fails (c .before .finite-motors .ensures) (c .if3 .taken))
-
-add-finite-from : tie.Need-add-finite-from
-add-finite-from c = search needs
-
-finite-from-requires-2 : tie.Need-finite-from-requires-2
-finite-from-requires-2 c κs = search needs
 
 returns-4 : tie.Need-returns-4
 unfolding finiteJoint
@@ -51,14 +33,4 @@ returns-4 c =
 pub finite-joint-spec : {M : Type 1} → statement M
 finite-joint-spec =
     tie.close
-    (tie.spec
-    mul-o
-    finite-from-requires
-    returns
-    limit-ends-requires
-    returns-2
-    finite-motors-requires
-    returns-3
-    add-finite-from
-    finite-from-requires-2
-    returns-4)
+    (tie.spec (λ c. search needs) (λ c κs. search needs) returns (λ c κs. search needs) returns-2 (λ c κs. search needs) returns-3 (λ c. search needs) (λ c κs. search needs) returns-4)

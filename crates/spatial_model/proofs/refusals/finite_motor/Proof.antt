@@ -5,18 +5,9 @@ use Rattle.multibody.proofs.RuleLaws.{holds, fails}
 use Rattle.spatial_model.proofs.refusals.finite_motor.Statement.{statement}
 use Rattle.spatial_model.proofs.refusals.finite_motor.Tie as tie
 
-finite-from-requires : tie.Need-finite-from-requires
-finite-from-requires c κs = search needs
-
 returns : tie.Need-returns
 unfolding finiteMotor
 returns c = rw (fails (c .before .finite-from .ensures) (c .if1 .taken))
-
-add-no-nan-from : tie.Need-add-no-nan-from
-add-no-nan-from c = search needs
-
-no-nan-from-requires : tie.Need-no-nan-from-requires
-no-nan-from-requires c κs = search needs
 
 returns-2 : tie.Need-returns-2
 unfolding finiteMotor
@@ -25,4 +16,4 @@ returns-2 c = rw (holds (c .before .before .finite-from .ensures) (c .before .if
 pub finite-motor-spec : {M : Type 1} → statement M
 finite-motor-spec =
     tie.close
-    (tie.spec finite-from-requires returns add-no-nan-from no-nan-from-requires returns-2)
+    (tie.spec (λ c κs. search needs) returns (λ c. search needs) (λ c κs. search needs) returns-2)

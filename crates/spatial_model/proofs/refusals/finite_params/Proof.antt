@@ -5,24 +5,15 @@ use Rattle.multibody.proofs.RuleLaws.{holds, fails}
 use Rattle.spatial_model.proofs.refusals.finite_params.Statement.{statement}
 use Rattle.spatial_model.proofs.refusals.finite_params.Tie as tie
 
-is-finite-requires : tie.Need-is-finite-requires
-is-finite-requires c κs = search needs
-
 returns : tie.Need-returns
 unfolding finiteParams
 returns c = rw (fails (c .before .is-finite .ensures) (c .if1 .taken))
-
-is-finite-requires-2 : tie.Need-is-finite-requires-2
-is-finite-requires-2 c κs = search needs
 
 returns-2 : tie.Need-returns-2
 unfolding finiteParams
 returns-2 c =
     let d = c .before .before in
     rw (holds (d .before .is-finite .ensures) (d .if1 .left), fails (c .before .is-finite2 .ensures) (c .if2 .taken))
-
-is-finite-requires-3 : tie.Need-is-finite-requires-3
-is-finite-requires-3 c κs = search needs
 
 returns-3 : tie.Need-returns-3
 unfolding finiteParams
@@ -34,10 +25,4 @@ returns-3 c =
 pub finite-params-spec : {M : Type 1} → statement M
 finite-params-spec =
     tie.close
-    (tie.spec
-    is-finite-requires
-    returns
-    is-finite-requires-2
-    returns-2
-    is-finite-requires-3
-    returns-3)
+    (tie.spec (λ c κs. search needs) returns (λ c κs. search needs) returns-2 (λ c κs. search needs) returns-3)

@@ -3,15 +3,6 @@ use Rattle.multibody.specs.Refusals.{finiteWarm}
 use Rattle.spatial_model.proofs.refusals.finite_warm.Statement.{statement}
 use Rattle.spatial_model.proofs.refusals.finite_warm.Tie as tie
 
-enum-told : tie.Need-enum-told
-enum-told c = search needs
-
-enum-known-warmstart : tie.Need-enum-known-warmstart
-enum-known-warmstart c = search needs
-
-is-finite-requires : tie.Need-is-finite-requires
-is-finite-requires c κs = search needs
-
 returns : tie.Need-returns
 unfolding finiteWarm
 returns c = cc
@@ -22,4 +13,4 @@ returns-2 c = cc
 
 pub finite-warm-spec : {M : Type 1} → statement M
 finite-warm-spec =
-    tie.close (tie.spec enum-told enum-known-warmstart is-finite-requires returns returns-2)
+    tie.close (tie.spec (λ c. search needs) (λ c. search needs) (λ c κs. search needs) returns returns-2)

@@ -93,12 +93,6 @@ module _ (m : Model) (arguments handed : Bool) (room : ℕ) {n joints : ℕ} (b 
             granted : total ≤ room → 0 ≡ refusal rules
             granted s = sym (positive l ∙ rule-holds _ _ (rw y (ap not (le-ltb _ _ (rw (w, j) at s)))) ∙ no-rules)
 
-body-count-requires : tie.Need-body-count-requires
-body-count-requires c κs = search needs
-
-joint-count-requires : tie.Need-joint-count-requires
-joint-count-requires c κs = search needs
-
 returns : tie.Need-returns
 returns c header arguments d f =
     let jc = c .before in
@@ -194,17 +188,4 @@ returns-8 c header arguments d f =
 pub first-refusal-spec : {M : Type 1} → statement M
 first-refusal-spec =
     tie.close
-    (tie.spec
-    body-count-requires
-    joint-count-requires
-    returns
-    returns-2
-    joints-refusal-requires
-    returns-3
-    all-finite-requires
-    returns-4
-    returns-5
-    returns-6
-    rows-before-requires
-    returns-7
-    returns-8)
+    (tie.spec (λ c κs. search needs) (λ c κs. search needs) returns returns-2 joints-refusal-requires returns-3 all-finite-requires returns-4 returns-5 returns-6 rows-before-requires returns-7 returns-8)

@@ -5,15 +5,9 @@ use Rattle.multibody.proofs.RuleLaws.{holds, fails}
 use Rattle.spatial_model.proofs.refusals.joints_refusal.Statement.{statement}
 use Rattle.spatial_model.proofs.refusals.joints_refusal.Tie as tie
 
-all-masks-fit-requires : tie.Need-all-masks-fit-requires
-all-masks-fit-requires c κs = search needs
-
 returns : tie.Need-returns
 unfolding refusal
 returns c = rw (fails (c .before .all-masks-fit .ensures) (c .if1 .taken))
-
-all-linear-alone-requires : tie.Need-all-linear-alone-requires
-all-linear-alone-requires c κs = search needs
 
 returns-2 : tie.Need-returns-2
 unfolding refusal
@@ -21,18 +15,12 @@ returns-2 c =
     let d = c .before .before in
     rw (holds (d .before .all-masks-fit .ensures) (d .if1 .left), fails (c .before .all-linear-alone .ensures) (c .if2 .taken))
 
-all-bodies-present-requires : tie.Need-all-bodies-present-requires
-all-bodies-present-requires c κs = search needs
-
 returns-3 : tie.Need-returns-3
 unfolding refusal
 returns-3 c =
     let d = c .before .before in
     let e = d .before .before in
     rw (holds (e .before .all-masks-fit .ensures) (e .if1 .left), holds (d .before .all-linear-alone .ensures) (d .if2 .left), fails (c .before .all-bodies-present .ensures) (c .if3 .taken))
-
-all-bodies-apart-requires : tie.Need-all-bodies-apart-requires
-all-bodies-apart-requires c κs = search needs
 
 returns-4 : tie.Need-returns-4
 unfolding refusal
@@ -53,13 +41,4 @@ returns-5 c =
 pub joints-refusal-spec : {M : Type 1} → statement M
 joints-refusal-spec =
     tie.close
-    (tie.spec
-    all-masks-fit-requires
-    returns
-    all-linear-alone-requires
-    returns-2
-    all-bodies-present-requires
-    returns-3
-    all-bodies-apart-requires
-    returns-4
-    returns-5)
+    (tie.spec (λ c κs. search needs) returns (λ c κs. search needs) returns-2 (λ c κs. search needs) returns-3 (λ c κs. search needs) returns-4 returns-5)

@@ -20,24 +20,9 @@ Inv-loop words j o c₀ c = (c ≤ fourMasks) × (all (masksPlace + c) (fourMask
 abbrev μ-loop : tie.MeasureT-loop
 μ-loop words j o c₀ c = fourMasks - c
 
-mul-o : tie.Need-mul-o Inv-loop μ-loop
-mul-o c = search needs
-
-add-o : tie.Need-add-o Inv-loop μ-loop
-add-o c = search needs
-
 loop-holds : tie.Need-loop-holds Inv-loop μ-loop
 unfolding masksFit
 loop-holds c = (search needs, refl)
-
-add-if1 : tie.Need-add-if1 Inv-loop μ-loop
-add-if1 c = search needs
-
-mul-if1 : tie.Need-mul-if1 Inv-loop μ-loop
-mul-if1 c = search needs
-
-shared-slice-read-if1 : tie.Need-shared-slice-read-if1 Inv-loop μ-loop
-shared-slice-read-if1 c = search needs
 
 returns : tie.Need-returns Inv-loop μ-loop
 returns c =
@@ -46,12 +31,6 @@ returns c =
     let st = lp .before in
     let e : ltb allAxes (word wordsWidth (st .args .words .now) (st .args .j) (masksPlace + lp .loop .c)) ≡ true = rw (← add-assoc (st .args .j * wordsWidth) masksPlace (lp .loop .c)) (lt-ltb _ _ (c .if1 .taken)) in
     sym (all-stop _ _ _ _ (lt .loop-test .taken) (ap not e)) ∙ lp .loop .inv .1
-
-add-c : tie.Need-add-c Inv-loop μ-loop
-add-c c = search needs
-
-loop-less : tie.Need-loop-less Inv-loop μ-loop
-loop-less c = search needs
 
 loop-again : tie.Need-loop-again Inv-loop μ-loop
 loop-again c =
@@ -67,17 +46,4 @@ returns-2 c = sym (all-done _ _ _ _ (c .loop-test .left)) ∙ c .before .loop .i
 pub masks-fit-spec : {M : Type 1} → statement M
 masks-fit-spec =
     tie.close
-    (tie.spec
-    Inv-loop
-    μ-loop
-    mul-o
-    add-o
-    loop-holds
-    add-if1
-    mul-if1
-    shared-slice-read-if1
-    returns
-    add-c
-    loop-less
-    loop-again
-    returns-2)
+    (tie.spec Inv-loop μ-loop (λ c. search needs) (λ c. search needs) loop-holds (λ c. search needs) (λ c. search needs) (λ c. search needs) returns (λ c. search needs) (λ c. search needs) loop-again returns-2)

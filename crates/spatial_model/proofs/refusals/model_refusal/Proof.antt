@@ -13,16 +13,10 @@ unfolding refusal
 no-eighth [] = refl
 no-eighth (r ∷ rs) = ap (λ t. cond (r .holds) t (r .number)) (no-eighth rs)
 
-finite-params-requires : tie.Need-finite-params-requires
-finite-params-requires c κs = search needs
-
-first-refusal-requires : tie.Need-first-refusal-requires
-first-refusal-requires c κs = search needs
-
 returns : tie.Need-returns
 returns c =
     let a = c .before .before .before .before .before .before .args in
     c .first-refusal .ensures (a .header) (a .arguments) refl (ap (λ t. t && a .arguments) (c .before .finite-params .ensures)) ∙ no-eighth _
 
 pub model-refusal-spec : {M : Type 1} → statement M
-model-refusal-spec = tie.close (tie.spec finite-params-requires first-refusal-requires returns)
+model-refusal-spec = tie.close (tie.spec (λ c κs. search needs) (λ c κs. search needs) returns)

@@ -22,24 +22,6 @@ loop-holds : tie.Need-loop-holds Inv-loop μ-loop
 unfolding noNanFrom
 loop-holds c = (search needs, rw (add-zero, sub-zero))
 
-add-is-nan : tie.Need-add-is-nan Inv-loop μ-loop
-add-is-nan c = search needs
-
-mul-is-nan : tie.Need-mul-is-nan Inv-loop μ-loop
-mul-is-nan c = search needs
-
-shared-slice-read-is-nan : tie.Need-shared-slice-read-is-nan Inv-loop μ-loop
-shared-slice-read-is-nan c = search needs
-
-is-nan-requires : tie.Need-is-nan-requires Inv-loop μ-loop
-is-nan-requires c κs = search needs
-
-add-i : tie.Need-add-i Inv-loop μ-loop
-add-i c = search needs
-
-loop-less : tie.Need-loop-less Inv-loop μ-loop
-loop-less c = search needs
-
 loop-again : tie.Need-loop-again Inv-loop μ-loop
 loop-again c =
     let lt = c .before .before in
@@ -56,15 +38,4 @@ returns c =
 pub no-nan-from-spec : {M : Type 1} → statement M
 no-nan-from-spec =
     tie.close
-    (tie.spec
-    Inv-loop
-    μ-loop
-    loop-holds
-    add-is-nan
-    mul-is-nan
-    shared-slice-read-is-nan
-    is-nan-requires
-    add-i
-    loop-less
-    loop-again
-    returns)
+    (tie.spec Inv-loop μ-loop loop-holds (λ c. search needs) (λ c. search needs) (λ c. search needs) (λ c κs. search needs) (λ c. search needs) (λ c. search needs) loop-again returns)

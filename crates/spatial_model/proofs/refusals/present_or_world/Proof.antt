@@ -9,12 +9,9 @@ returns : tie.Need-returns
 unfolding presentOrWorld
 returns c = rw (eq-eqb _ _ (c .if1 .taken))
 
-body-count-requires : tie.Need-body-count-requires
-body-count-requires c κs = search needs
-
 returns-2 : tie.Need-returns-2
 unfolding presentOrWorld
 returns-2 c = rw (ne-eqb _ _ (c .before .if1 .left), c .body-count .ensures)
 
 pub present-or-world-spec : {M : Type 1} → statement M
-present-or-world-spec = tie.close (tie.spec returns body-count-requires returns-2)
+present-or-world-spec = tie.close (tie.spec returns (λ c κs. search needs) returns-2)

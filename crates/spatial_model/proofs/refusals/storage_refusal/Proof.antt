@@ -6,15 +6,6 @@ use Rattle.multibody.specs.Refusals.{storageRule}
 use Rattle.spatial_model.proofs.refusals.storage_refusal.Statement.{statement}
 use Rattle.spatial_model.proofs.refusals.storage_refusal.Tie as tie
 
-finite-params-requires : tie.Need-finite-params-requires
-finite-params-requires c κs = search needs
-
-row-capacity-requires : tie.Need-row-capacity-requires
-row-capacity-requires c κs = search needs
-
-first-refusal-requires : tie.Need-first-refusal-requires
-first-refusal-requires c κs = search needs
-
 returns : tie.Need-returns
 unfolding storageRule
 returns c =
@@ -23,4 +14,4 @@ returns c =
 
 pub storage-refusal-spec : {M : Type 1} → statement M
 storage-refusal-spec =
-    tie.close (tie.spec finite-params-requires row-capacity-requires first-refusal-requires returns)
+    tie.close (tie.spec (λ c κs. search needs) (λ c κs. search needs) (λ c κs. search needs) returns)

@@ -7,9 +7,6 @@ use borrow.Author.Needs.{needs}
 use Rattle.spatial_model.proofs.single_records.read_joint.Statement.{statement}
 use Rattle.spatial_model.proofs.single_records.read_joint.Tie as tie
 
-joint-count-requires : tie.Need-joint-count-requires
-joint-count-requires c κs = search needs
-
 joint-at-requires : tie.Need-joint-at-requires
 joint-at-requires c κs =
     let h = rw (c .before .joint-count .ensures) at (c .if1 .taken) in
@@ -21,9 +18,6 @@ returns c =
     let h = rw (d .before .joint-count .ensures) at (d .if1 .taken) in
     c .joint-at .ensures ∙ sym (joint-read _ _ _ (joint-words space _ _ _ h) (joint-numbers space _ _ _ h))
 
-blank-joint-requires : tie.Need-blank-joint-requires
-blank-joint-requires c κs = search needs
-
 returns-2 : tie.Need-returns-2
 returns-2 c =
     let d = c .before in
@@ -32,4 +26,4 @@ returns-2 c =
 pub read-joint-spec : {M : Type 1} → statement M
 read-joint-spec =
     tie.close
-    (tie.spec joint-count-requires joint-at-requires returns blank-joint-requires returns-2)
+    (tie.spec (λ c κs. search needs) joint-at-requires returns (λ c κs. search needs) returns-2)

@@ -6,9 +6,6 @@ use borrow.Author.Needs.{needs}
 use Rattle.spatial_model.proofs.single_records.read_pose.Statement.{statement}
 use Rattle.spatial_model.proofs.single_records.read_pose.Tie as tie
 
-body-count-requires : tie.Need-body-count-requires
-body-count-requires c κs = search needs
-
 solver-pose-at-requires : tie.Need-solver-pose-at-requires
 solver-pose-at-requires c κs ne = body-fits _ _ (c .before .body-count .ensures) (c .if1 .taken)
 
@@ -22,4 +19,4 @@ returns-2 : tie.Need-returns-2
 returns-2 c = sym (pose-absent _ _ (c .before .body-count .ensures) (c .if1 .left))
 
 pub read-pose-spec : {M : Type 1} → statement M
-read-pose-spec = tie.close (tie.spec body-count-requires solver-pose-at-requires returns returns-2)
+read-pose-spec = tie.close (tie.spec (λ c κs. search needs) solver-pose-at-requires returns returns-2)

@@ -5,9 +5,6 @@ use borrow.Author.Needs.{needs}
 use Rattle.spatial_model.proofs.single_records.read_row.Statement.{statement}
 use Rattle.spatial_model.proofs.single_records.read_row.Tie as tie
 
-row-capacity-requires : tie.Need-row-capacity-requires
-row-capacity-requires c κs = search needs
-
 row-at-requires : tie.Need-row-at-requires
 row-at-requires c κs = row-fits _ _ (c .before .row-capacity .ensures) (c .if1 .taken)
 
@@ -16,9 +13,6 @@ returns c =
     let d = c .before in
     c .row-at .ensures ∙ sym (row-there _ _ (row-fits _ _ (d .before .row-capacity .ensures) (d .if1 .taken)))
 
-blank-row-requires : tie.Need-blank-row-requires
-blank-row-requires c κs = search needs
-
 returns-2 : tie.Need-returns-2
 returns-2 c =
     let d = c .before in
@@ -26,4 +20,4 @@ returns-2 c =
 
 pub read-row-spec : {M : Type 1} → statement M
 read-row-spec =
-    tie.close (tie.spec row-capacity-requires row-at-requires returns blank-row-requires returns-2)
+    tie.close (tie.spec (λ c κs. search needs) row-at-requires returns (λ c κs. search needs) returns-2)

@@ -5,9 +5,6 @@ use borrow.Author.Needs.{needs}
 use Rattle.spatial_model.proofs.single_records.read_vel.Statement.{statement}
 use Rattle.spatial_model.proofs.single_records.read_vel.Tie as tie
 
-body-count-requires : tie.Need-body-count-requires
-body-count-requires c κs = search needs
-
 vel-at-requires : tie.Need-vel-at-requires
 vel-at-requires c κs ne = body-fits _ _ (c .before .body-count .ensures) (c .if1 .taken)
 
@@ -20,4 +17,4 @@ returns-2 : tie.Need-returns-2
 returns-2 c = sym (vel-absent _ _ (c .before .body-count .ensures) (c .if1 .left))
 
 pub read-vel-spec : {M : Type 1} → statement M
-read-vel-spec = tie.close (tie.spec body-count-requires vel-at-requires returns returns-2)
+read-vel-spec = tie.close (tie.spec (λ c κs. search needs) vel-at-requires returns returns-2)

@@ -6,12 +6,6 @@ use borrow.Author.Needs.{needs}
 use Rattle.spatial_model.proofs.single_records.write_impulse.Statement.{statement}
 use Rattle.spatial_model.proofs.single_records.write_impulse.Tie as tie
 
-put-seed-requires : tie.Need-put-seed-requires
-put-seed-requires c κs = search needs
-
-same-length : tie.Need-same-length
-same-length c = search needs
-
 returns : tie.Need-returns
 returns c =
     let ps = c .before .before in
@@ -22,4 +16,4 @@ returns-2 : tie.Need-returns-2
 returns-2 c = sym (seed-absent _ _ _ _ (c .if1 .left))
 
 pub write-impulse-spec : {M : Type 1} → statement M
-write-impulse-spec = tie.close (tie.spec put-seed-requires same-length returns returns-2)
+write-impulse-spec = tie.close (tie.spec (λ c κs. search needs) (λ c. search needs) returns returns-2)

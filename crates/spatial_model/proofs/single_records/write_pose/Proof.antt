@@ -5,14 +5,8 @@ use borrow.Author.Needs.{needs}
 use Rattle.spatial_model.proofs.single_records.write_pose.Statement.{statement}
 use Rattle.spatial_model.proofs.single_records.write_pose.Tie as tie
 
-body-count-requires : tie.Need-body-count-requires
-body-count-requires c κs = search needs
-
 put-pose-requires : tie.Need-put-pose-requires
 put-pose-requires c κs = body-fits _ _ (c .before .before .body-count .ensures) (c .before .if1 .taken)
-
-same-length : tie.Need-same-length
-same-length c = search needs
 
 returns : tie.Need-returns
 returns c =
@@ -20,12 +14,9 @@ returns c =
     let d = pp .before .before in
     pp .put-pose .ensures ∙ sym (put-pose-there _ _ _ (body-fits _ _ (d .before .body-count .ensures) (d .if1 .taken)))
 
-same-length-2 : tie.Need-same-length-2
-same-length-2 c = search needs
-
 returns-2 : tie.Need-returns-2
 returns-2 c = sym (put-pose-absent _ _ _ (c .before .body-count .ensures) (c .if1 .left))
 
 pub write-pose-spec : {M : Type 1} → statement M
 write-pose-spec =
-    tie.close (tie.spec body-count-requires put-pose-requires same-length returns same-length-2 returns-2)
+    tie.close (tie.spec (λ c κs. search needs) put-pose-requires (λ c. search needs) returns (λ c. search needs) returns-2)

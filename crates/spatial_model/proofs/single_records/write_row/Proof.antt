@@ -5,14 +5,8 @@ use borrow.Author.Needs.{needs}
 use Rattle.spatial_model.proofs.single_records.write_row.Statement.{statement}
 use Rattle.spatial_model.proofs.single_records.write_row.Tie as tie
 
-row-capacity-requires : tie.Need-row-capacity-requires
-row-capacity-requires c κs = search needs
-
 put-row-requires : tie.Need-put-row-requires
 put-row-requires c κs = row-fits _ _ (c .before .before .row-capacity .ensures) (c .before .if1 .taken)
-
-same-length : tie.Need-same-length
-same-length c = search needs
 
 returns : tie.Need-returns
 returns c =
@@ -20,13 +14,10 @@ returns c =
     let d = pr .before .before in
     pr .put-row .ensures ∙ sym (put-row-there _ _ _ (row-fits _ _ (d .before .row-capacity .ensures) (d .if1 .taken)))
 
-same-length-2 : tie.Need-same-length-2
-same-length-2 c = search needs
-
 returns-2 : tie.Need-returns-2
 returns-2 c = sym (put-row-absent _ _ _ (c .before .row-capacity .ensures) (c .if1 .left))
 
 pub write-row-spec : {M : Type 1} → statement M
 write-row-spec =
     tie.close
-    (tie.spec row-capacity-requires put-row-requires same-length returns same-length-2 returns-2)
+    (tie.spec (λ c κs. search needs) put-row-requires (λ c. search needs) returns (λ c. search needs) returns-2)
