@@ -1,12 +1,16 @@
 -- What the exported functions on the rows of a joint in space answer.
 use Prim.Native.Nat.{ℕ, _+_, _%_}
 use mathlib.Core.Bool.{cond}
-use lib.Dec.{ltb}
+use lib.Dec.{eqb, ltb}
 use lib.ListN.{getD}
+use lib.Ieee.{Float}
 use Rattle.floats.specs.declared.scalar.Side.{Side}
 use Rattle.floats.specs.declared.scalar.Side.the-variants.{Low, High, Inside}
 use Rattle.rows.specs.RowIds.{rowId}
 use Rattle.rows.specs.declared.generic_joint.Masks.{Masks}
+use Rattle.rows.specs.declared.integration_parameters.IntegrationParameters.{IntegrationParameters}
+use Rattle.rows.specs.declared.joint_constraint_builder.Warmstart.{Warmstart}
+use Rattle.rows.specs.declared.joint_constraint_builder.Warmstart.the-variants.{Cold, Warm}
 use Rattle.rows.specs.declared.row_ids.RowId.{RowId}
 use Rattle.rows.specs.declared.joint_velocity_constraint.WritebackId.{WritebackId}
 use Rattle.rows.specs.declared.joint_velocity_constraint.WritebackId.the-variants.{Dof, Limit, Motor}
@@ -48,3 +52,10 @@ idOf n = cond (ltb n 8) (Dof (n % 8)) (cond (ltb n 16) (Limit (n % 8)) (cond (lt
 -- the number of a joint's id k, and 1000 past the ninth
 unfoldable pub idAt : Masks → ℕ → ℕ
 idAt masks k = cond (ltb k 9) (idNumber (getD (rowIdsArray masks .ids) k (rowId (Dof 0)) .id)) 1000
+
+-- the settings from their three numbers, and a warm coefficient or none from a flag and a number
+abbrev pub paramsOf : Float → Float → Float → IntegrationParameters
+paramsOf dt lengthUnit normalized = record { dt = dt; «length_unit» = lengthUnit; «normalized_max_corrective_velocity» = normalized }
+
+abbrev pub warmOf : ℕ → Float → Warmstart
+warmOf warm coefficient = cond (eqb warm 0) Cold (Warm coefficient)

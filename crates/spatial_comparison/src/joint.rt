@@ -2,10 +2,19 @@
 ghost use mathlib.Core.Path.{_≡_};
 ghost use Prim.Native.Nat.{_≤_};
 ghost use Rattle.spatial_rows.specs.Step.{stepOf, residualOf, warmstartOf, removeBiasOf};
-ghost use Rattle.spatial_comparison.specs.RowExports.{sideNumber, steppedOf, atMostNine, finalized, idNumber, idOf, idAt};
+ghost use Rattle.spatial_comparison.specs.RowExports.{sideNumber, steppedOf, atMostNine, finalized, idNumber, idOf, idAt, paramsOf, warmOf};
+ghost use Rattle.spatial_rows.specs.Update.{rowsArray};
+ghost use Rattle.spatial_rows.specs.Builder.{builderUpdateOf};
+ghost use Rattle.spatial_model.specs.SingleRecords.{jointIfThere, putSeedIfThere};
 use floats::scalar::Side;
 use rows::generic_joint::Masks;
+use rows::integration_parameters::IntegrationParameters;
+use rows::joint_constraint_builder::Warmstart;
 use rows::joint_velocity_constraint::WritebackId;
+use spatial_model::single_records::read_joint;
+use spatial_model::single_records::write_impulse;
+use spatial_rows::joint_constraint_builder::SolverPose;
+use spatial_rows::joint_constraint_builder::update;
 use spatial_rows::joint_constraint_helper::finalize_groups;
 use spatial_rows::joint_velocity_constraint::JointConstraint;
 use spatial_rows::joint_velocity_constraint::Rows;
@@ -138,4 +147,74 @@ pub extern "C" fn katydidzinc_space_row_id(
         return id_number(id);
     }
     1000
+}
+
+// The last impulses of nine rows.
+#[repr(C)]
+pub struct Impulses {
+    pub values: [f32; 9],
+}
+
+// A warm coefficient, or none where the flag is 0.
+fn warm_of(warm: u32, coefficient: f32) -> Warmstart
+    ensures { λ r. ⌜ r ≡ warmOf warm coefficient ⌝ }
+{
+    if warm == 0 {
+        return Warmstart::Cold;
+    }
+    Warmstart::Warm(coefficient)
+}
+
+// The rows of the joint whose ten words and 49 numbers are handed over, as a model stores them.
+#[no_mangle]
+pub extern "C" fn katydidzinc_space_rows_build(
+    words: &[u32],
+    numbers: &[f32],
+    dt: f32,
+    length_unit: f32,
+    normalized: f32,
+    warm: u32,
+    coefficient: f32,
+    substep_id: u32,
+    body1: SolverPose,
+    body2: SolverPose,
+    prevs: Impulses,
+) -> Rows
+    ensures { λ r. ⌜ r ≡ rowsArray (builderUpdateOf (paramsOf dt «length_unit» normalized) «substep_id» (warmOf warm coefficient) body1 body2 (jointIfThere (now (words .entry)) (now (numbers .entry)) 0) (prevs .values)) ⌝ }
+{
+    let params = IntegrationParameters {
+        dt: dt,
+        length_unit: length_unit,
+        normalized_max_corrective_velocity: normalized,
+    };
+    let warmstart = warm_of(warm, coefficient);
+    let joint = read_joint(words, numbers, 0);
+    let values = prevs.values;
+    update(params, substep_id, warmstart, body1, body2, joint, values)
+}
+
+// The id of a number. Numbers past these kinds become a lock of axis 6, which has no stored impulse.
+fn id_of(id: u32) -> WritebackId
+    ensures { λ r. ⌜ r ≡ idOf id ⌝ }
+{
+    let axis = (id % 8) as usize;
+    if id < 8 {
+        return WritebackId::Dof(axis);
+    }
+    if id < 16 {
+        return WritebackId::Limit(axis);
+    }
+    if id < 24 {
+        return WritebackId::Motor(axis);
+    }
+    WritebackId::Dof(6)
+}
+
+// A row's impulse stored in a joint's 49 numbers.
+#[no_mangle]
+pub extern "C" fn katydidzinc_space_rows_writeback(id: u32, impulse: f32, numbers: &mut [f32])
+    ensures { λ _. ⌜ now (numbers .exit) ≡ putSeedIfThere (now (numbers .entry)) 0 (idOf id) impulse ⌝ }
+{
+    let which = id_of(id);
+    write_impulse(numbers, 0, which, impulse);
 }
