@@ -49,7 +49,7 @@ use Rattle.model.proofs.WritebackLaws.{jointAt-putSeed-writeback}
 use Rattle.model.proofs.MotorTargetLaws.{records-steady, finiteJoint-steady, centerFits-steady, table-size, records-named}
 use Rattle.model.proofs.NewMasks.{put-reworded, masksAt-apart, jointAt-apart, named-put, rule-put, unfit-rule}
 use Rattle.model.proofs.FirstRows.{first-reworded, masksAt-first, jointAt-first, maskRules-first}
-use Rattle.model.proofs.Keeps.{putVel-poses, finiteBody-kept, place-finite, putSeed-seeds, finiteJoint-kept, centerFits-kept}
+use Rattle.model.proofs.Keeps.{putVel-kept, finiteBody-kept, place-finite, finiteJoint-kept, centerFits-kept}
 
 -- ---- joints
 
@@ -215,11 +215,11 @@ planar-laws = record {
   mask-numbered = λ words joints fit. (omega arith, tt);
   own-masks = unfit-rule;
   content-numbered = λ words n joints. (omega arith, tt);
-  finiteBody-putVel = λ b i i′ v. finiteBody-kept b (Rattle.model.specs.Store.putVel b i v) i′ (putVel-poses b i v .numbers i′);
+  finiteBody-putVel = λ b i i′ v. finiteBody-kept b (Rattle.model.specs.Store.putVel b i v) i′ (putVel-kept b i v i′);
   finiteBody-putPose = λ b i i′ p f room was was′. place-finite p f b i room i′ was was′;
-  finiteJoint-putSeed = λ words n j j′ id p. finiteJoint-kept n (putSeed n j id p) (putSeed-seeds n j id p) j′ words;
+  finiteJoint-putSeed = λ words n j j′ id p. finiteJoint-kept n j id p j′ words;
   contentRules-putSeed = λ words n joints j id p.
-      ap (λ t. rule 12 t ∷ []) (all-cong (centerFits words (putSeed n j id p)) (centerFits words n) 0 joints (λ j′ _ _. centerFits-kept n (putSeed n j id p) (putSeed-seeds n j id p) j′ words));
+      ap (λ t. rule 12 t ∷ []) (all-cong (centerFits words (putSeed n j id p)) (centerFits words n) 0 joints (λ j′ _ _. centerFits-kept n j id p j′ words));
   further-numbered = table-numbered;
   further-size = λ bytes m. table-size (m .numbers) _;
   further-equal = λ bytes m m′ e. ap (λ joints. refusal (tableRules joints bytes)) e;
