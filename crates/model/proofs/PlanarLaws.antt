@@ -121,6 +121,11 @@ pose-placed : (b b′ : List Float) (i : ℕ) (p : Pose) → (i ≡ world → �
 pose-placed b b′ i p ne room room′ e =
     solverPoseAt-putPose b i p ne room ∙ ap (λ (q : SolverPose). withPose q p) e ∙ sym (solverPoseAt-putPose b′ i p ne room′)
 
+-- rule 6 holds of bodies once a pose is placed of which it holds
+placed-kept : (b : List Float) (i i′ : ℕ) (p : Pose) → planar .finitePose p ≡ true → BodyRoom plane b i → planar .finiteBody b i ≡ true → planar .finiteBody b i′ ≡ true
+    → planar .finiteBody (putPose b i p) i′ ≡ true
+placed-kept b i i′ p f room was was′ = place-finite p f b i room i′ was was′
+
 -- ---- tables
 
 module _ (bytes : List ℕ) (m : Model) where
@@ -216,7 +221,7 @@ planar-laws = record {
   own-masks = unfit-rule;
   content-numbered = λ words n joints. (omega arith, tt);
   finiteBody-putVel = λ b i i′ v. finiteBody-kept b (Rattle.model.specs.Store.putVel b i v) i′ (putVel-kept b i v i′);
-  finiteBody-putPose = λ b i i′ p f room was was′. place-finite p f b i room i′ was was′;
+  finiteBody-putPose = placed-kept;
   finiteJoint-putSeed = λ words n j j′ id p. finiteJoint-kept n j id p j′ words;
   contentRules-putSeed = λ words n joints j id p.
       ap (λ t. rule 12 t ∷ []) (all-cong (centerFits words (putSeed n j id p)) (centerFits words n) 0 joints (λ j′ _ _. centerFits-kept n j id p j′ words));
