@@ -1,8 +1,10 @@
--- The rules that only space has: 17 stands right after 3, whose bound is 63 (`checking-order`). Both look at the masks as they are handed over, on locked axes, of disabled joints and of joints without a body too (`mask-cases`).
-use Prim.Native.Nat.{ℕ}
+-- The rules that only space has: 17 stands right after 3, whose bound is 63 (`checking-order`). 17 tries the limit mask, the motor mask and the coupled one (`limit-past`, `motor-past`, `none-coupled`). Both rules look at the masks as they are handed over, on locked axes, of disabled joints and of joints without a body too (`mask-cases`).
+use Prim.Native.Nat.{ℕ, _+_, _≤_, _<_}
 use mathlib.Core.Path.{_≡_, refl}
 use mathlib.Core.Bool.{Bool, false}
-use mathlib.Core.List.{[], _∷_, map}
+use mathlib.Core.List.{List, [], _∷_, map}
+use borrow.Author.Tests.{le-ltb, lt-ltb}
+use lib.Dec.{eqb}
 use lib.IntN.{pos}
 use lib.ListN.{replicate}
 use lib.Ieee.{Float, fin, lt, isNan, ofBits}
@@ -11,19 +13,40 @@ use Rattle.floats.specs.Sign.{absOf}
 use Rattle.rows.specs.RowIds.{hasAxis, rowIds}
 use Rattle.multibody.specs.Rules.{Rule, refusal, all}
 use Rattle.multibody.specs.Model.{Model, model, world}
+use Rattle.multibody.specs.Records.{word}
 use Rattle.multibody.specs.JointRows.{jointIds, rowCount, rowMasksAt}
 use Rattle.multibody.specs.Counts.{bodyCount, jointCount, rowCapacity, rowsBefore}
 use Rattle.multibody.specs.Finite.{finiteFrom, noNanFrom, finiteMotor}
 use Rattle.multibody.specs.Refusals.{presentOrWorld, bodiesPresent, bodiesApart, finiteParams, modelRules, modelRulesWith, storageRule}
 use Rattle.multibody.specs.Calls.{rulesOf}
 use Rattle.multibody.specs.Calls.Call.{load}
+use Rattle.spatial_model.specs.Layout.{wordsWidth, masksPlace}
 use Rattle.spatial_model.specs.Store.{masksAt, enabledAt, body1At, body2At}
-use Rattle.spatial_model.specs.Refusals.{masksFit, linearAlone, finiteBody, finiteJoint}
+use Rattle.spatial_model.specs.Refusals.{linearAxes, masksFit, linearAlone, finiteBody, finiteJoint}
 use Rattle.spatial_model.specs.Spatial.{spatial}
 
+-- document 01's order, with 17 right after 3
 checking-order : (m : Model) (arguments : Bool) → map (λ (r : Rule). r .number) (modelRules spatial m arguments) ≡ 1 ∷ 2 ∷ 3 ∷ 17 ∷ 4 ∷ 5 ∷ 6 ∷ 7 ∷ []
 unfolding modelRulesWith
 checking-order m arguments = refl
+
+-- ---- what 17 tries of a joint: its limit mask, its motor mask and its coupled one, in this order
+
+module _ (words : List ℕ) (j : ℕ) where
+  abbrev mask : ℕ → ℕ
+  mask c = word wordsWidth words j (masksPlace + c)
+
+  pub limit-past : linearAxes < mask 1 → false ≡ linearAlone words j
+  unfolding linearAlone
+  limit-past h = rw (lt-ltb linearAxes (mask 1) h)
+
+  pub motor-past : mask 1 ≤ linearAxes → linearAxes < mask 2 → false ≡ linearAlone words j
+  unfolding linearAlone
+  motor-past g h = rw (le-ltb linearAxes (mask 1) g, lt-ltb linearAxes (mask 2) h)
+
+  pub none-coupled : mask 1 ≤ linearAxes → mask 2 ≤ linearAxes → eqb (mask 3) 0 ≡ linearAlone words j
+  unfolding linearAlone
+  none-coupled g h = rw (le-ltb linearAxes (mask 1) g, le-ltb linearAxes (mask 2) h)
 
 -- ---- cases
 

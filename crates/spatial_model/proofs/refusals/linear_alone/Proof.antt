@@ -1,21 +1,17 @@
 -- `linear_alone` meets its contract: each test is tried where those before it hold.
-use Rattle.spatial_model.specs.Refusals.{linearAlone}
 use borrow.Author.Needs.{needs}
-use borrow.Author.Tests.{le-ltb, lt-ltb}
+use Rattle.spatial_model.proofs.SpatialRules.{limit-past, motor-past, none-coupled}
 use Rattle.spatial_model.proofs.refusals.linear_alone.Statement.{statement}
 use Rattle.spatial_model.proofs.refusals.linear_alone.Tie as tie
 
 returns : tie.Need-returns
-unfolding linearAlone
-returns c = rw (lt-ltb _ _ (c .if1 .taken))
+returns c = limit-past _ _ (c .if1 .taken)
 
 returns-2 : tie.Need-returns-2
-unfolding linearAlone
-returns-2 c = rw (le-ltb _ _ (c .before .before .if1 .left), lt-ltb _ _ (c .if2 .taken))
+returns-2 c = motor-past _ _ (c .before .before .if1 .left) (c .if2 .taken)
 
 returns-3 : tie.Need-returns-3
-unfolding linearAlone
-returns-3 c = rw (le-ltb _ _ (c .before .before .before .if1 .left), le-ltb _ _ (c .before .if2 .left))
+returns-3 c = none-coupled _ _ (c .before .before .before .if1 .left) (c .before .if2 .left)
 
 pub linear-alone-spec : {M : Type 1} → statement M
 linear-alone-spec =
