@@ -1,0 +1,2 @@
+pub mod CallExportsLaws
+pub mod ReadLaws

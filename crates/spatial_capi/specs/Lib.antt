@@ -1,0 +1,2 @@
+pub mod CallExports
+pub mod Stored
