@@ -22,33 +22,24 @@ use Rattle.multibody.specs.Model.{world}
 use Rattle.multibody.specs.Rules.{all}
 use Rattle.multibody.specs.Records.{num, puts}
 use Rattle.multibody.specs.JointRecords.{axisOf}
-use Rattle.multibody.proofs.Strided.{length-puts, num-beside}
+use Rattle.multibody.proofs.Strided.{num-beside}
 use Rattle.multibody.proofs.Tests.{by-cases}
 use Rattle.multibody.proofs.RuleLaws.{both, all-below}
 use Rattle.multibody.proofs.RunLaws.{SameRun, finite-same, nan-same, motor-same, front-same, clear, clear-apart, EachFinite, placed-finite}
 use Rattle.spatial_model.specs.Layout.{bodyWidth, velocityPlace, numbersWidth}
 use Rattle.spatial_model.specs.Store.{velNumbers, putVel, poseNumbers, putPose, putSeed, seedIndex, seedAxes}
 use Rattle.spatial_model.specs.Refusals.{finiteVector, finiteRotation, finitePose, finiteBody, finiteJoint}
-use Rattle.spatial_model.proofs.StoreLaws.{length-putSeed, num-putSeed-kept, num-putSeed-other, putSeed-past}
+use Rattle.spatial_model.proofs.StoreLaws.{num-putSeed-kept, num-putSeed-other, putSeed-past}
 
 -- ---- bodies: all but velocities
 
--- storages of bodies of one length that differ in velocities at most
-pub record SamePoses (b b′ : List Float) : Type 0 where
-  pub size : length b′ ≡ length b
-  pub numbers : (i c : ℕ) → c < velocityPlace → num bodyWidth b′ i c ≡ num bodyWidth b i c
-
-same-poses : (b : List Float) → SamePoses b b
-same-poses b = record { size = refl; numbers = λ i c h. refl }
-
-pub putVel-poses : (b : List Float) (i : ℕ) (v : SolverVel) → SamePoses b (putVel b i v)
+pub putVel-kept : (b : List Float) (i : ℕ) (v : SolverVel) (i′ c : ℕ) → c < velocityPlace → num bodyWidth (putVel b i v) i′ c ≡ num bodyWidth b i′ c
 unfolding putVel
-putVel-poses b i v = go (eqb i world) (velNumbers v) refl
+putVel-kept b i v i′ c h = go (eqb i world)
   where
-    go : (t : Bool) (vs : List Float) → length vs ≡ 6 → SamePoses b (cond t b (puts b (i * bodyWidth) velocityPlace vs))
-    go true vs e = same-poses b
-    go false vs e =
-        record { size = length-puts vs b (i * bodyWidth) velocityPlace; numbers = λ i′ c h. num-beside bodyWidth b vs i i′ velocityPlace c (omega arith) (omega arith) (inl h) }
+    go : (t : Bool) → num bodyWidth (cond t b (puts b (i * bodyWidth) velocityPlace (velNumbers v))) i′ c ≡ num bodyWidth b i′ c
+    go true = refl
+    go false = num-beside bodyWidth b (velNumbers v) i i′ velocityPlace c (lit≤ tt) (omega arith) (inl h)
 
 -- ---- joints: all but stored impulses
 
@@ -56,20 +47,12 @@ putVel-poses b i v = go (eqb i world) (velNumbers v) refl
 abbrev Fixed : ℕ → Type 0
 Fixed c = (id : WritebackId) → axisOf id < seedAxes id → c ≢ seedIndex id
 
--- storages of joints' numbers of one length that differ in stored impulses at most
-pub record SameButSeeds (s s′ : List Float) : Type 0 where
-  pub size : length s′ ≡ length s
-  pub numbers : (j c : ℕ) → c < numbersWidth → Fixed c → num numbersWidth s′ j c ≡ num numbersWidth s j c
-
-pub putSeed-seeds : (s : List Float) (j : ℕ) (id : WritebackId) (p : Float) → SameButSeeds s (putSeed s j id p)
-putSeed-seeds s j id p = record {
-  size = length-putSeed s j id p;
-  numbers = λ j′ c h f. by-cases (eqb j′ j)
-      (λ t. by-cases (ltb (axisOf id) (seedAxes id))
-      (λ l. rw (eqb-true j′ j t) (num-putSeed-kept s j id p c (f id (ltb-true (axisOf id) (seedAxes id) l))))
-      (λ l. rw (putSeed-past s j id p (ltb-false (axisOf id) (seedAxes id) l))))
-      (λ t. num-putSeed-other s j j′ id p c (eqb-false j′ j t) h);
-}
+putSeed-kept : (s : List Float) (j : ℕ) (id : WritebackId) (p : Float) (j′ c : ℕ) → c < numbersWidth → Fixed c → num numbersWidth (putSeed s j id p) j′ c ≡ num numbersWidth s j′ c
+putSeed-kept s j id p j′ c h f = by-cases (eqb j′ j)
+    (λ t. by-cases (ltb (axisOf id) (seedAxes id))
+    (λ l. rw (eqb-true j′ j t) (num-putSeed-kept s j id p c (f id (ltb-true (axisOf id) (seedAxes id) l))))
+    (λ l. rw (putSeed-past s j id p (ltb-false (axisOf id) (seedAxes id) l))))
+    (λ t. num-putSeed-other s j j′ id p c (eqb-false j′ j t) h)
 
 -- no id's is among the n numbers from number a on
 abbrev dofsClear : ℕ → ℕ → Bool
@@ -93,9 +76,12 @@ module _ (a n : ℕ) (free : seedless a n ≡ true) where
   fixed : (c : ℕ) → a ≤ c → c < a + n → Fixed c
   fixed c l u id h = clear-apart seedIndex a n id (cleared id h) c l u
 
-module _ (s s′ : List Float) (same : SameButSeeds s s′) (j : ℕ) where
+module _ (s : List Float) (i : ℕ) (id : WritebackId) (p : Float) (j : ℕ) where
+  abbrev s′ : List Float
+  s′ = putSeed s i id p
+
   run : (a n : ℕ) → a + n ≤ numbersWidth → seedless a n ≡ true → SameRun numbersWidth s s′ j a n
-  run a n l free c g h = same .numbers j c (omega arith) (fixed a n free c g h)
+  run a n l free c g h = putSeed-kept s i id p j c (omega arith) (fixed a n free c g h)
 
   pub finiteJoint-kept : (words : List ℕ) → finiteJoint words s′ j ≡ finiteJoint words s j
   unfolding finiteJoint all

@@ -43,7 +43,7 @@ use Rattle.spatial_model.specs.Studies.{spatialCalls}
 use Rattle.spatial_model.proofs.StoreLaws.{withPose, impulse-first, length-putRow, rowAt-putRow, rowAt-putRow-other, putRow-past, velAt-world, solverPoseAt-world, length-putVel, velAt-putVel, velAt-putVel-other, solverPoseAt-putVel, length-putPose, solverPoseAt-putPose, solverPoseAt-putPose-other, velAt-putPose, length-putSeed, jointAt-putSeed-other}
 use Rattle.spatial_model.proofs.WritebackLaws.{jointAt-putSeed-writeback}
 use Rattle.spatial_model.proofs.MaskLaws.{masksAt-spatial}
-use Rattle.spatial_model.proofs.Keeps.{putVel-poses, finiteBody-kept, place-finite, putSeed-seeds, finiteJoint-kept}
+use Rattle.spatial_model.proofs.Keeps.{putVel-kept, finiteBody-kept, place-finite, finiteJoint-kept}
 
 -- ---- joints
 
@@ -159,9 +159,9 @@ spatial-laws = record {
   mask-numbered = λ words joints fit. (omega arith, (omega arith, tt));
   own-masks = unfit;
   content-numbered = λ words n joints. tt;
-  finiteBody-putVel = λ b i i′ v. finiteBody-kept b (putVel b i v) i′ (putVel-poses b i v .numbers i′);
+  finiteBody-putVel = λ b i i′ v. finiteBody-kept b (putVel b i v) i′ (putVel-kept b i v i′);
   finiteBody-putPose = λ b i i′ p f room was was′. place-finite p f b i room i′ was was′;
-  finiteJoint-putSeed = λ words n j j′ id p. finiteJoint-kept n (putSeed n j id p) (putSeed-seeds n j id p) j′ words;
+  finiteJoint-putSeed = λ words n j j′ id p. finiteJoint-kept n j id p j′ words;
   contentRules-putSeed = λ words n joints j id p. refl;
   further-numbered = λ none m. absurd none;
   further-size = λ none m. absurd none;
