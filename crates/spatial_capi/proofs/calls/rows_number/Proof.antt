@@ -10,4 +10,6 @@ returns-2 : tie.Need-returns-2
 returns-2 c = search needs
 
 pub rows-number-spec : {M : Type 1} → statement M
-rows-number-spec = tie.close (tie.spec (λ c. search needs) (λ c. search needs) returns (λ c. search needs) (λ c. search needs) returns-2 (λ c. search needs))
+rows-number-spec =
+    tie.close
+    (tie.spec (λ c. search needs) (λ c. search needs) returns (λ c. search needs) (λ c. search needs) returns-2 (λ c. search needs))
