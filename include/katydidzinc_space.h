@@ -76,7 +76,8 @@ extern "C" {
 #define KATYDIDZINC_SPACE_DOFS 43      /* stored impulses of the locks, an axis each: linear x, y, z, then angular x, y, z */
 
 /* A row, in `rows` and in what a row read writes: 29 numbers, the Rust's JointConstraint; a vector is x, y, z. Signs and units are those of the plane: a positive impulse moves body 1 along
- * lin_jac and body 2 the other way; with lengths in metres, a linear row's impulse is in N s and an angular row's in N m s. */
+ * lin_jac and body 2 the other way; with lengths in metres, a linear row's impulse is in N s and an angular row's in N m s. An angular lock's ang_jac is half as long as a unit vector where both
+ * frames turn alike, so that a couple of 1 N m s shows there as an impulse of 2: what a body got is impulse times ang_jac, summed over the joint's rows. */
 #define KATYDIDZINC_SPACE_ROW_WIDTH 29
 #define KATYDIDZINC_SPACE_ROW_IMPULSE 0
 #define KATYDIDZINC_SPACE_ROW_IMPULSE_MIN 1

@@ -12,7 +12,7 @@
     print(study.table())
 
 An axis is a word, x, y, z for the linear ones and rx, ry, rz for the angular ones, or its number from 0 to 5. A joint locks any of the six; limits and motors are for linear axes only, and no axis
-is coupled: a load of any other joint is refused with 17. include/katydidzinc_space.h describes the records and the calls, and this module has its names and numbers. Names, refusals, limits and motors are those of
+is coupled: a load of any other joint is refused with 17. An angular lock's Jacobian is half a unit vector where both frames turn alike, so that a couple of 1 N m s shows in a table as an impulse of 2; `reactions()` has what the bodies got. include/katydidzinc_space.h describes the records and the calls, and this module has its names and numbers. Names, refusals, limits and motors are those of
 katydidzinc, and a study's arrays and calls are as there. There are no motor tables, mask changes and frames in space.
 """
 
