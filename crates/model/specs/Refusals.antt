@@ -1,5 +1,4 @@
--- Document 01, "Eleven refusals, in checking order", and those of document 02: 12, which it puts right after 6, and 13 to 15, of a motor table, after 8. Each rule is a test with its number, tried on the whole model before the next; a call is refused with
--- the number of the first rule that fails.
+-- Document 01, "Eleven refusals, in checking order", and document 02's rule 12, which it puts right after 6: what rules 3, 6 and 12 ask of one joint or body. The other rules and their order are multibody's; 13 to 15, of a motor table, stand in Planar.
 use Prim.Native.Nat.{ℕ, _+_, _*_}
 use mathlib.Core.Bool.{Bool, true, not, _&&_}
 use mathlib.Core.List.{List}
@@ -23,7 +22,7 @@ allAxes = 7
 abbrev pub fourMasks : ℕ
 fourMasks = 4
 
--- ---- what rules 3, 4 and 5 ask of joint j
+-- ---- what rule 3 asks of joint j, and of new masks
 
 unfoldable pub masksFit : List ℕ → ℕ → Bool
 masksFit words j = all masksPlace fourMasks (λ c. atMost allAxes (word wordsWidth words j c))
