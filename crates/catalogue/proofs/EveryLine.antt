@@ -18,12 +18,13 @@ use Rattle.model.specs.Store.{world, masksAt, enabledAt, body1At, body2At, cent
 use Rattle.multibody.specs.Model.{Model, model}
 use Rattle.multibody.specs.Counts.{bodyCount, jointCount, rowCapacity, rowsBefore, Room}
 use Rattle.multibody.specs.Rules.{all}
-use Rattle.multibody.specs.Refusals.{presentOrWorld, bodiesPresent, bodiesApart, finiteParams, finiteWarm, modelRules, storageRule, seedsRule, readsRows}
+use Rattle.multibody.specs.Finite.{passes, passesFrom}
+use Rattle.multibody.specs.Refusals.{presentOrWorld, bodiesPresent, bodiesApart, finiteParams, finiteWarm, finiteBody, finiteJoint, modelRules, storageRule, seedsRule, readsRows}
 use Rattle.multibody.specs.Calls.{refusalOf, firstRules, ownRules, rulesOf, run}
 use Rattle.multibody.specs.Calls.Call.{build}
 use Rattle.model.specs.Planar.{plane, planar}
 use Rattle.model.proofs.PlanarLaws.{planar-laws}
-use Rattle.model.specs.Refusals.{masksFit, finiteFrom, noNanFrom, finiteBody, finiteMotor, finiteCenter, finiteJoint, angleFits, centerFits}
+use Rattle.model.specs.Refusals.{masksFit, angleFits, centerFits}
 use Rattle.multibody.proofs.JointRowsLaws.{few-rows}
 use Rattle.multibody.proofs.RuleLaws.{Hold, all-hold, hold-granted}
 use Rattle.multibody.proofs.RefusalLaws.{model-numbered, RulesHold, rules-granted}
@@ -55,7 +56,7 @@ storage = replicate 108 o
 
 module _ (k : Masks) (h : Legal k) where
   rules : RulesHold planar-laws (sample k)
-  unfolding all masksFit presentOrWorld bodiesPresent bodiesApart finiteFrom noNanFrom finiteParams finiteBody finiteMotor finiteCenter finiteJoint angleFits centerFits centerAt absOf isFinite isNan lt ofBits bodyCount jointCount body1At body2At
+  unfolding all masksFit presentOrWorld bodiesPresent bodiesApart passes passesFrom finiteParams finiteBody finiteJoint angleFits centerFits centerAt absOf isFinite isNan lt ofBits bodyCount jointCount body1At body2At
   rules = record {
     bodies = refl;
     joints = refl;

@@ -12,16 +12,17 @@ use lib.Ieee.{Float}
 use Rattle.rows.specs.declared.joint_constraint_builder.SolverPose.{SolverPose}
 use Rattle.multibody.specs.Model.{Model, mostBodies, world, withBodies}
 use Rattle.multibody.specs.Counts.{bodyCount, jointCount}
+use Rattle.multibody.specs.Refusals.{finiteBody, finiteJoint}
 use Rattle.multibody.proofs.Tests.{by-cases}
 use Rattle.multibody.proofs.RuleLaws.{all-below}
 use Rattle.multibody.proofs.RefusalLaws.{RulesHold, sound-held}
 use Rattle.multibody.proofs.CountLaws.{same-bodies, body-there}
-use Rattle.multibody.proofs.Keeps.{held-with}
+use Rattle.multibody.proofs.Keeps.{finite-placed, held-with}
 use Rattle.model.specs.Planar.{plane, planar}
 use Rattle.model.specs.Store.{solverPoseAt, velAt, putPose}
-use Rattle.model.specs.Refusals.{finitePose, finiteBody, finiteJoint}
+use Rattle.model.specs.Refusals.{finitePose}
 use Rattle.model.proofs.StoreLaws.{withPose, solverPoseAt-putPose, solverPoseAt-putPose-other, velAt-putPose, length-putPose}
-use Rattle.model.proofs.Keeps.{place-finite}
+use Rattle.model.proofs.Keeps.{putPose-same}
 use Rattle.model.proofs.PlanarLaws.{planar-laws}
 use Rattle.frames.specs.Moving.{newPose, Moved, moved, moveFrom}
 use Rattle.frames.specs.Frames.{moment, movedMoment, moveOf}
@@ -37,10 +38,10 @@ pub record MovedAs (h : Float) (i n : ℕ) (b b1 : List Float) : Type 0 where
   pub vels : (k : ℕ) → velAt b1 k ≡ velAt b k
   pub moves : (k : ℕ) → i ≤ k → k < i + n → solverPoseAt b1 k ≡ withPose (solverPoseAt b k) (newPose h b k)
   pub stays : (k : ℕ) → k < i → solverPoseAt b1 k ≡ solverPoseAt b k
-  pub fine : (k : ℕ) → k < bodyCount plane b → finiteBody b1 k ≡ true
+  pub fine : (k : ℕ) → k < bodyCount plane b → finiteBody planar b1 k ≡ true
 
 module _ (h : Float) where
-  move-as : (n i : ℕ) (b : List Float) → i + n ≤ bodyCount plane b → bodyCount plane b ≤ mostBodies → ((k : ℕ) → k < bodyCount plane b → finiteBody b k ≡ true) → moveFrom h i n b .finite ≡ true
+  move-as : (n i : ℕ) (b : List Float) → i + n ≤ bodyCount plane b → bodyCount plane b ≤ mostBodies → ((k : ℕ) → k < bodyCount plane b → finiteBody planar b k ≡ true) → moveFrom h i n b .finite ≡ true
       → MovedAs h i n b (moveFrom h i n b .bodies)
   unfolding moveFrom
   move-as zero i b l few was f = record { size = refl; vels = λ k. refl; moves = λ k g g2. absurd (omega (arith, g, g2)); stays = λ k g. refl; fine = was }
@@ -51,7 +52,7 @@ module _ (h : Float) where
       let count : bodyCount plane b2 ≡ bodyCount plane b = same-bodies plane b b2 (length-putPose b i p) in
       let here : i < bodyCount plane b = omega (arith, l) in
       let rest = move-as n (i + 1) b2 (rw count (omega (arith, l))) (rw count few)
-      (λ k g. place-finite p t b i (body-there plane b i here) k (was i here) (was k (rw count at g))) (rw t at f) in
+      (λ k g. finite-placed planar-laws (putPose-same b i p t) k (was k (rw count at g))) (rw t at f) in
       rw t
       (record {
         size = rest .size ∙ length-putPose b i p;
@@ -84,13 +85,13 @@ pub moved-as : (q : Model) → RulesHold planar-laws q → moveFrom (q .params .
     → MovedAs (q .params .dt) 0 (bodyCount plane (q .bodies)) (q .bodies) (moveFrom (q .params .dt) 0 (bodyCount plane (q .bodies)) (q .bodies) .bodies)
 moved-as q held f =
     move-as (q .params .dt) (bodyCount plane (q .bodies)) 0 (q .bodies) (omega arith) (sound-held planar-laws q held .few)
-    (all-below (finiteBody (q .bodies)) (bodyCount plane (q .bodies)) (held .finite-bodies)) f
+    (all-below (finiteBody planar (q .bodies)) (bodyCount plane (q .bodies)) (held .finite-bodies)) f
 
-pub moved-held : (q : Model) → RulesHold planar-laws q → (b : List Float) → length b ≡ length (q .bodies) → ((k : ℕ) → k < bodyCount plane (q .bodies) → finiteBody b k ≡ true)
+pub moved-held : (q : Model) → RulesHold planar-laws q → (b : List Float) → length b ≡ length (q .bodies) → ((k : ℕ) → k < bodyCount plane (q .bodies) → finiteBody planar b k ≡ true)
     → RulesHold planar-laws (withBodies q b)
 moved-held q held b size fine =
     held-with planar-laws q (q .built) b (q .numbers) size refl held fine
-    (all-below (finiteJoint (q .words) (q .numbers)) (jointCount plane (q .words) (q .numbers)) (held .finite-joints)) refl
+    (all-below (finiteJoint planar (q .words) (q .numbers)) (jointCount plane (q .words) (q .numbers)) (held .finite-joints)) refl
 
 pub moved-rules : (q : Model) (rows : List Float) → RulesHold planar-laws q → moveOf (moment q rows) .finite ≡ true → RulesHold planar-laws (movedMoment (moment q rows) .model)
 unfolding moveOf

@@ -20,7 +20,8 @@ use Rattle.rows.specs.declared.joint_velocity_constraint.WritebackId.{Writeback
 use Rattle.multibody.specs.Rules.{refusal, all}
 use Rattle.multibody.specs.Model.{Model, model}
 use Rattle.multibody.specs.Counts.{bodyCount, jointCount, rowCapacity, rowsBefore, storeFirsts}
-use Rattle.multibody.specs.Refusals.{presentOrWorld, bodiesPresent, bodiesApart, finiteParams, finiteWarm, modelRulesWith, storageRule, sweepRule, builtRule, seedsRule, readsRows}
+use Rattle.multibody.specs.Finite.{passes, passesFrom}
+use Rattle.multibody.specs.Refusals.{presentOrWorld, bodiesPresent, bodiesApart, finiteParams, finiteWarm, finiteBody, modelRulesWith, storageRule, sweepRule, builtRule, seedsRule, readsRows}
 use Rattle.multibody.specs.Calls.{rulesOf, grantedOf, run, eachJoint, rounds, sweepRound}
 use Rattle.multibody.specs.Calls.Call.{load}
 use Rattle.multibody.specs.Traces.{Study, AtEach}
@@ -28,7 +29,7 @@ use Rattle.multibody.specs.Studies.{machine, Loaded, Enough, GrantedAlike, Clos
 use Rattle.multibody.proofs.CallLaws.{run-granted}
 use Rattle.multibody.proofs.Premises.{Turn, recorded, recorded-returns}
 use Rattle.model.specs.Store.{solverPoseAt, velAt, putPose}
-use Rattle.model.specs.Refusals.{masksFit, finiteFrom, finitePose, finiteBody}
+use Rattle.model.specs.Refusals.{masksFit, finitePose}
 use Rattle.model.specs.Planar.{plane, planar}
 use Rattle.frames.specs.Moving.{movedRotation, movedPose, newPose, moveFrom}
 use Rattle.frames.specs.Frames.{isStep, substepsRule, beforeMove, moveOf, afterMove, substep, substeps, stepsOf, allSubsteps, frameRules, grantedFrame, runFrame}
@@ -78,7 +79,7 @@ abbrev Granted : Model → Type 0
 Granted m = (refusal (rulesOf planar load m []) ≡ 0) × (refusal (frameRules Cold 1 2 m []) ≡ 0)
 
 pub granted : Granted (example one) × Granted (example two)
-unfolding frameRules rulesOf refusal all modelRulesWith storageRule sweepRule builtRule seedsRule readsRows substepsRule masksFit presentOrWorld bodiesPresent bodiesApart finiteFrom finiteParams finiteWarm finiteBody finitePose isFinite isNan isStep lt eq ofBits ofInt add sub mul div round bodyCount jointCount rowCapacity rowsBefore allSubsteps stepsOf substeps substep beforeMove afterMove moveOf moveFrom newPose movedPose movedRotation addOf mulOf gdotOf lengthOf sqrtOf unitsOf solverPoseAt velAt putPose run grantedOf eachJoint rounds sweepRound
+unfolding frameRules rulesOf refusal all modelRulesWith storageRule sweepRule builtRule seedsRule readsRows substepsRule masksFit presentOrWorld bodiesPresent bodiesApart passes passesFrom finiteParams finiteWarm finiteBody finitePose isFinite isNan isStep lt eq ofBits ofInt add sub mul div round bodyCount jointCount rowCapacity rowsBefore allSubsteps stepsOf substeps substep beforeMove afterMove moveOf moveFrom newPose movedPose movedRotation addOf mulOf gdotOf lengthOf sqrtOf unitsOf solverPoseAt velAt putPose run grantedOf eachJoint rounds sweepRound
 granted = ((refl, refl), (refl, refl))
 
 loaded-as : (x : Float) → refusal (rulesOf planar load (example x) []) ≡ 0 → Loaded movingCalls (record { model = example x; rows = [] })
@@ -139,5 +140,5 @@ shared = moving-two-studies set (recorded movingCalls ts s s′) s s′ same-num
 
 -- it moves: in each of the two substeps by one, half its velocity
 pub moves : poseX (runFrame Cold 1 2 (example one) [] .after .bodies) ≡ two
-unfolding runFrame grantedFrame frameRules rulesOf refusal all modelRulesWith storageRule sweepRule builtRule seedsRule readsRows substepsRule masksFit presentOrWorld bodiesPresent bodiesApart finiteFrom finiteParams finiteWarm finiteBody finitePose isFinite isNan isStep lt eq ofBits ofInt add sub mul div round bodyCount jointCount rowCapacity rowsBefore allSubsteps stepsOf substeps substep beforeMove afterMove moveOf moveFrom newPose movedPose movedRotation addOf mulOf gdotOf lengthOf sqrtOf unitsOf solverPoseAt velAt putPose run grantedOf eachJoint rounds sweepRound
+unfolding runFrame grantedFrame frameRules rulesOf refusal all modelRulesWith storageRule sweepRule builtRule seedsRule readsRows substepsRule masksFit presentOrWorld bodiesPresent bodiesApart passes passesFrom finiteParams finiteWarm finiteBody finitePose isFinite isNan isStep lt eq ofBits ofInt add sub mul div round bodyCount jointCount rowCapacity rowsBefore allSubsteps stepsOf substeps substep beforeMove afterMove moveOf moveFrom newPose movedPose movedRotation addOf mulOf gdotOf lengthOf sqrtOf unitsOf solverPoseAt velAt putPose run grantedOf eachJoint rounds sweepRound
 moves = refl

@@ -14,7 +14,7 @@ use Rattle.multibody.proofs.Laws.{Reworded}
 use Rattle.model.specs.Layout.{wordsWidth, masksPlace, firstRowPlace}
 use Rattle.model.specs.Records.{word}
 use Rattle.model.specs.Store.{putFirst, jointAt, centerAt, masksAt, enabledAt, enabledOf, body1At, body2At}
-use Rattle.model.specs.Refusals.{masksFit, finiteJoint, centerFits}
+use Rattle.model.specs.Refusals.{masksFit, jointAsks, centerFits}
 use Rattle.model.specs.Planar.{planar}
 use Rattle.model.specs.FirstRows.{FirstRowsAlone}
 
@@ -37,16 +37,15 @@ module _ {w w′ : List ℕ} (a : FirstRowsAlone w w′) where
   unfolding enabledAt
   enabled-alone i = ap enabledOf (a .other i 9 (omega arith))
 
-  finite-alone : (n : List Float) (i : ℕ) → finiteJoint w′ n i ≡ finiteJoint w n i
-  unfolding finiteJoint
-  finite-alone n i = rw (center-alone n i)
+  asks-alone : (i : ℕ) → planar .jointAsks w′ i ≡ planar .jointAsks w i
+  asks-alone i = ap jointAsks (a .other i 10 (omega arith))
 
   contents-alone : (n : List Float) (joints : ℕ) → planar .contentRules w′ n joints ≡ planar .contentRules w n joints
   unfolding centerFits
   contents-alone n joints = ap (λ t. rule 12 t ∷ []) (all-cong _ _ 0 joints (λ i _ _. rw (center-alone n i)))
 
   pub alone-reworded : Reworded planar w w′
-  alone-reworded = record { size = a .size; body1 = body1-alone; body2 = body2-alone; enabled = enabled-alone; finite = finite-alone; contents = contents-alone }
+  alone-reworded = record { size = a .size; body1 = body1-alone; body2 = body2-alone; enabled = enabled-alone; asks = asks-alone; contents = contents-alone }
 
   pub masksAt-alone : (i : ℕ) → masksAt w′ i ≡ masksAt w i
   unfolding masksAt

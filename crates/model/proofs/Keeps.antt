@@ -1,127 +1,91 @@
--- What the stores of calls keep of bodies and joints. A stored velocity keeps poses, masses and inertia, and so what rule 6 says of a body (`finiteBody-kept`); a placed pose that is finite keeps rule 6 (`place-finite`); a stored
--- impulse keeps all else of a joint, and so what rules 6 and 12 say of it (`finiteJoint-kept`, `centerFits-kept`).
-use Prim.Native.Nat.{ℕ, _+_, _*_, _≤_, _<_}
-use mathlib.Core.Path.{_≡_, refl}
-use mathlib.Core.Logic.{_≢_, inl}
-use mathlib.Core.Bool.{Bool, true, false, cond, _&&_}
+-- What the stores of calls change of bodies and joints. A stored velocity changes free places alone, which no pose, mass or inertia is read from; a placed pose that is finite passes rule 6. A stored impulse and a motor table's
+-- target store numbers that pass rule 6, before the centre, so that rule 12 reads what it read (`Stored`).
+use Prim.Native.Nat.{ℕ, _+_, _*_, _<_}
+use mathlib.Core.Path.{_≡_, refl, sym, ap, _∙_}
+use mathlib.Core.Bool.{Bool, true, false, cond, _&&_, false≢true}
 use mathlib.Core.List.{List, [], _∷_}
-use native.Mathlib.Nat.{add-zero}
 use native.Mathlib.Omega.{arith}
-use borrow.Author.Tests.{eqb-true, eqb-false, ltb-true, ltb-false}
-use lib.Dec.{eqb, ltb, lit≤}
-use lib.ListN.{length}
+use borrow.Author.Tests.{ltb-true}
+use lib.Dec.{eqb, ltb, lit≤, lit<}
+use lib.ListN.{getD, set, replicate}
 use lib.Ieee.{Float}
 use Rattle.floats.specs.Scalar.{isFinite}
 use Rattle.floats.specs.declared.pose.Pose.{Pose}
 use Rattle.rows.specs.declared.joint_velocity_constraint.SolverVel.{SolverVel}
 use Rattle.rows.specs.declared.joint_velocity_constraint.WritebackId.{WritebackId}
 use Rattle.rows.specs.declared.joint_velocity_constraint.WritebackId.the-variants.{Dof, Limit, Motor}
-use Rattle.model.specs.Layout.{bodyWidth, velocityPlace, numbersWidth, centerPlace}
-use Rattle.model.specs.Records.{num, puts}
-use Rattle.model.specs.Store.{world, putVel, putPose, putSeed, seedIndex, axisOf, centerAt}
-use Rattle.multibody.specs.Rules.{all}
-use Rattle.model.specs.Refusals.{finitePose, finiteBody, finiteJoint, centerFits}
-use Rattle.multibody.proofs.Strided.{num-beside}
-use Rattle.multibody.proofs.RunLaws.{SameRun, finite-same, nan-same, motor-same, front-same, clear, clear-apart, EachFinite, placed-finite}
-use Rattle.multibody.proofs.Tests.{by-cases}
-use Rattle.multibody.proofs.RuleLaws.{both, all-below}
-use Rattle.model.proofs.StoreLaws.{num-putSeed-kept, num-putSeed-other, putSeed-past}
+use Rattle.multibody.specs.Rules.{rule, all}
+use Rattle.multibody.specs.Finite.{passes}
+use Rattle.multibody.specs.Finite.Asks.{free}
+use Rattle.model.specs.Layout.{bodyWidth, posePlace, velocityPlace, numbersWidth, centerPlace, targetPlace}
+use Rattle.model.specs.Records.{puts}
+use Rattle.model.specs.Store.{world, solverPoseAt, putVel, putPose, putSeed, putTarget, seedIndex, axisOf, centerAt}
+use Rattle.model.specs.Refusals.{bodyAsks, jointAsks, finitePose, centerFits}
+use Rattle.model.specs.Planar.{planar}
+use Rattle.multibody.proofs.RuleLaws.{both, all-below, all-cong}
+use Rattle.multibody.proofs.AskLaws.{isFree, finite-passes, free-passes, front-finite}
+use Rattle.multibody.proofs.Footprints.{SameBut, Free, Passing, same-self, set-same, puts-same, kept}
+use Rattle.model.proofs.StoreLaws.{seed-index-below, solverPoseAt-cong}
 
--- ---- bodies: all but velocities
+-- ---- bodies
 
-pub putVel-kept : (b : List Float) (i : ℕ) (v : SolverVel) (i′ c : ℕ) → c < velocityPlace → num bodyWidth (putVel b i v) i′ c ≡ num bodyWidth b i′ c
+pub putVel-same : (b : List Float) (i : ℕ) (v : SolverVel) → SameBut bodyWidth (Free bodyAsks) b (putVel b i v)
 unfolding putVel
-putVel-kept b i v i′ c h = go (eqb i world)
+putVel-same b i v = go (eqb i world)
   where
-    go : (t : Bool) → num bodyWidth (cond t b (puts b (i * bodyWidth) velocityPlace (v .linear .x ∷ v .linear .y ∷ v .angular ∷ []))) i′ c ≡ num bodyWidth b i′ c
-    go true = refl
-    go false = num-beside bodyWidth b (v .linear .x ∷ v .linear .y ∷ v .angular ∷ []) i i′ velocityPlace c (lit≤ tt) (omega arith) (inl h)
+    go : (t : Bool) → SameBut bodyWidth (Free bodyAsks) b (cond t b (puts b (i * bodyWidth) velocityPlace (v .linear .x ∷ v .linear .y ∷ v .angular ∷ [])))
+    go true = same-self b
+    go false = puts-same (v .linear .x ∷ v .linear .y ∷ v .angular ∷ []) b i velocityPlace (lit≤ tt) (refl, (refl, (refl, tt)))
 
--- ---- joints: all but stored impulses
+pub solverPoseAt-same : {b b′ : List Float} → SameBut bodyWidth (Free bodyAsks) b b′ → (i : ℕ) → solverPoseAt b′ i ≡ solverPoseAt b i
+solverPoseAt-same {b} {b′} s i =
+    solverPoseAt-cong b b′ i (λ c h. kept s i c (omega arith) (λ f. false≢true (sym (ap isFree (front-finite velocityPlace (replicate 3 free) c h)) ∙ f)))
 
--- number c of a joint is no stored impulse
-abbrev Fixed : ℕ → Type 0
-Fixed c = (id : WritebackId) → axisOf id < 3 → c ≢ seedIndex id
+-- rule 6 holds of bodies once a pose is placed of which it holds
+pub putPose-same : (b : List Float) (i : ℕ) (p : Pose) → planar .finitePose p ≡ true → SameBut bodyWidth (Passing bodyAsks) b (putPose b i p)
+unfolding putPose finitePose passes
+putPose-same b i p f =
+    let re = both (isFinite (p .rotation .re)) (isFinite (p .rotation .im) && (isFinite (p .translation .x) && isFinite (p .translation .y))) f in
+    let im = both (isFinite (p .rotation .im)) (isFinite (p .translation .x) && isFinite (p .translation .y)) (re .1) in
+    let xy = both (isFinite (p .translation .x)) (isFinite (p .translation .y)) (im .1) in
+    puts-same (p .rotation .re ∷ p .rotation .im ∷ p .translation .x ∷ p .translation .y ∷ []) b i posePlace (lit≤ tt) (re .0, (im .0, (xy .0, (xy .1, tt))))
 
-putSeed-kept : (s : List Float) (j : ℕ) (id : WritebackId) (p : Float) (j′ c : ℕ) → c < numbersWidth → Fixed c → num numbersWidth (putSeed s j id p) j′ c ≡ num numbersWidth s j′ c
-putSeed-kept s j id p j′ c h f = by-cases (eqb j′ j)
-    (λ t. by-cases (ltb (axisOf id) 3)
-    (λ l. rw (eqb-true j′ j t) (num-putSeed-kept s j id p c (f id (ltb-true (axisOf id) 3 l))))
-    (λ l. rw (putSeed-past s j id p (ltb-false (axisOf id) 3 l))))
-    (λ t. num-putSeed-other s j j′ id p c (eqb-false j′ j t) h)
+-- ---- joints
 
--- no id's is among the n numbers from number a on
-abbrev seedless : ℕ → ℕ → Bool
-seedless a n = all 0 3 (λ i. clear seedIndex a n (Dof i) && (clear seedIndex a n (Limit i) && clear seedIndex a n (Motor i)))
+-- what calls may store: before the centre, a number that passes however the centre is typed
+abbrev pub Stored : ℕ → Float → Type 0
+Stored c x = (c < centerPlace) × ((choice : ℕ) → Passing (jointAsks choice) c x)
 
-module _ (a n : ℕ) (free : seedless a n ≡ true) where
-  at-axis : (i : ℕ) → i < 3 → (clear seedIndex a n (Dof i) ≡ true) × (clear seedIndex a n (Limit i) ≡ true) × (clear seedIndex a n (Motor i) ≡ true)
-  at-axis i h =
-      let d = both (clear seedIndex a n (Dof i)) (clear seedIndex a n (Limit i) && clear seedIndex a n (Motor i)) (all-below _ 3 free i h) in
-      let l = both (clear seedIndex a n (Limit i)) (clear seedIndex a n (Motor i)) (d .1) in
-      (d .0, l .0, l .1)
+seed-free : (choice : ℕ) (id : WritebackId) → axisOf id < 3 → isFree (getD (jointAsks choice) (seedIndex id) free) ≡ true
+unfolding all
+seed-free choice (Dof i) h = all-below (λ i. isFree (getD (jointAsks choice) (seedIndex (Dof i)) free)) 3 refl i h
+seed-free choice (Limit i) h = all-below (λ i. isFree (getD (jointAsks choice) (seedIndex (Limit i)) free)) 3 refl i h
+seed-free choice (Motor i) h = all-below (λ i. isFree (getD (jointAsks choice) (seedIndex (Motor i)) free)) 3 refl i h
 
-  cleared : (id : WritebackId) → axisOf id < 3 → clear seedIndex a n id ≡ true
-  cleared (Dof i) h = at-axis i h .0
-  cleared (Limit i) h = at-axis i h .1
-  cleared (Motor i) h = at-axis i h .2
+seed-before : (id : WritebackId) → axisOf id < 3 → seedIndex id < centerPlace
+seed-before (Dof i) h = omega arith
+seed-before (Limit i) h = omega arith
+seed-before (Motor i) h = omega arith
 
-  fixed : (c : ℕ) → a ≤ c → c < a + n → Fixed c
-  fixed c l u id h = clear-apart seedIndex a n id (cleared id h) c l u
+pub putSeed-same : (n : List Float) (j : ℕ) (id : WritebackId) (p : Float) → SameBut numbersWidth Stored n (putSeed n j id p)
+unfolding putSeed
+putSeed-same n j id p = go (ltb (axisOf id) 3) refl
+  where
+    go : (t : Bool) → ltb (axisOf id) 3 ≡ t → SameBut numbersWidth Stored n (cond t (set n (j * numbersWidth + seedIndex id) p) n)
+    go true e =
+        let h = ltb-true (axisOf id) 3 e in
+        set-same n j (seedIndex id) p (seed-index-below id h) (seed-before id h, λ choice. free-passes _ p (seed-free choice id h))
+    go false e = same-self n
 
-module _ (s : List Float) (i : ℕ) (id : WritebackId) (p : Float) (j : ℕ) where
-  abbrev s′ : List Float
-  s′ = putSeed s i id p
+pub putTarget-same : (n : List Float) (j i : ℕ) (v : Float) → i < 3 → isFinite v ≡ true → SameBut numbersWidth Stored n (putTarget n j i v)
+unfolding putTarget
+putTarget-same n j i v h f = set-same n j (targetPlace i) v (omega arith) (omega arith, λ choice. finite-passes _ v f)
 
-  run : (a n : ℕ) → a + n ≤ numbersWidth → seedless a n ≡ true → SameRun numbersWidth s s′ j a n
-  run a n l free c g h = putSeed-kept s i id p j c (omega arith) (fixed a n free c g h)
-
-  center-number : (c : ℕ) → centerPlace ≤ c → c < numbersWidth → num numbersWidth s′ j c ≡ num numbersWidth s j c
-  unfolding all
-  center-number c l h = putSeed-kept s i id p j c h (fixed centerPlace 2 refl c l h)
-
-  center-kept : (words : List ℕ) → centerAt words s′ j ≡ centerAt words s j
+module _ {n n′ : List Float} (s : SameBut numbersWidth Stored n n′) (words : List ℕ) where
+  center-same : (j : ℕ) → centerAt words n′ j ≡ centerAt words n j
   unfolding centerAt
-  center-kept words = rw (center-number 40 (lit≤ tt) (lit≤ tt), center-number 41 (lit≤ tt) (lit≤ tt))
+  center-same j = rw (kept s j 40 (lit< tt) (λ m. omega (arith, m .0)), kept s j 41 (lit< tt) (λ m. omega (arith, m .0)))
 
-  pub centerFits-kept : (words : List ℕ) → centerFits words s′ j ≡ centerFits words s j
+  pub contentRules-same : (joints : ℕ) → planar .contentRules words n′ joints ≡ planar .contentRules words n joints
   unfolding centerFits
-  centerFits-kept words = rw (center-kept words)
-
-  pub finiteJoint-kept : (words : List ℕ) → finiteJoint words s′ j ≡ finiteJoint words s j
-  unfolding finiteJoint all
-  finiteJoint-kept words =
-      cc (
-        rw add-zero at (finite-same numbersWidth s s′ j 0 8 (run 0 8 (lit≤ tt) refl)),
-        nan-same numbersWidth s s′ j 8 2 (run 8 2 (lit≤ tt) refl),
-        nan-same numbersWidth s s′ j 11 2 (run 11 2 (lit≤ tt) refl),
-        nan-same numbersWidth s s′ j 14 2 (run 14 2 (lit≤ tt) refl),
-        motor-same numbersWidth s s′ j 17 (run 17 4 (lit≤ tt) refl) (run 21 1 (lit≤ tt) refl),
-        motor-same numbersWidth s s′ j 23 (run 23 4 (lit≤ tt) refl) (run 27 1 (lit≤ tt) refl),
-        motor-same numbersWidth s s′ j 29 (run 29 4 (lit≤ tt) refl) (run 33 1 (lit≤ tt) refl),
-        finite-same numbersWidth s s′ j 35 2 (run 35 2 (lit≤ tt) refl),
-        center-kept words,
-      )
-
--- ---- bodies: a pose that is placed
-
-pub finiteBody-kept : (b b′ : List Float) (i : ℕ) → ((c : ℕ) → c < velocityPlace → num bodyWidth b′ i c ≡ num bodyWidth b i c) → finiteBody b′ i ≡ finiteBody b i
-unfolding finiteBody
-finiteBody-kept b b′ i same = front-same bodyWidth b b′ i velocityPlace same
-
-abbrev poseNumbers : Pose → List Float
-poseNumbers p = p .rotation .re ∷ p .rotation .im ∷ p .translation .x ∷ p .translation .y ∷ []
-
-module _ (p : Pose) (f : finitePose p ≡ true) where
-  pose-finite : EachFinite (poseNumbers p)
-  unfolding finitePose
-  pose-finite =
-      let re = both (isFinite (p .rotation .re)) (isFinite (p .rotation .im) && (isFinite (p .translation .x) && isFinite (p .translation .y))) f in
-      let im = both (isFinite (p .rotation .im)) (isFinite (p .translation .x) && isFinite (p .translation .y)) (re .1) in
-      let xy = both (isFinite (p .translation .x)) (isFinite (p .translation .y)) (im .1) in
-      (re .0, (im .0, (xy .0, (xy .1, tt))))
-
-  -- finite bodies stay finite
-  pub place-finite : (b : List Float) (i : ℕ) → i * bodyWidth + bodyWidth ≤ length b → (i′ : ℕ) → finiteBody b i ≡ true → finiteBody b i′ ≡ true → finiteBody (putPose b i p) i′ ≡ true
-  unfolding putPose finiteBody
-  place-finite b i room i′ was was′ = placed-finite bodyWidth b (poseNumbers p) i velocityPlace (lit≤ tt) (lit≤ tt) room pose-finite was i′ was′
+  contentRules-same joints = ap (λ t. rule 12 t ∷ []) (all-cong (centerFits words n′) (centerFits words n) 0 joints (λ j _ _. rw (center-same j)))

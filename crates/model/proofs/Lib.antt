@@ -6,8 +6,9 @@ pub mod ReactionsLaws
 pub mod CallLaws
 pub mod SweepDrift
 pub mod SweepCase
-pub mod MotorTargetLaws
+pub mod Tried
 pub mod Keeps
+pub mod MotorTargetLaws
 pub mod FirstRows
 pub mod NewMasks
 pub mod PlanarRules

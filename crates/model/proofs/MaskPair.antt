@@ -18,7 +18,8 @@ use Rattle.rows.specs.declared.joint_velocity_constraint.WritebackId.{Writeback
 use Rattle.multibody.specs.Rules.{refusal, all}
 use Rattle.multibody.specs.JointRows.{jointIds, rowCount, rowMasksAt}
 use Rattle.multibody.specs.Counts.{bodyCount, jointCount, rowCapacity, rowsBefore, Room}
-use Rattle.multibody.specs.Refusals.{presentOrWorld, bodiesPresent, bodiesApart, finiteParams, modelRulesWith, storageRule, jointRule}
+use Rattle.multibody.specs.Finite.{passes, passesFrom}
+use Rattle.multibody.specs.Refusals.{presentOrWorld, bodiesPresent, bodiesApart, finiteParams, finiteBody, finiteJoint, modelRulesWith, storageRule, jointRule}
 use Rattle.multibody.specs.Calls.{rulesOf}
 use Rattle.multibody.specs.Calls.Call.{setMasks}
 use Rattle.multibody.specs.Traces.{AtEach, AtSome}
@@ -26,7 +27,7 @@ use Rattle.multibody.specs.Studies.{Enough, Agree, GrantedAlike, Names, Compare
 use Rattle.multibody.proofs.RefusedExactly.{told}
 use Rattle.multibody.proofs.Premises.{Turn, recorded, recorded-returns}
 use Rattle.model.specs.Store.{putMasks, masksAt, body1At, body2At, enabledAt, centerAt}
-use Rattle.model.specs.Refusals.{masksFit, newMasksFit, finiteFrom, noNanFrom, finiteBody, finiteMotor, finiteCenter, finiteJoint, angleFits, centerFits}
+use Rattle.model.specs.Refusals.{masksFit, newMasksFit, angleFits, centerFits}
 use Rattle.model.specs.Planar.{plane, planar}
 use Rattle.model.specs.Studies.{planarCalls}
 use Rattle.model.proofs.PlanarLaws.{planar-laws, planar-two-studies}
@@ -46,7 +47,7 @@ five = replicate 90 o
 -- what the call's rules come to: one axis in storage of six rows, three axes in storage of five
 comes : ((refusal (rulesOf planar (setMasks 0 (locks 1)) m storage) ≡ 0) × (refusal (rulesOf planar (setMasks 0 (locks 1)) m′ storage) ≡ 0))
     × ((refusal (rulesOf planar (setMasks 0 (locks 7)) m five) ≡ 8) × (refusal (rulesOf planar (setMasks 0 (locks 7)) m′ five) ≡ 0))
-unfolding rulesOf refusal all modelRulesWith storageRule jointRule newMasksFit putMasks masksFit presentOrWorld bodiesPresent bodiesApart finiteFrom noNanFrom finiteParams finiteBody finiteMotor finiteCenter finiteJoint angleFits centerFits centerAt angleTooLarge absOf isFinite isNan lt ofBits bodyCount jointCount rowCapacity rowsBefore rowCount jointIds rowMasksAt enabledAt masksAt body1At body2At hasAxis rowIds
+unfolding rulesOf refusal all modelRulesWith storageRule jointRule newMasksFit putMasks masksFit presentOrWorld bodiesPresent bodiesApart passes passesFrom finiteParams finiteBody finiteJoint angleFits centerFits centerAt angleTooLarge absOf isFinite isNan lt ofBits bodyCount jointCount rowCapacity rowsBefore rowCount jointIds rowMasksAt enabledAt masksAt body1At body2At hasAxis rowIds
 comes = ((refl, refl), (refl, refl))
 
 -- granted in both

@@ -1,97 +1,57 @@
--- The records of a motor table set in joints' numbers. The numbers stay as many, and each is as it was or finite (`records-steady`); a joint that passes rules 6
--- and 12 still passes them. A later record for the same axis wins (`last-wins`). Two joints with equal contents, unnamed numbers aside, still have them after the same records (`records-named`): a target on an axis whose
+-- The records of a motor table set in joints' numbers. Each number stays as it was, or is one that may be stored (`table-same`). A later record for the same axis wins (`last-wins`). Two joints with equal contents, unnamed numbers aside, still have them after the same records (`records-named`): a target on an axis whose
 -- motor is not named may be set or not.
 use Prim.Native.Nat.{ℕ, zero, suc, _+_, _*_, _-_, _≤_, _<_}
-use mathlib.Core.Path.{_≡_, refl, sym, ap, _∙_}
-use mathlib.Core.Logic.{_≢_, _⊎_, inl, inr, ⊎-elim}
-use mathlib.Core.Bool.{Bool, true, false, not, cond, _&&_}
+use mathlib.Core.Path.{_≡_, refl, sym, ap, _∙_, subst}
+use mathlib.Core.Logic.{_≢_, _⊎_, inl, inr}
+use mathlib.Core.Bool.{cond}
 use mathlib.Core.List.{List, [], _∷_, _++_}
-use native.Mathlib.Nat.{add-zero, add-assoc}
 use native.Mathlib.Omega.{arith}
 use borrow.Author.Tests.{eqb-true, eqb-false}
-use lib.Dec.{eqb, lit≤}
-use lib.ListN.{length, getD, drop}
-use lib.Ieee.{Float, nan, isNan}
-use Rattle.floats.specs.Scalar.{isFinite}
-use Rattle.floats.proofs.ScalarLaws.{not-nan}
+use lib.Dec.{eqb}
+use lib.ListN.{length, drop}
+use lib.Ieee.{Float}
 use Rattle.motor_table.specs.Records.{readAt}
-use Rattle.motor_table.specs.Tables.{Table, after, readFrom, tableAnswer}
+use Rattle.motor_table.specs.Tables.{Table, after, mostRecords, readFrom, readTable, tableAnswer, tableRefusal}
 use Rattle.motor_table.specs.Tables.Table.{granted, refused}
 use Rattle.motor_table.specs.Targets.{targetOf}
 use Rattle.motor_table.specs.declared.record.Entry.{Entry}
 use Rattle.motor_table.specs.declared.record.RecordRead.{RecordRead}
 use Rattle.motor_table.specs.declared.table.TableAnswer.{TableAnswer}
-use Rattle.motor_table.proofs.GrantedLaws.{Fits, AllFit, present-parts, is-there, granted-after, granted-count, refused-never, next-record, next-answer}
+use Rattle.motor_table.proofs.GrantedLaws.{AllFit, Granted, granted-fit, present-parts, is-there, granted-after, granted-count, refused-never, next-record, next-answer}
 use Rattle.motor_table.proofs.TargetLaws.{target-finite}
 use Rattle.rows.specs.GenericJoint.{motorAt}
 use Rattle.rows.specs.Named.{SameNamed}
 use Rattle.rows.specs.declared.generic_joint.JointMotor.{JointMotor}
 use Rattle.rows.specs.declared.joint_velocity_constraint.WritebackId.{WritebackId}
 use Rattle.rows.specs.declared.joint_velocity_constraint.WritebackId.the-variants.{Motor}
-use Rattle.model.specs.Layout.{wordsWidth, numbersWidth, centerPlace, targetPlace}
+use Rattle.model.specs.Layout.{wordsWidth, numbersWidth, targetPlace}
 use Rattle.model.specs.Records.{num, word}
-use Rattle.model.specs.Store.{putTarget, jointAt, jointOf, dataOf, centerAt}
-use Rattle.model.specs.Refusals.{finiteFrom, noNanFrom, finiteMotor, finiteJoint, centerFits}
-use Rattle.multibody.specs.Rules.{all}
+use Rattle.model.specs.Store.{putTarget, jointAt, jointOf, dataOf}
 use Rattle.model.specs.MotorTargets.{setRecord, setRecords, setTable}
 use Rattle.multibody.proofs.Tests.{by-cases}
-use Rattle.multibody.proofs.RuleLaws.{both, all-at, all-intro}
+use Rattle.multibody.proofs.Footprints.{SameBut, same-self, same-then}
+use Rattle.model.proofs.Keeps.{Stored, putTarget-same}
 use Rattle.model.proofs.StoreLaws.{length-putTarget, num-putTarget, num-putTarget-kept, num-putTarget-other, jointAt-putTarget, jointAt-putTarget-other}
 
 -- ---- numbers
 
--- storages of joints' numbers of one length, where each number is as it was or finite, and the centres are as they were
-pub record Steady (s s′ : List Float) : Type 0 where
-  pub size : length s′ ≡ length s
-  pub numbers : (j c : ℕ) → c < numbersWidth → (num numbersWidth s′ j c ≡ num numbersWidth s j c) ⊎ (isFinite (num numbersWidth s′ j c) ≡ true)
-  pub centers : (j c : ℕ) → centerPlace ≤ c → c < numbersWidth → num numbersWidth s′ j c ≡ num numbersWidth s j c
-
-steady-same : (s : List Float) → Steady s s
-steady-same s = record { size = refl; numbers = λ j c h. inl refl; centers = λ j c l h. refl }
-
-steady-then : (a b c : List Float) → Steady a b → Steady b c → Steady a c
-steady-then a b c s t = record {
-  size = t .size ∙ s .size;
-  numbers = λ j k h.
-      ⊎-elim
-      (λ (e : num numbersWidth c j k ≡ num numbersWidth b j k).
-      ⊎-elim (λ (d : num numbersWidth b j k ≡ num numbersWidth a j k). inl (e ∙ d)) (λ (f : isFinite (num numbersWidth b j k) ≡ true). inr (ap isFinite e ∙ f)) (s .numbers j k h))
-      (λ (f : isFinite (num numbersWidth c j k) ≡ true). inr f) (t .numbers j k h);
-  centers = λ j k l h. t .centers j k l h ∙ s .centers j k l h;
-}
-
-target-steady : (s : List Float) (j i : ℕ) (v : Float) → i < 3 → isFinite v ≡ true → j * numbersWidth + numbersWidth ≤ length s → Steady s (putTarget s j i v)
-target-steady s j i v h f room = record {
-  size = length-putTarget s j i v;
-  numbers = λ j′ c l. by-cases (eqb j′ j)
-      (λ t. by-cases (eqb c (targetPlace i))
-      (λ e. inr (rw (eqb-true j′ j t, eqb-true c (targetPlace i) e) (ap isFinite (num-putTarget s j i v h room) ∙ f)))
-      (λ e. inl (rw (eqb-true j′ j t) (num-putTarget-kept s j i v c (eqb-false c (targetPlace i) e)))))
-      (λ t. inl (num-putTarget-other s j i v j′ c h (eqb-false j′ j t) l));
-  centers = λ j′ c g l. by-cases (eqb j′ j)
-      (λ t. rw (eqb-true j′ j t) (num-putTarget-kept s j i v c (λ e. omega arith)))
-      (λ t. num-putTarget-other s j i v j′ c h (eqb-false j′ j t) l);
-}
-
-pub records-steady : (joints : ℕ) (es : List Entry) (s : List Float) → AllFit joints es → joints * numbersWidth ≤ length s → Steady s (setRecords s es)
+records-same : (joints : ℕ) (es : List Entry) (s : List Float) → AllFit joints es → SameBut numbersWidth Stored s (setRecords s es)
 unfolding setRecords
-records-steady joints [] s a room = steady-same s
-records-steady joints (e ∷ es) s a room =
-    let f = a .0 in
-    let v = targetOf (e .thousandths) in
-    let one = target-steady s (e .joint .size) (e .axis .size) v (f .axis) (target-finite (e .thousandths) (f .thousandths)) (omega (arith, f .joint, room)) in
-    steady-then s (setRecord s e) (setRecords (setRecord s e) es) one (records-steady joints es (setRecord s e) (a .1) (rw (one .size) room))
+records-same joints [] s a = same-self s
+records-same joints (e ∷ es) s a =
+    same-then (putTarget-same s (e .joint .size) (e .axis .size) (targetOf (e .thousandths)) (a .0 .axis) (target-finite (e .thousandths) (a .0 .thousandths)))
+    (records-same joints es (setRecord s e) (a .1))
 
--- a table keeps the numbers' length, granted or not
-records-size : (es : List Entry) (s : List Float) → length (setRecords s es) ≡ length s
-unfolding setRecords
-records-size [] s = refl
-records-size (e ∷ es) s = records-size es (setRecord s e) ∙ length-putTarget s (e .joint .size) (e .axis .size) (targetOf (e .thousandths))
+-- a table stores what may be stored, and one that is refused nothing
+granted-same : (joints : ℕ) (s : List Float) (t : Table) → (tableRefusal t ≡ 0 → Granted joints t) → SameBut numbersWidth Stored s (setTable s t)
+unfolding setTable tableRefusal
+granted-same joints s (granted es) g =
+    let r = g refl in
+    subst (λ t. SameBut numbersWidth Stored s (setTable s t)) (sym (r .holds)) (records-same joints (r .records) s (r .fit))
+granted-same joints s (refused k) g = same-self s
 
-pub table-size : (s : List Float) (t : Table) → length (setTable s t) ≡ length s
-unfolding setTable
-table-size s (granted es) = records-size es s
-table-size s (refused k) = refl
+pub table-same : (joints : ℕ) (bytes : List ℕ) (s : List Float) → SameBut numbersWidth Stored s (setTable s (readTable joints bytes))
+table-same joints bytes s = granted-same joints s (readTable joints bytes) (granted-fit joints mostRecords bytes)
 
 -- ---- a walk over the bytes of a table that is granted
 
@@ -159,56 +119,6 @@ last-wins joints [] e rs s a p room =
     ∙ num-putTarget s (e .joint .size) (e .axis .size) (targetOf (e .thousandths)) (f .axis) (omega (arith, f .joint, room))
 last-wins joints (d ∷ es) e rs s a p room =
     last-wins joints es e rs (setRecord s d) (a .1) p (rw (length-putTarget s (d .joint .size) (d .axis .size) (targetOf (d .thousandths))) room)
-
--- ---- rules 6 and 12
-
-and-still : (a b a′ b′ : Bool) → (a ≡ true → a′ ≡ true) → (b ≡ true → b′ ≡ true) → (a && b) ≡ true → (a′ && b′) ≡ true
-and-still a b a′ b′ f g h = let p = both a b h in rw (f (p .0), g (p .1))
-
-module _ (s s′ : List Float) (same : Steady s s′) (j : ℕ) where
-  -- a test that finite numbers pass, of n numbers from number a on
-  still : (f : Float → Bool) → ((x : Float) → isFinite x ≡ true → f x ≡ true) → (a n : ℕ) → a + n ≤ numbersWidth
-      → all (j * numbersWidth + a) n (λ p. f (getD s p nan)) ≡ true → all (j * numbersWidth + a) n (λ p. f (getD s′ p nan)) ≡ true
-  still f pass a n l h =
-      all-intro _ (j * numbersWidth + a) n
-      (λ k g u.
-      let c = k - j * numbersWidth in
-      let e : j * numbersWidth + c ≡ k = omega arith in
-      let was : f (num numbersWidth s j c) ≡ true = rw e (all-at _ (j * numbersWidth + a) n h k g u) in
-      let now : f (num numbersWidth s′ j c) ≡ true =
-      ⊎-elim (λ (q : num numbersWidth s′ j c ≡ num numbersWidth s j c). ap f q ∙ was) (λ (q : isFinite (num numbersWidth s′ j c) ≡ true). pass (num numbersWidth s′ j c) q)
-      (same .numbers j c (omega arith)) in
-      rw e at now)
-
-  finite-still : (a n : ℕ) → a + n ≤ numbersWidth → finiteFrom s (j * numbersWidth + a) n ≡ true → finiteFrom s′ (j * numbersWidth + a) n ≡ true
-  unfolding finiteFrom
-  finite-still a n l h = still isFinite (λ x e. e) a n l h
-
-  nan-still : (a n : ℕ) → a + n ≤ numbersWidth → noNanFrom s (j * numbersWidth + a) n ≡ true → noNanFrom s′ (j * numbersWidth + a) n ≡ true
-  unfolding noNanFrom
-  nan-still a n l h = still (λ x. not (isNan x)) not-nan a n l h
-
-  motor-still : (a : ℕ) → a + 5 ≤ numbersWidth → finiteMotor s (j * numbersWidth + a) ≡ true → finiteMotor s′ (j * numbersWidth + a) ≡ true
-  unfolding finiteMotor
-  motor-still a l =
-      and-still (finiteFrom s (j * numbersWidth + a) 4) (noNanFrom s (j * numbersWidth + a + 4) 1) (finiteFrom s′ (j * numbersWidth + a) 4) (noNanFrom s′ (j * numbersWidth + a + 4) 1)
-      (finite-still a 4 (omega arith)) (rw (add-assoc (j * numbersWidth) a 4) (nan-still (a + 4) 1 (omega arith)))
-
-  center-same : (words : List ℕ) → centerAt words s′ j ≡ centerAt words s j
-  unfolding centerAt
-  center-same words = rw (same .centers j 40 (lit≤ tt) (lit≤ tt), same .centers j 41 (lit≤ tt) (lit≤ tt))
-
-  pub centerFits-steady : (words : List ℕ) → centerFits words s′ j ≡ centerFits words s j
-  unfolding centerFits
-  centerFits-steady words = rw (center-same words)
-
-  pub finiteJoint-steady : (words : List ℕ) → finiteJoint words s j ≡ true → finiteJoint words s′ j ≡ true
-  unfolding finiteJoint
-  finiteJoint-steady words =
-      and-still _ _ _ _ (rw add-zero at (finite-still 0 8 (lit≤ tt)))
-      (and-still _ _ _ _ (and-still _ _ _ _ (nan-still 8 2 (lit≤ tt)) (and-still _ _ _ _ (nan-still 11 2 (lit≤ tt)) (nan-still 14 2 (lit≤ tt))))
-      (and-still _ _ _ _ (and-still _ _ _ _ (motor-still 17 (lit≤ tt)) (and-still _ _ _ _ (motor-still 23 (lit≤ tt)) (motor-still 29 (lit≤ tt))))
-      (and-still _ _ _ _ (finite-still 35 2 (lit≤ tt)) (λ h. rw (center-same words) h))))
 
 -- ---- two joints
 

@@ -21,7 +21,7 @@ use Rattle.multibody.proofs.Laws.{Reworded, SameJoint}
 use Rattle.model.specs.Layout.{wordsWidth, masksPlace}
 use Rattle.model.specs.Records.{word}
 use Rattle.model.specs.Store.{putMasks, jointAt, centerAt, masksAt, enabledAt, body1At, body2At}
-use Rattle.model.specs.Refusals.{allAxes, masksFit, newMasksFit, finiteJoint, centerFits}
+use Rattle.model.specs.Refusals.{allAxes, masksFit, newMasksFit, jointAsks, centerFits}
 use Rattle.model.specs.Planar.{plane, planar}
 use Rattle.multibody.proofs.Tests.{by-cases}
 
@@ -81,16 +81,15 @@ module _ (w : List ℕ) (j : ℕ) (ms : Masks) where
   unfolding enabledAt
   put-enabled i = rw (put-kept i 9 (omega arith) (inr (omega arith)))
 
-  put-finite : (n : List Float) (i : ℕ) → finiteJoint (putMasks w j ms) n i ≡ finiteJoint w n i
-  unfolding finiteJoint
-  put-finite n i = rw (put-center n i)
+  put-asks : (i : ℕ) → planar .jointAsks (putMasks w j ms) i ≡ planar .jointAsks w i
+  put-asks i = ap jointAsks (put-kept i 10 (omega arith) (inr (omega arith)))
 
   put-contents : (n : List Float) (joints : ℕ) → planar .contentRules (putMasks w j ms) n joints ≡ planar .contentRules w n joints
   unfolding centerFits
   put-contents n joints = ap (λ t. rule 12 t ∷ []) (all-cong _ _ 0 joints (λ i _ _. rw (put-center n i)))
 
   pub put-reworded : Reworded planar w (putMasks w j ms)
-  put-reworded = record { size = put-size; body1 = put-body1; body2 = put-body2; enabled = put-enabled; finite = put-finite; contents = put-contents }
+  put-reworded = record { size = put-size; body1 = put-body1; body2 = put-body2; enabled = put-enabled; asks = put-asks; contents = put-contents }
 
   -- ---- other joints
 

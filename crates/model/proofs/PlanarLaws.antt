@@ -1,12 +1,12 @@
 -- The planar model has the laws of a multibody system (`planar-laws`), and so demand 3 (`planar-two-studies`).
-use Prim.Native.Nat.{ℕ, zero, suc, _+_, _*_, _/_, _≤_, _<_}
+use Prim.Native.Nat.{ℕ, zero, suc, _*_, _<_}
 use mathlib.Core.Path.{_≡_, refl, sym, ap, _∙_}
-use mathlib.Core.Bool.{Bool, true, false, cond}
-use mathlib.Core.List.{List, [], _∷_}
+use mathlib.Core.Bool.{Bool, true, false}
+use mathlib.Core.List.{List}
 use native.Mathlib.Nat.{add-zero}
 use native.Mathlib.Omega.{arith}
 use borrow.Author.Tests.{lt-ltb}
-use lib.Dec.{ltb, lit≤, lit<}
+use lib.Dec.{lit≤, lit<}
 use lib.ListN.{length, getD, drop}
 use lib.Ieee.{Float, nan}
 use Rattle.floats.specs.declared.pose.Pose.{Pose}
@@ -22,34 +22,33 @@ use Rattle.rows.specs.declared.joint_velocity_constraint.WritebackId.{Writeback
 use Rattle.rows.proofs.BuilderLaws.{first-reads-no-row, cold}
 use Rattle.rows.proofs.NamedRows as Rows
 use Rattle.rows.proofs.RowArrays.{length-builderUpdateOf}
-use Rattle.rows.proofs.RowIdsLaws.{no-ids}
 use Rattle.rows.proofs.RowIdsCount.{at-most-six}
 use Rattle.rows.proofs.WritebackNamed.{Axes, named-written, fewer-named, named-seeds}
-use Rattle.motor_table.specs.Tables.{mostRecords, tableRefusal, readTable}
-use Rattle.motor_table.proofs.GrantedLaws.{Granted, granted-fit, refusal-cases, same-records}
-use Rattle.multibody.specs.Rules.{refusal, rule, all}
+use Rattle.motor_table.specs.Tables.{mostRecords, readTable}
+use Rattle.motor_table.proofs.GrantedLaws.{Granted, granted-fit, same-records}
+use Rattle.multibody.specs.Rules.{refusal}
 use Rattle.multibody.specs.Model.{Model, world}
 use Rattle.multibody.specs.Counts as Any
 use Rattle.multibody.specs.Refusals.{readsRows}
 use Rattle.multibody.specs.Studies.{TwoStudies}
-use Rattle.multibody.proofs.RuleLaws.{Numbered, all-cong}
+use Rattle.multibody.proofs.RuleLaws.{Numbered}
 use Rattle.multibody.proofs.Strided.{record-past}
 use Rattle.multibody.proofs.Laws.{SameJoint, Given, BodyRoom, JointRoom, Laws}
 use Rattle.multibody.proofs.CountLaws as AnyCounts
 use Rattle.multibody.proofs.TwoStudies as AnyStudies
-use Rattle.model.specs.Layout.{rowWidth}
+use Rattle.model.specs.Layout.{rowWidth, wordsWidth, centerChoicePlace}
+use Rattle.model.specs.Records.{word}
 use Rattle.model.specs.Store.{rowAt, putRow, rowNumbers, jointAt, masksAt, enabledAt, putSeed, solverPoseAt, putPose}
-use Rattle.model.specs.Refusals.{finiteJoint, centerFits}
 use Rattle.model.specs.MotorTargets.{setRecords, setTable}
 use Rattle.model.specs.Planar.{tableRules, plane, planar}
 use Rattle.model.specs.Studies.{planarCalls}
-use Rattle.model.proofs.StoreLaws.{withPose, length-putRow, rowAt-putRow, rowAt-putRow-other, velAt-world, solverPoseAt-world, length-putVel, velAt-putVel, velAt-putVel-other, solverPoseAt-putVel, length-putPose, solverPoseAt-putPose, solverPoseAt-putPose-other, velAt-putPose, length-putSeed, jointAt-putSeed-other}
+use Rattle.model.proofs.StoreLaws.{withPose, length-putRow, rowAt-putRow, rowAt-putRow-other, velAt-world, solverPoseAt-world, velAt-putVel, velAt-putVel-other, length-putPose, solverPoseAt-putPose, solverPoseAt-putPose-other, velAt-putPose, jointAt-putSeed-other}
 use Rattle.model.proofs.PlanarRules.{table-refusal}
 use Rattle.model.proofs.WritebackLaws.{jointAt-putSeed-writeback}
-use Rattle.model.proofs.MotorTargetLaws.{records-steady, finiteJoint-steady, centerFits-steady, table-size, records-named}
+use Rattle.model.proofs.MotorTargetLaws.{table-same, records-named}
 use Rattle.model.proofs.NewMasks.{put-reworded, masksAt-apart, jointAt-apart, named-put, rule-put, unfit-rule}
 use Rattle.model.proofs.FirstRows.{first-reworded, masksAt-first, jointAt-first, maskRules-first}
-use Rattle.model.proofs.Keeps.{putVel-kept, finiteBody-kept, place-finite, finiteJoint-kept, centerFits-kept}
+use Rattle.model.proofs.Keeps.{putVel-same, solverPoseAt-same, putPose-same, Stored, contentRules-same, putSeed-same}
 
 -- ---- joints
 
@@ -121,11 +120,6 @@ pose-placed : (b b′ : List Float) (i : ℕ) (p : Pose) → (i ≡ world → �
 pose-placed b b′ i p ne room room′ e =
     solverPoseAt-putPose b i p ne room ∙ ap (λ (q : SolverPose). withPose q p) e ∙ sym (solverPoseAt-putPose b′ i p ne room′)
 
--- rule 6 holds of bodies once a pose is placed of which it holds
-placed-kept : (b : List Float) (i i′ : ℕ) (p : Pose) → planar .finitePose p ≡ true → BodyRoom plane b i → planar .finiteBody b i ≡ true → planar .finiteBody b i′ ≡ true
-    → planar .finiteBody (putPose b i p) i′ ≡ true
-placed-kept b i i′ p f room was was′ = place-finite p f b i room i′ was was′
-
 -- ---- tables
 
 module _ (bytes : List ℕ) (m : Model) where
@@ -139,20 +133,6 @@ module _ (bytes : List ℕ) (m : Model) where
     table-set : planar .furtherNumbers bytes m ≡ setRecords (m .numbers) (table .records)
     unfolding setTable
     table-set = ap (setTable (m .numbers)) (table .holds)
-
-    finite-set : (j : ℕ) → finiteJoint (m .words) (m .numbers) j ≡ true → finiteJoint (m .words) (planar .furtherNumbers bytes m) j ≡ true
-    finite-set j f =
-        rw table-set
-        (finiteJoint-steady (m .numbers) (setRecords (m .numbers) (table .records))
-        (records-steady joints (table .records) (m .numbers) (table .fit) (AnyCounts.joints-numbers plane (m .words) (m .numbers))) j (m .words) f)
-
-    contents-set : (k : ℕ) → planar .contentRules (m .words) (planar .furtherNumbers bytes m) k ≡ planar .contentRules (m .words) (m .numbers) k
-    contents-set k =
-        rw table-set
-        (ap (λ t. rule 12 t ∷ [])
-        (all-cong (centerFits (m .words) (setRecords (m .numbers) (table .records))) (centerFits (m .words) (m .numbers)) 0 k
-        (λ j _ _. centerFits-steady (m .numbers) (setRecords (m .numbers) (table .records))
-        (records-steady joints (table .records) (m .numbers) (table .fit) (AnyCounts.joints-numbers plane (m .words) (m .numbers))) j (m .words))))
 
 named-set : {named : WritebackId → Type 0} (bytes : List ℕ) (m m′ : Model) → refusal (planar .furtherRules bytes m) ≡ 0 → refusal (planar .furtherRules bytes m′) ≡ 0
     → (j : ℕ) → j < Any.jointCount plane (m .words) (m .numbers) → j < Any.jointCount plane (m′ .words) (m′ .numbers)
@@ -180,6 +160,8 @@ planar-laws = record {
   body-wide = lit< tt;
   words-wide = lit< tt;
   numbers-wide = lit< tt;
+  body-asks = refl;
+  joint-asks = λ words j. refl;
   length-putRow = length-putRow;
   rowAt-putRow = rowAt-putRow;
   rowAt-putRow-other = rowAt-putRow-other;
@@ -187,15 +169,19 @@ planar-laws = record {
   impulse-first = impulse-read;
   velAt-world = λ b b′. velAt-world b ∙ sym (velAt-world b′);
   solverPoseAt-world = λ b b′. solverPoseAt-world b ∙ sym (solverPoseAt-world b′);
-  length-putVel = length-putVel;
+  putVel-same = putVel-same;
+  solverPoseAt-same = solverPoseAt-same;
+  putPose-same = putPose-same;
   velAt-putVel = velAt-putVel;
   velAt-putVel-other = velAt-putVel-other;
-  solverPoseAt-putVel = solverPoseAt-putVel;
   length-putPose = length-putPose;
   solverPoseAt-putPose = pose-placed;
   solverPoseAt-putPose-other = solverPoseAt-putPose-other;
   velAt-putPose = velAt-putPose;
-  length-putSeed = length-putSeed;
+  Stored = Stored;
+  stored-passes = λ words j c x _ s. s .1 (word wordsWidth words j centerChoicePlace);
+  contentRules-same = λ words s. contentRules-same s words;
+  putSeed-same = putSeed-same;
   jointAt-putSeed-other = jointAt-putSeed-other;
   named-putSeed = seed-named;
   same-masks = masks-same;
@@ -212,7 +198,6 @@ planar-laws = record {
   jointAt-putMasks-other = jointAt-apart;
   named-putMasks = named-put;
   maskRules-putMasks = rule-put;
-  no-ids = no-ids 2 1;
   few-ids = λ words j. at-most-six (masksAt words j);
   length-update = update-length;
   reads-no-row = no-row-read;
@@ -220,16 +205,9 @@ planar-laws = record {
   mask-numbered = λ words joints fit. (omega arith, tt);
   own-masks = unfit-rule;
   content-numbered = λ words n joints. (omega arith, tt);
-  finiteBody-putVel = λ b i i′ v. finiteBody-kept b (Rattle.model.specs.Store.putVel b i v) i′ (putVel-kept b i v i′);
-  finiteBody-putPose = placed-kept;
-  finiteJoint-putSeed = λ words n j j′ id p. finiteJoint-kept n j id p j′ words;
-  contentRules-putSeed = λ words n joints j id p.
-      ap (λ t. rule 12 t ∷ []) (all-cong (centerFits words (putSeed n j id p)) (centerFits words n) 0 joints (λ j′ _ _. centerFits-kept n j id p j′ words));
   further-numbered = table-numbered;
-  further-size = λ bytes m. table-size (m .numbers) _;
+  further-same = λ bytes m. table-same (joints bytes m) bytes (m .numbers);
   further-equal = λ bytes m m′ e. ap (λ joints. refusal (tableRules joints bytes)) e;
-  further-finite = finite-set;
-  further-contents = contents-set;
   further-named = named-set;
 }
 

@@ -1,6 +1,6 @@
 -- What was stored of a row, a body or a joint is what is read there again, and every other row, body and joint reads as before; lengths are kept.
 use mathlib.Core.Path.{_≡_, refl, ap}
-use mathlib.Core.Logic.{_≢_, inl, inr}
+use mathlib.Core.Logic.{_≢_, inr}
 use mathlib.Core.Bool.{Bool, true, false, cond}
 use mathlib.Core.List.{List, [], _∷_}
 use Prim.Native.Nat.{ℕ, _+_, _*_, _-_, _≤_, _<_}
@@ -19,7 +19,7 @@ use Rattle.rows.specs.declared.joint_velocity_constraint.WritebackId.{Writeback
 use Rattle.rows.specs.declared.joint_velocity_constraint.WritebackId.the-variants.{Dof, Limit, Motor}
 use Rattle.model.specs.Layout.{rowWidth, bodyWidth, posePlace, inertiaPlace, massPlace, velocityPlace, wordsWidth, numbersWidth, targetPlace}
 use Rattle.model.specs.Records.{num, word, puts}
-use Rattle.model.specs.Store.{rowOfNumbers, rowAt, rowNumbers, putRow, world, Present, poseOf, worldPose, solverPoseAt, rest, velAt, putVel, putPose, seedIndex, axisOf, putSeed, putTarget, jointAt, jointOf}
+use Rattle.model.specs.Store.{rowOfNumbers, rowAt, rowNumbers, putRow, world, poseOf, worldPose, solverPoseAt, rest, velAt, putVel, putPose, seedIndex, axisOf, putSeed, putTarget, jointAt, jointOf}
 use Rattle.multibody.proofs.Strided.{length-puts, num-stored, num-kept, num-set, num-other, num-beside}
 
 -- an id of one of the three axes has its stored impulse among the joint's numbers
@@ -93,10 +93,6 @@ pub solverPoseAt-world : (b : List Float) → solverPoseAt b world ≡ worldPose
 unfolding solverPoseAt
 solverPoseAt-world b = refl
 
-pub putVel-world : (b : List Float) (v : SolverVel) → putVel b world v ≡ b
-unfolding putVel
-putVel-world b v = refl
-
 -- two lists of bodies that agree in the numbers that are read of body i
 velAt-cong : (b b′ : List Float) (i : ℕ) → ((c : ℕ) → velocityPlace ≤ c → c < bodyWidth → num bodyWidth b′ i c ≡ num bodyWidth b i c) → velAt b′ i ≡ velAt b i
 unfolding velAt
@@ -111,17 +107,6 @@ solverPoseAt-cong b b′ i h = ap (cond (eqb i world) worldPose) (bodyOf-cong (n
 
 abbrev velNumbers : SolverVel → List Float
 velNumbers v = v .linear .x ∷ v .linear .y ∷ v .angular ∷ []
-
-pub length-putVel : (b : List Float) (i : ℕ) (v : SolverVel) → length (putVel b i v) ≡ length b
-unfolding putVel
-length-putVel b i v = go (eqb i world)
-  where
-    go : (t : Bool) → length (cond t b (puts b (i * bodyWidth) velocityPlace (velNumbers v))) ≡ length b
-    go true = refl
-    go false = length-puts (velNumbers v) b (i * bodyWidth) velocityPlace
-
-pub present-putVel : (b : List Float) (i i′ : ℕ) (v : SolverVel) → Present b i′ → Present (putVel b i v) i′
-present-putVel b i i′ v h ne = rw length-putVel (h ne)
 
 pub velAt-putVel : (b : List Float) (i : ℕ) (v : SolverVel) → i ≢ world → i * bodyWidth + bodyWidth ≤ length b → velAt (putVel b i v) i ≡ v
 unfolding velAt putVel
@@ -140,15 +125,6 @@ velAt-putVel-other b i i′ v ne = go (eqb i world)
     go true = refl
     go false = velAt-cong b (puts b (i * bodyWidth) velocityPlace (velNumbers v)) i′ (λ c _ h. num-other bodyWidth b (velNumbers v) i i′ velocityPlace c ne (lit< tt) h)
 
--- poses and masses stay
-pub solverPoseAt-putVel : (b : List Float) (i i′ : ℕ) (v : SolverVel) → solverPoseAt (putVel b i v) i′ ≡ solverPoseAt b i′
-unfolding putVel
-solverPoseAt-putVel b i i′ v = go (eqb i world)
-  where
-    go : (t : Bool) → solverPoseAt (cond t b (puts b (i * bodyWidth) velocityPlace (velNumbers v))) i′ ≡ solverPoseAt b i′
-    go true = refl
-    go false = solverPoseAt-cong b (puts b (i * bodyWidth) velocityPlace (velNumbers v)) i′ (λ c h. num-beside bodyWidth b (velNumbers v) i i′ velocityPlace c (lit< tt) (omega arith) (inl h))
-
 -- ---- a pose stored
 
 abbrev poseNumbers : Pose → List Float
@@ -165,9 +141,6 @@ bodyOf-pose f g p e0 e1 e2 e3 e4 e5 e6 = cc
 pub length-putPose : (b : List Float) (i : ℕ) (p : Pose) → length (putPose b i p) ≡ length b
 unfolding putPose
 length-putPose b i p = length-puts (poseNumbers p) b (i * bodyWidth) posePlace
-
-pub present-putPose : (b : List Float) (i i′ : ℕ) (p : Pose) → Present b i′ → Present (putPose b i p) i′
-present-putPose b i i′ p h ne = rw length-putPose (h ne)
 
 pub solverPoseAt-putPose : (b : List Float) (i : ℕ) (p : Pose) → i ≢ world → i * bodyWidth + bodyWidth ≤ length b → solverPoseAt (putPose b i p) i ≡ withPose (solverPoseAt b i) p
 unfolding solverPoseAt putPose
@@ -194,27 +167,10 @@ velAt-putPose b i i′ p = velAt-cong b (puts b (i * bodyWidth) posePlace (poseN
 
 -- ---- a stored impulse stored
 
-pub length-putSeed : (numbers : List Float) (j : ℕ) (id : WritebackId) (p : Float) → length (putSeed numbers j id p) ≡ length numbers
-unfolding putSeed
-length-putSeed numbers j id p = go (ltb (axisOf id) 3)
-  where
-    go : (t : Bool) → length (cond t (set numbers (j * numbersWidth + seedIndex id) p) numbers) ≡ length numbers
-    go true = length-puts (p ∷ []) numbers (j * numbersWidth) (seedIndex id)
-    go false = refl
-
 -- an id past the last axis
 pub putSeed-past : (numbers : List Float) (j : ℕ) (id : WritebackId) (p : Float) → 3 ≤ axisOf id → putSeed numbers j id p ≡ numbers
 unfolding putSeed
 putSeed-past numbers j id p h = rw (le-ltb (axisOf id) 3 h)
-
--- every other number of the joint
-pub num-putSeed-kept : (numbers : List Float) (j : ℕ) (id : WritebackId) (p : Float) (c : ℕ) → c ≢ seedIndex id → num numbersWidth (putSeed numbers j id p) j c ≡ num numbersWidth numbers j c
-unfolding putSeed
-num-putSeed-kept numbers j id p c ne = go (ltb (axisOf id) 3)
-  where
-    go : (t : Bool) → num numbersWidth (cond t (set numbers (j * numbersWidth + seedIndex id) p) numbers) j c ≡ num numbersWidth numbers j c
-    go true = num-kept numbersWidth numbers p j (seedIndex id) c ne
-    go false = refl
 
 -- every number of another joint
 pub num-putSeed-other : (numbers : List Float) (j j′ : ℕ) (id : WritebackId) (p : Float) (c : ℕ) → j′ ≢ j → c < numbersWidth → num numbersWidth (putSeed numbers j id p) j′ c ≡ num numbersWidth numbers j′ c

@@ -32,7 +32,8 @@ use Rattle.multibody.specs.Rules.{refusal, all}
 use Rattle.multibody.specs.Model.{Model, model}
 use Rattle.multibody.specs.JointRows.{jointIds, rowCount, rowMasksAt}
 use Rattle.multibody.specs.Counts.{bodyCount, jointCount, rowCapacity, rowsBefore, storeFirsts, Room}
-use Rattle.multibody.specs.Refusals.{presentOrWorld, bodiesPresent, bodiesApart, finiteParams, finiteWarm, modelRulesWith, storageRule, seedsRule, readsRows}
+use Rattle.multibody.specs.Finite.{passes, passesFrom}
+use Rattle.multibody.specs.Refusals.{presentOrWorld, bodiesPresent, bodiesApart, finiteParams, finiteWarm, finiteBody, finiteJoint, modelRulesWith, storageRule, seedsRule, readsRows}
 use Rattle.multibody.specs.Calls.{Call, rulesOf, grantedOf, run}
 use Rattle.multibody.specs.Calls.Call.{load, build, warmStart, sweep, writeBack, further}
 use Rattle.multibody.specs.Traces.{Study, AtEach}
@@ -41,7 +42,7 @@ use Rattle.multibody.proofs.CallLaws.{run-granted}
 use Rattle.multibody.proofs.RefusedExactly.{told}
 use Rattle.multibody.proofs.Premises.{Turn, recorded, recorded-returns}
 use Rattle.multibody.proofs.WordsKept.{AllKeepWords, AllLend, named-before, enough-before, no-alike}
-use Rattle.model.specs.Refusals.{masksFit, finiteFrom, noNanFrom, finiteBody, finiteMotor, finiteCenter, finiteJoint, angleFits, centerFits}
+use Rattle.model.specs.Refusals.{masksFit, angleFits, centerFits}
 use Rattle.model.specs.Planar.{plane, planar}
 use Rattle.model.specs.Studies.{planarCalls}
 use Rattle.model.proofs.PlanarLaws.{planar-laws, planar-two-studies}
@@ -110,7 +111,7 @@ abbrev Granted : Model → Type 0
 Granted n = (refusal (rulesOf planar load n storage) ≡ 0) × (refusal (rulesOf planar (build Cold 0) n storage) ≡ 0)
 
 both-granted : Granted m × Granted m′
-unfolding rulesOf refusal all modelRulesWith storageRule seedsRule readsRows masksFit presentOrWorld bodiesPresent bodiesApart finiteFrom noNanFrom finiteParams finiteWarm finiteBody finiteMotor finiteCenter finiteJoint angleFits centerFits centerAt angleTooLarge absOf isFinite isNan lt ofBits bodyCount jointCount rowCapacity rowsBefore rowCount jointIds rowMasksAt enabledAt masksAt body1At body2At hasAxis rowIds
+unfolding rulesOf refusal all modelRulesWith storageRule seedsRule readsRows masksFit presentOrWorld bodiesPresent bodiesApart passes passesFrom finiteParams finiteWarm finiteBody finiteJoint angleFits centerFits centerAt angleTooLarge absOf isFinite isNan lt ofBits bodyCount jointCount rowCapacity rowsBefore rowCount jointIds rowMasksAt enabledAt masksAt body1At body2At hasAxis rowIds
 both-granted = ((refl, refl), (refl, refl))
 
 granted : Granted m

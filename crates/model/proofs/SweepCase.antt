@@ -35,14 +35,15 @@ use Rattle.multibody.specs.Rules.{refusal, all}
 use Rattle.multibody.specs.Model.{Model, model}
 use Rattle.multibody.specs.JointRows.{state, rowMasksAt, jointIds, rowCount, putRows, impulsesAt, builtRows, buildJoint, sweepRow}
 use Rattle.multibody.specs.Counts.{bodyCount, jointCount, rowCapacity, rowsBefore, storeFirsts}
-use Rattle.multibody.specs.Refusals.{presentOrWorld, bodiesPresent, bodiesApart, finiteParams, finiteWarm, modelRulesWith, storageRule, sweepRule, builtRule, seedsRule, readsRows, jointRule}
+use Rattle.multibody.specs.Finite.{passes, passesFrom}
+use Rattle.multibody.specs.Refusals.{presentOrWorld, bodiesPresent, bodiesApart, finiteParams, finiteWarm, finiteBody, finiteJoint, modelRulesWith, storageRule, sweepRule, builtRule, seedsRule, readsRows, jointRule}
 use Rattle.multibody.specs.Calls.{rulesOf, grantedOf, run, refusalOf, eachJoint, buildOne}
 use Rattle.multibody.specs.Calls.Call.{load, build, sweep, setMasks}
 use Rattle.multibody.specs.Traces.{Study, Given, afterCalls}
 use Rattle.multibody.specs.Studies.{machine, Loaded}
 use Rattle.multibody.specs.SweepSteps.{jointSteps, jointsSteps, roundSteps, repeated, sweepSteps, among, withBody, namedBodies, EachStep}
 use Rattle.model.specs.Store.{rowAt, putRow, putFirst, putMasks, solverPoseAt, velAt, putVel, jointAt, centerAt, masksAt, enabledAt, body1At, body2At}
-use Rattle.model.specs.Refusals.{masksFit, newMasksFit, finiteFrom, noNanFrom, finiteBody, finiteMotor, finiteCenter, finiteJoint, angleFits, centerFits}
+use Rattle.model.specs.Refusals.{masksFit, newMasksFit, angleFits, centerFits}
 use Rattle.model.specs.Planar.{plane, planar}
 use Rattle.model.specs.Studies.{planarCalls}
 use Rattle.model.specs.SweepMomentum.{StepInRange, Binary32Bodies, SweepBound, PowerOfTwo}
@@ -89,7 +90,7 @@ abbrev t : Study (machine planarCalls)
 t = afterCalls calls s
 
 load-holds : refusal (rulesOf planar load m storage) ≡ 0
-unfolding rulesOf refusal all modelRulesWith storageRule masksFit presentOrWorld bodiesPresent bodiesApart finiteFrom noNanFrom finiteParams finiteBody finiteMotor finiteCenter finiteJoint angleFits centerFits centerAt isFinite isNan lt ofBits bodyCount jointCount rowCapacity rowsBefore rowCount jointIds rowMasksAt enabledAt masksAt body1At body2At hasAxis rowIds
+unfolding rulesOf refusal all modelRulesWith storageRule masksFit presentOrWorld bodiesPresent bodiesApart passes passesFrom finiteParams finiteBody finiteJoint angleFits centerFits centerAt isFinite isNan lt ofBits bodyCount jointCount rowCapacity rowsBefore rowCount jointIds rowMasksAt enabledAt masksAt body1At body2At hasAxis rowIds
 load-holds = refl
 
 loaded : Loaded planarCalls s
@@ -107,7 +108,7 @@ two-bodies P p q b e =
 meets : (refusalOf (run planar (sweep 2) (t .model) (t .rows) .answer) ≡ 0)
     × (((b : ℕ) → among b (namedBodies (roundSteps plane (t .model))) ≡ true → PowerOfTwo 20 (t .model .bodies) b)
     × (Binary32Bodies (t .model) × EachStep plane StepInRange (sweepSteps plane (t .model) 2) (state (t .rows) (t .model .bodies))))
-unfolding afterCalls run rulesOf grantedOf refusal all modelRulesWith newMasksFit jointRule storeFirsts putFirst putMasks storageRule sweepRule builtRule seedsRule readsRows masksFit presentOrWorld bodiesPresent bodiesApart finiteFrom noNanFrom finiteParams finiteWarm finiteBody finiteMotor finiteCenter finiteJoint angleFits centerFits centerAt isFinite isNan lt le eq ne ofBits fits add sub mul div neg bodyCount jointCount rowCapacity rowsBefore rowCount jointIds rowMasksAt enabledAt masksAt body1At body2At hasAxis rowIds eachJoint buildOne buildJoint putRows putRow impulsesAt builtRows builderUpdateOf jointContextOf contextOf solverBodyOf solverPoseAt jointAt warmedAll warmedOf seedOf updateOf rowOf lockLinearOf lockBounds assembleOf linearAxisOf newOf snappedOf coordOf angularLimitParamsOf finalizeOf orthogonaliseN headOf isLock rowDotOf imSumOf rowAt angularFrequencyOf erpInvDtOf erpOf cfmCoeffOf simdInvOf poseProductOf columnOf inverseOf productOf rotateOf toMatOf addOf subOf mulOf gdotOf gcrossMatrixOf componentMulOf transformVectorOf clampOf wantedImpulseOf appliedOf stepOf withImpulse sweepRow velAt putVel magnitudeOf unitsOf jointSteps jointsSteps repeated withBody namedBodies EachStep among
+unfolding afterCalls run rulesOf grantedOf refusal all modelRulesWith newMasksFit jointRule storeFirsts putFirst putMasks storageRule sweepRule builtRule seedsRule readsRows masksFit presentOrWorld bodiesPresent bodiesApart passes passesFrom finiteParams finiteWarm finiteBody finiteJoint angleFits centerFits centerAt isFinite isNan lt le eq ne ofBits fits add sub mul div neg bodyCount jointCount rowCapacity rowsBefore rowCount jointIds rowMasksAt enabledAt masksAt body1At body2At hasAxis rowIds eachJoint buildOne buildJoint putRows putRow impulsesAt builtRows builderUpdateOf jointContextOf contextOf solverBodyOf solverPoseAt jointAt warmedAll warmedOf seedOf updateOf rowOf lockLinearOf lockBounds assembleOf linearAxisOf newOf snappedOf coordOf angularLimitParamsOf finalizeOf orthogonaliseN headOf isLock rowDotOf imSumOf rowAt angularFrequencyOf erpInvDtOf erpOf cfmCoeffOf simdInvOf poseProductOf columnOf inverseOf productOf rotateOf toMatOf addOf subOf mulOf gdotOf gcrossMatrixOf componentMulOf transformVectorOf clampOf wantedImpulseOf appliedOf stepOf withImpulse sweepRow velAt putVel magnitudeOf unitsOf jointSteps jointsSteps repeated withBody namedBodies EachStep among
 meets = (
   refl,
   (

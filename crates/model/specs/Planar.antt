@@ -20,9 +20,10 @@ use Rattle.multibody.specs.Store.{Store}
 use Rattle.multibody.specs.System.{System}
 use Rattle.multibody.specs.Counts.{jointCount}
 use Rattle.multibody.specs.Refusals.{bodiesPresent, bodiesApart}
-use Rattle.model.specs.Layout.{rowWidth, bodyWidth, wordsWidth, numbersWidth}
+use Rattle.model.specs.Layout.{rowWidth, bodyWidth, wordsWidth, centerChoicePlace, numbersWidth}
+use Rattle.model.specs.Records.{word}
 use Rattle.model.specs.Store.{rowAt, putRow, velAt, putVel, solverPoseAt, putPose, jointAt, masksAt, enabledAt, body1At, body2At, putSeed, putFirst, putMasks}
-use Rattle.model.specs.Refusals.{masksFit, newMasksFit, finitePose, finiteBody, finiteJoint, centerFits}
+use Rattle.model.specs.Refusals.{masksFit, newMasksFit, finitePose, bodyAsks, jointAsks, centerFits}
 use Rattle.model.specs.MotorTargets.{setTable}
 
 -- Rules 13 to 15, of the bytes of a table for so many joints. The first faulty record decides, so at most one of them fails: that of the number with which the table is refused.
@@ -76,8 +77,8 @@ planar = record {
   store = plane;
   maskRules = λ words joints fit. rule 3 (fit && all 0 joints (masksFit words)) ∷ [];
   finitePose = finitePose;
-  finiteBody = finiteBody;
-  finiteJoint = finiteJoint;
+  bodyAsks = bodyAsks;
+  jointAsks = λ words j. jointAsks (word wordsWidth words j centerChoicePlace);
   contentRules = λ words numbers joints. rule 12 (all 0 joints (centerFits words numbers)) ∷ [];
   NewMasks = Masks;
   fitMasks = newMasksFit;

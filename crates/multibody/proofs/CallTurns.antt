@@ -146,7 +146,7 @@ module _ {sys : System} (laws : Laws sys) where
     agree-vels : (c c′ : List Float) → SamePoses laws (m .bodies) c → SamePoses laws (m′ .bodies) c′ → VelsSame store set c c′ → Agree store set named (withBodies m c) (withBodies m′ c′)
     agree-vels c c′ p p′ v =
         agree-bodies (m .built) (m′ .built) c c′ (p .size) (p′ .size)
-        (λ i s. p .poses i ∙ b .agree .poses i s ∙ sym (p′ .poses i)) v
+        (λ i s. laws .solverPoseAt-same p i ∙ b .agree .poses i s ∙ sym (laws .solverPoseAt-same p′ i)) v
 
     -- load
     load-next : Next set named m load (grantedOf sys load m rows) (grantedOf sys load m′ rows′)
@@ -326,10 +326,10 @@ module _ {sys : System} (laws : Laws sys) where
         let g = further-granted laws f m rows z in
         let g′ = further-granted laws f m′ rows′ z′ in
         record {
-          agree = agree-after store set m m′ (m .built) (m′ .built) (m .bodies) (m′ .bodies) _ _ refl refl (laws .further-size f m) (laws .further-size f m′) (b .agree) (b .agree .poses) (b .agree .velocities)
+          agree = agree-after store set m m′ (m .built) (m′ .built) (m .bodies) (m′ .bodies) _ _ refl refl (laws .further-same f m .size) (laws .further-same f m′ .size) (b .agree) (b .agree .poses) (b .agree .velocities)
               (λ j i. laws .further-named f m m′ g g′ j (i .there) (b .agree .joints j i .there) (b .agree .contents j i));
           mark = b .mark;
-          same-rows = λ e j i. b .same-rows e j (of-set-before store set m (m .built) (m .bodies) _ (laws .further-size f m) j i);
+          same-rows = λ e j i. b .same-rows e j (of-set-before store set m (m .built) (m .bodies) _ (laws .further-same f m .size) j i);
           answer = λ _. refl;
         }
 

@@ -16,7 +16,7 @@ use Rattle.multibody.specs.Store.{Store}
 use Rattle.multibody.specs.System.{System}
 use Rattle.multibody.specs.JointRows.{State, state, jointIds, rowCount, builtRows, buildJoint, writeBackJoint}
 use Rattle.multibody.specs.Counts.{jointCount, rowsBefore, totalRows, storeFirsts}
-use Rattle.multibody.specs.Refusals.{bodiesPresent, bodiesApart, modelRulesWith, storageRule, builtRule, seedsRule, bodyRule, jointRule}
+use Rattle.multibody.specs.Refusals.{bodiesPresent, bodiesApart, finiteJoint, modelRulesWith, storageRule, builtRule, seedsRule, bodyRule, jointRule}
 use Rattle.multibody.specs.Calls.{Call, Outcome, Asked, Own, Change, outcome, fitChange, changed, ownRule, callTable, askedRules, handedRules, ownRules, rulesOf, grantedOf, run, eachJoint, rounds, buildOne, warmstartOne, sweepOne, sweepRound, removeBiasOne, writeBackOne, rowsOf, countOne, countRound, sweepCounts}
 use Rattle.multibody.specs.Calls.Call.{load, place, build, warmStart, sweep, removeBias, writeBack, readRows, readVelocity, setMasks, further}
 use Rattle.multibody.specs.Calls.Change.{none, given}
@@ -113,7 +113,7 @@ pub record SameButFirsts {store : Store} (Same : List ℕ → List ℕ → Type 
   pub rows : o′ .rows ≡ o .rows
 
 module _ {sys : System} {laws : Laws sys} (u : Unread laws) (m : Model) {w : List ℕ} (same : u .Same (m .words) w) (rows : List Float) where
-  open System sys using (store, maskRules, contentRules, finiteJoint)
+  open System sys using (store, maskRules, contentRules)
 
   -- the other model
   abbrev other : Model
@@ -132,12 +132,12 @@ module _ {sys : System} {laws : Laws sys} (u : Unread laws) (m : Model) {w : Lis
 
   -- rules 1 to 7, of a call whose own masks fit
   model-same : (arguments : Bool) → modelRulesWith sys other true arguments ≡ modelRulesWith sys m true arguments
-  unfolding modelRulesWith bodiesPresent bodiesApart
+  unfolding modelRulesWith bodiesPresent bodiesApart finiteJoint
   model-same arguments =
       let r = s .reworded in
       let present : all 0 joints (bodiesPresent store (m .bodies) w) ≡ all 0 joints (bodiesPresent store (m .bodies) (m .words)) = all-cong _ _ 0 joints (λ j _ _. rw (r .body1 j, r .body2 j)) in
       let apart : all 0 joints (bodiesApart store w) ≡ all 0 joints (bodiesApart store (m .words)) = all-cong _ _ 0 joints (λ j _ _. rw (r .body1 j, r .body2 j)) in
-      let finite : all 0 joints (finiteJoint w (m .numbers)) ≡ all 0 joints (finiteJoint (m .words) (m .numbers)) = all-cong _ _ 0 joints (λ j _ _. r .finite (m .numbers) j) in
+      let finite : all 0 joints (finiteJoint sys w (m .numbers)) ≡ all 0 joints (finiteJoint sys (m .words) (m .numbers)) = all-cong _ _ 0 joints (λ j _ _. rw (r .asks j)) in
       rw (joints-same, s .mask-rules joints, present, apart, finite, r .contents (m .numbers) joints)
 
   -- and of one whose masks do not, which is refused with 3 at the latest

@@ -20,6 +20,7 @@ use Rattle.rows.specs.declared.generic_joint.JointEnabled.{JointEnabled}
 use Rattle.rows.specs.declared.joint_constraint_builder.Warmstart.{Warmstart}
 use Rattle.rows.specs.declared.joint_velocity_constraint.WritebackId.{WritebackId}
 use Rattle.rows.proofs.Filled.{set-filled, length-filled}
+use Rattle.rows.proofs.RowIdsLaws.{no-ids}
 use Rattle.multibody.specs.Model.{Model}
 use Rattle.multibody.specs.Store.{Store, Stepped}
 use Rattle.multibody.specs.System.{System}
@@ -173,7 +174,7 @@ module _ {sys : System} (laws : Laws sys) where
   -- and one that is not has none
   pub ids-disabled : (words : List ℕ) (j : ℕ) → isEnabled (enabledAt words j) ≡ false → jointIds store words j ≡ []
   unfolding jointIds rowMasksAt
-  ids-disabled words j off = rw off (laws .no-ids)
+  ids-disabled words j off = rw off (no-ids (store .linear) (store .angular))
 
   pub count-disabled : (words : List ℕ) (j : ℕ) → isEnabled (enabledAt words j) ≡ false → rowCount store words j ≡ 0
   unfolding rowCount

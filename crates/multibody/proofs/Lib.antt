@@ -1,7 +1,8 @@
 pub mod Tests
 pub mod Strided
-pub mod RunLaws
 pub mod RuleLaws
+pub mod AskLaws
+pub mod Footprints
 pub mod Laws
 pub mod JointLocality
 pub mod TraceLaws

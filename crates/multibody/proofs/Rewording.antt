@@ -16,7 +16,7 @@ use Rattle.multibody.specs.Store.{Store}
 use Rattle.multibody.specs.System.{System}
 use Rattle.multibody.specs.JointRows.{rowMasksAt, jointIds, rowCount}
 use Rattle.multibody.specs.Counts.{jointCount, rowsBefore, totalRows, storeFirsts}
-use Rattle.multibody.specs.Refusals.{presentOrWorld, bodiesPresent, bodiesApart}
+use Rattle.multibody.specs.Refusals.{presentOrWorld, bodiesPresent, bodiesApart, finiteJoint}
 use Rattle.multibody.specs.Studies.{Ties, OfSet, Agree}
 use Rattle.multibody.proofs.Tests.{by-cases}
 use Rattle.multibody.proofs.RuleLaws.{Hold, all-cong}
@@ -25,7 +25,7 @@ use Rattle.multibody.proofs.CountLaws.{joint-words}
 use Rattle.multibody.proofs.RefusalLaws.{RulesHold}
 
 module _ {sys : System} (laws : Laws sys) where
-  open System sys using (store, maskRules, finiteJoint, contentRules, NewMasks, fitMasks, putMasks)
+  open System sys using (store, maskRules, contentRules, NewMasks, fitMasks, putMasks)
   open Store store using (jointAt, masksAt, enabledAt, body1At, body2At, SameNamed, putFirst)
 
   -- ---- counts and rules
@@ -36,7 +36,7 @@ module _ {sys : System} (laws : Laws sys) where
 
   pub held-reworded : (m : Model) {w : List ℕ} → Reworded sys (m .words) w → RulesHold laws m → Hold (maskRules w (jointCount store (m .words) (m .numbers)) true) → (mark : Bool)
       → RulesHold laws (withWords m mark w)
-  unfolding bodiesPresent bodiesApart
+  unfolding bodiesPresent bodiesApart finiteJoint
   held-reworded m {w} r h fit mark =
       let n : ℕ = jointCount store (m .words) (m .numbers) in
       let e = same-count r (m .numbers) in
@@ -48,7 +48,7 @@ module _ {sys : System} (laws : Laws sys) where
         apart = rw e (all-cong _ _ 0 n (λ j _ _. rw (r .body1 j, r .body2 j)) ∙ h .apart);
         finite-params = h .finite-params;
         finite-bodies = h .finite-bodies;
-        finite-joints = rw e (all-cong _ _ 0 n (λ j _ _. r .finite (m .numbers) j) ∙ h .finite-joints);
+        finite-joints = rw e (all-cong _ _ 0 n (λ j _ _. rw (r .asks j)) ∙ h .finite-joints);
         contents = rw (e, r .contents (m .numbers) n) (h .contents);
         dt = h .dt;
       }
@@ -106,7 +106,7 @@ module _ {sys : System} (laws : Laws sys) where
     body1 = λ i. s .body1 i ∙ r .body1 i;
     body2 = λ i. s .body2 i ∙ r .body2 i;
     enabled = λ i. s .enabled i ∙ r .enabled i;
-    finite = λ n i. s .finite n i ∙ r .finite n i;
+    asks = λ i. s .asks i ∙ r .asks i;
     contents = λ n joints. s .contents n joints ∙ r .contents n joints;
   }
 
@@ -120,7 +120,7 @@ module _ {sys : System} (laws : Laws sys) where
 
   no-change : (w : List ℕ) → SameWords w w
   no-change w = record {
-    reworded = record { size = refl; body1 = λ i. refl; body2 = λ i. refl; enabled = λ i. refl; finite = λ n i. refl; contents = λ n joints. refl };
+    reworded = record { size = refl; body1 = λ i. refl; body2 = λ i. refl; enabled = λ i. refl; asks = λ i. refl; contents = λ n joints. refl };
     masks = λ i. refl;
     joint = λ n i. refl;
     mask-rules = λ joints. refl;

@@ -136,7 +136,7 @@ module _ {sys : System} (laws : Laws sys) where
         (subst (λ (a : Mass). RowHas (massOf (solverPoseAt (m .bodies) (body1At (m .words) j))) a r) (sym (p (body2At (m .words) j))) (c j i (rw (← e) h) l))
 
     poses-masses : (b b′ : List Float) → SamePoses laws b b′ → (i : ℕ) → massOf (solverPoseAt b′ i) ≡ massOf (solverPoseAt b i)
-    poses-masses b b′ p i = ap massOf (p .poses i)
+    poses-masses b b′ p i = ap massOf (laws .solverPoseAt-same p i)
 
     -- ---- rows at work
 
@@ -210,7 +210,7 @@ module _ {sys : System} (laws : Laws sys) where
     granted-kept (readVelocity i) m rows k e b = k b
     granted-kept (setMasks j ms) m rows k e b = absurd (false≢true b)
     granted-kept (further f) m rows k e b =
-        same-masses m (m .params) (m .built) (m .bodies) _ rows (same-joints store (m .words) (m .numbers) (sys .furtherNumbers f m) (laws .further-size f m)) (λ i. refl) (k b)
+        same-masses m (m .params) (m .built) (m .bodies) _ rows (same-joints store (m .words) (m .numbers) (sys .furtherNumbers f m) (laws .further-same f m .size)) (λ i. refl) (k b)
 
     pub run-kept : (c : Call sys) (m : Model) (rows : List Float) → Kept m rows → Kept (run sys c m rows .after) (run sys c m rows .rows)
     run-kept c m rows k = run-cases laws c m rows (λ o. Kept (o .after) (o .rows)) (granted-kept c m rows k) k

@@ -1,19 +1,35 @@
--- What rule 6 asks of numbers one after the other: no NaN, and no infinity but in limit ends and maximum forces.
+-- What rule 6 asks of a record's numbers. A list says it of each place; rule 6, what calls may change and where a refusal points go by that list.
 use Prim.Native.Nat.{ℕ, _+_}
-use mathlib.Core.Bool.{Bool, not, _&&_}
-use mathlib.Core.List.{List}
+use mathlib.Core.Bool.{Bool, true, not, _&&_}
+use mathlib.Core.List.{List, [], _∷_, _++_}
 use lib.ListN.{getD}
 use lib.Ieee.{Float, nan, isNan}
 use Rattle.floats.specs.Scalar.{isFinite}
-use Rattle.multibody.specs.Rules.{all}
 
--- n numbers from place o on
-unfoldable pub finiteFrom : List Float → ℕ → ℕ → Bool
-finiteFrom s o n = all o n (λ p. isFinite (getD s p nan))
+-- a number is finite; it is no NaN, but may be infinite, as limit ends and maximum forces; it may be any, as velocities and stored impulses
+pub data Asks : Type 0 where
+  finite : Asks
+  noNan : Asks
+  free : Asks
 
-unfoldable pub noNanFrom : List Float → ℕ → ℕ → Bool
-noNanFrom s o n = all o n (λ p. not (isNan (getD s p nan)))
+unfoldable pub passes : Asks → Float → Bool
+passes finite x = isFinite x
+passes noNan x = not (isNan x)
+passes free x = true
 
--- the motor from place o on: target velocity and position, stiffness and damping; then the maximum force
-unfoldable pub finiteMotor : List Float → ℕ → Bool
-finiteMotor s o = finiteFrom s o 4 && noNanFrom s (o + 4) 1
+-- the numbers from place o on, each as the list asks of its place
+unfoldable pub passesFrom : List Asks → List Float → ℕ → Bool
+passesFrom [] s o = true
+passesFrom (a ∷ asks) s o = passes a (getD s o nan) && passesFrom asks s (o + 1)
+
+-- an axis's limits: two ends, and the stored impulse
+abbrev pub limitAsks : List Asks
+limitAsks = noNan ∷ noNan ∷ free ∷ []
+
+-- an axis's motor: target velocity and position, stiffness and damping; the maximum force; the stored impulse
+abbrev pub motorAsks : List Asks
+motorAsks = finite ∷ finite ∷ finite ∷ finite ∷ noNan ∷ free ∷ []
+
+-- those of three axes
+abbrev pub thrice : List Asks → List Asks
+thrice asks = asks ++ (asks ++ asks)

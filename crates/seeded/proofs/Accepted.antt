@@ -3,29 +3,30 @@
 use Prim.Native.Nat.{ℕ, zero, suc, _+_, _-_, _*_, _/_, _%_, _≤_, _<_}
 use mathlib.Core.Path.{_≡_, refl, sym, ap, _∙_}
 use mathlib.Core.Logic.{_≢_}
-use mathlib.Core.Bool.{Bool, true, false, not, cond, _&&_, _||_, false≢true}
+use mathlib.Core.Bool.{Bool, true, false, not, cond, _||_}
 use mathlib.Core.List.{List, [], _∷_, _++_}
 use native.Mathlib.Nat.{mod-lt}
 use native.Mathlib.Omega.{arith}
 use borrow.Author.Tests.{lt-ltb, le-ltb, ne-eqb, eqb-true, eqb-false}
 use lib.Dec.{eqb, ltb}
 use lib.ListN.{length, getD}
-use lib.Ieee.{Float, nan, inf, fin, isNan, lt, ofBits}
+use lib.Ieee.{Float, nan, lt, ofBits}
 use Rattle.floats.specs.Operators.{bits}
 use Rattle.floats.specs.Scalar.{isFinite}
 use Rattle.multibody.specs.Rules.{refusal, all, atMost}
 use Rattle.multibody.specs.Model.{Model, mostBodies, mostJoints}
 use Rattle.multibody.specs.Counts.{bodyCount, jointCount, rowCapacity, totalRows}
-use Rattle.multibody.specs.Refusals.{presentOrWorld, bodiesPresent, bodiesApart, finiteParams, modelRules, storageRule}
+use Rattle.multibody.specs.Refusals.{presentOrWorld, bodiesPresent, bodiesApart, finiteParams, finiteBody, finiteJoint, modelRules, storageRule}
 use Rattle.multibody.specs.Calls.{rulesOf, firstRules, ownRules, grantedOf, run}
 use Rattle.multibody.specs.Calls.Call.{load}
 use Rattle.multibody.specs.Calls.Answer.{granted}
-use Rattle.model.specs.Layout.{bodyWidth, wordsWidth, numbersWidth, velocityPlace, masksPlace}
+use Rattle.model.specs.Layout.{bodyWidth, wordsWidth, numbersWidth, masksPlace}
 use Rattle.model.specs.Records.{word}
 use Rattle.model.specs.Store.{world, body1At, body2At, centerAt}
-use Rattle.model.specs.Refusals.{masksFit, finiteFrom, noNanFrom, finiteBody, finiteMotor, finiteCenter, finiteJoint, angleFits, centerFits}
+use Rattle.model.specs.Refusals.{masksFit, bodyAsks, angleFits, centerFits}
 use Rattle.model.specs.Planar.{plane, planar}
 use Rattle.multibody.proofs.Tests.{by-cases}
+use Rattle.multibody.proofs.AskLaws.{finite-passes, passes-intro}
 use Rattle.multibody.proofs.RefusalLaws.{RulesHold, rules-rest, first-numbered}
 use Rattle.multibody.proofs.RuleLaws.{all-intro, no-rules, rule-holds, granted-append}
 use Rattle.multibody.proofs.CountLaws.{rowsBefore-le}
@@ -46,12 +47,6 @@ cond-same false n = refl
 or-right : (a : Bool) → (a || true) ≡ true
 or-right true = refl
 or-right false = refl
-
-no-nan : (x : Float) → isFinite x ≡ true → isNan x ≡ false
-unfolding isFinite isNan
-no-nan nan e = absurd (false≢true e)
-no-nan (inf s) e = refl
-no-nan (fin s n e) d = refl
 
 mask-small : (seed j c : ℕ) → 2 ≤ c → c < 6 → atMost 7 (jointWord seed j c) ≡ true
 unfolding jointWord maskOf
@@ -133,14 +128,6 @@ module _ (seed : ℕ) where
   joint-place p h =
       ap isFinite (getD-tabulate (jointsOf seed * numbersWidth) p (numberPlace seed) nan h) ∙ joint-finite _ _
 
-  joint-range : (o n : ℕ) → o + n ≤ jointsOf seed * numbersWidth → finiteFrom (m .numbers) o n ≡ true
-  unfolding finiteFrom
-  joint-range o n h = all-intro _ o n (λ p _ l. joint-place p (omega (arith, h, l)))
-
-  joint-no-nan : (o n : ℕ) → o + n ≤ jointsOf seed * numbersWidth → noNanFrom (m .numbers) o n ≡ true
-  unfolding noNanFrom
-  joint-no-nan o n h = all-intro _ o n (λ p _ l. rw (no-nan (getD (m .numbers) p nan) (joint-place p (omega (arith, h, l)))))
-
   module _ (j : ℕ) (h : j < jointsOf seed) where
     first-body : body1At (m .words) j ≡ firstOf seed j
     unfolding body1At jointWord
@@ -172,33 +159,24 @@ module _ (seed : ℕ) where
         (second-cases (λ b. not (eqb (firstOf seed j) b) ≡ true) j (rw (ne-eqb (firstOf seed j) world (λ e. omega (arith, e, f, few))))
         (λ b _ n. rw (ne-eqb (firstOf seed j) b (λ e. n (sym e)))))
 
-    finite : finiteJoint (m .words) (m .numbers) j ≡ true
-    unfolding finiteJoint finiteMotor centerAt finiteCenter
+    finite : finiteJoint planar (m .words) (m .numbers) j ≡ true
+    unfolding finiteJoint
     finite =
-        let o = j * numbersWidth in
-        rw (
-          joint-range o 8 (omega (arith, h)),
-          joint-no-nan (o + 8) 2 (omega (arith, h)),
-          joint-no-nan (o + 11) 2 (omega (arith, h)),
-          joint-no-nan (o + 14) 2 (omega (arith, h)),
-          joint-range (o + 17) 4 (omega (arith, h)),
-          joint-no-nan (o + 17 + 4) 1 (omega (arith, h)),
-          joint-range (o + 23) 4 (omega (arith, h)),
-          joint-no-nan (o + 23 + 4) 1 (omega (arith, h)),
-          joint-range (o + 29) 4 (omega (arith, h)),
-          joint-no-nan (o + 29 + 4) 1 (omega (arith, h)),
-          joint-range (o + 35) 2 (omega (arith, h)),
-          choice,
-          joint-place (o + 40) (omega (arith, h)),
-          joint-place (o + 41) (omega (arith, h)),
-        )
+        passes-intro (planar .jointAsks (m .words) j) (m .numbers) (j * numbersWidth)
+        (λ c l. let below : c < numbersWidth = l in finite-passes _ _ (joint-place (j * numbersWidth + c) (omega (arith, h, below))))
 
     angle : centerFits (m .words) (m .numbers) j ≡ true
     unfolding centerFits centerAt angleFits
     angle = rw choice
 
+  finite-body : (i : ℕ) → i < bodiesOf seed → finiteBody planar (m .bodies) i ≡ true
+  unfolding finiteBody
+  finite-body i h =
+      passes-intro bodyAsks (m .bodies) (i * bodyWidth)
+      (λ c l. let below : c < bodyWidth = l in finite-passes _ _ (body-place (i * bodyWidth + c) (omega (arith, h, below))))
+
   held : RulesHold planar-laws m
-  unfolding finiteParams isFinite lt ofBits finiteBody finiteFrom
+  unfolding finiteParams isFinite lt ofBits
   held = record {
     bodies = rw body-count (rw (le-ltb mostBodies (bodiesOf seed) (omega (arith, bodies-range .1))));
     joints = rw joint-count (rw (le-ltb mostJoints (jointsOf seed) (omega (arith, joints-range))));
@@ -206,7 +184,7 @@ module _ (seed : ℕ) where
     present = rw joint-count (all-intro _ 0 (jointsOf seed) (λ j _ l. present j (omega (arith, l))));
     apart = rw joint-count (all-intro _ 0 (jointsOf seed) (λ j _ l. differ j (omega (arith, l))));
     finite-params = rw (further-finite 0, further-finite 1);
-    finite-bodies = rw body-count (all-intro _ 0 (bodiesOf seed) (λ i _ l. all-intro _ (i * bodyWidth) velocityPlace (λ p _ g. body-place p (omega (arith, l, g)))));
+    finite-bodies = rw body-count (all-intro _ 0 (bodiesOf seed) (λ i _ l. finite-body i (omega (arith, l))));
     finite-joints = rw joint-count (all-intro _ 0 (jointsOf seed) (λ j _ l. finite j (omega (arith, l))));
     contents = (rw joint-count (all-intro _ 0 (jointsOf seed) (λ j _ l. angle j (omega (arith, l)))), tt);
     dt = refl;

@@ -1,5 +1,6 @@
 pub mod StoreLaws
 pub mod WritebackLaws
+pub mod Tried
 pub mod Keeps
 pub mod MaskLaws
 pub mod SpatialRules

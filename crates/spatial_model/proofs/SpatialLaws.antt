@@ -1,5 +1,5 @@
 -- The spatial model has the laws of a multibody system (`spatial-laws`), and so demand 1 (`spatial-refused-exactly`) and demand 3 (`spatial-two-studies`).
-use Prim.Native.Nat.{ℕ, zero, suc, _≤_, _<_}
+use Prim.Native.Nat.{ℕ, zero, suc, _≤_}
 use mathlib.Core.Path.{_≡_, refl, sym, ap, _∙_}
 use mathlib.Core.Bool.{true, false, true≢false}
 use mathlib.Core.List.{List}
@@ -18,7 +18,6 @@ use Rattle.spatial_rows.specs.Builder.{builderUpdateOf}
 use Rattle.spatial_rows.specs.Named.{SameNamed}
 use Rattle.spatial_rows.specs.declared.joint_constraint_builder.SolverPose.{SolverPose}
 use Rattle.spatial_rows.specs.declared.joint_constraint_builder.ImpulseJoint.{ImpulseJoint}
-use Rattle.rows.proofs.RowIdsLaws.{no-ids}
 use Rattle.spatial_rows.proofs.NineRows.{at-most-nine}
 use Rattle.spatial_rows.proofs.BuilderLaws.{first-reads-no-row, cold}
 use Rattle.spatial_rows.proofs.RowArrays.{length-builderUpdateOf}
@@ -34,16 +33,18 @@ use Rattle.multibody.specs.Calls.Answer.{refused}
 use Rattle.multibody.specs.Studies.{TwoStudies}
 use Rattle.multibody.proofs.Laws.{SameJoint, Given, BodyRoom, JointRoom, Reworded, Laws}
 use Rattle.multibody.proofs.RuleLaws.{First}
+use Rattle.multibody.proofs.Footprints.{Free, free-passing}
 use Rattle.multibody.proofs.RefusedExactly.{refused-exactly}
 use Rattle.multibody.proofs.TwoStudies as AnyStudies
 use Rattle.spatial_model.specs.Layout.{wordsWidth, masksPlace}
-use Rattle.spatial_model.specs.Store.{jointAt, masksAt, enabledAt, putVel, putSeed, solverPoseAt, putPose}
+use Rattle.spatial_model.specs.Store.{jointAt, masksAt, enabledAt, putSeed, solverPoseAt, putPose}
+use Rattle.spatial_model.specs.Refusals.{jointAsks}
 use Rattle.spatial_model.specs.Spatial.{space, spatial}
 use Rattle.spatial_model.specs.Studies.{spatialCalls}
-use Rattle.spatial_model.proofs.StoreLaws.{withPose, impulse-first, length-putRow, rowAt-putRow, rowAt-putRow-other, putRow-past, velAt-world, solverPoseAt-world, length-putVel, velAt-putVel, velAt-putVel-other, solverPoseAt-putVel, length-putPose, solverPoseAt-putPose, solverPoseAt-putPose-other, velAt-putPose, length-putSeed, jointAt-putSeed-other}
+use Rattle.spatial_model.proofs.StoreLaws.{withPose, impulse-first, length-putRow, rowAt-putRow, rowAt-putRow-other, putRow-past, velAt-world, solverPoseAt-world, velAt-putVel, velAt-putVel-other, length-putPose, solverPoseAt-putPose, solverPoseAt-putPose-other, velAt-putPose, jointAt-putSeed-other}
 use Rattle.spatial_model.proofs.WritebackLaws.{jointAt-putSeed-writeback}
 use Rattle.spatial_model.proofs.MaskLaws.{masksAt-spatial}
-use Rattle.spatial_model.proofs.Keeps.{putVel-kept, finiteBody-kept, place-finite, finiteJoint-kept}
+use Rattle.spatial_model.proofs.Keeps.{putVel-same, solverPoseAt-same, putPose-same, putSeed-same}
 
 -- ---- joints
 
@@ -69,7 +70,7 @@ enabled-same words words′ n n′ j s = s .enabled
 
 -- the words stay as they are
 same-words : (w : List ℕ) → Reworded spatial w w
-same-words w = record { size = refl; body1 = λ i. refl; body2 = λ i. refl; enabled = λ i. refl; finite = λ n i. refl; contents = λ n joints. refl }
+same-words w = record { size = refl; body1 = λ i. refl; body2 = λ i. refl; enabled = λ i. refl; asks = λ i. refl; contents = λ n joints. refl }
 
 -- ---- rows
 
@@ -119,6 +120,8 @@ spatial-laws = record {
   body-wide = lit< tt;
   words-wide = lit< tt;
   numbers-wide = lit< tt;
+  body-asks = refl;
+  joint-asks = λ words j. refl;
   length-putRow = length-putRow;
   rowAt-putRow = rowAt-putRow;
   rowAt-putRow-other = rowAt-putRow-other;
@@ -126,15 +129,19 @@ spatial-laws = record {
   impulse-first = impulse-first;
   velAt-world = λ b b′. velAt-world b ∙ sym (velAt-world b′);
   solverPoseAt-world = λ b b′. solverPoseAt-world b ∙ sym (solverPoseAt-world b′);
-  length-putVel = length-putVel;
+  putVel-same = putVel-same;
+  solverPoseAt-same = solverPoseAt-same;
+  putPose-same = putPose-same;
   velAt-putVel = velAt-putVel;
   velAt-putVel-other = velAt-putVel-other;
-  solverPoseAt-putVel = solverPoseAt-putVel;
   length-putPose = length-putPose;
   solverPoseAt-putPose = pose-placed;
   solverPoseAt-putPose-other = solverPoseAt-putPose-other;
   velAt-putPose = velAt-putPose;
-  length-putSeed = length-putSeed;
+  Stored = Free jointAsks;
+  stored-passes = λ words j c x _ f. free-passing jointAsks c x f;
+  contentRules-same = λ words s joints. refl;
+  putSeed-same = putSeed-same;
   jointAt-putSeed-other = jointAt-putSeed-other;
   named-putSeed = seed-named;
   same-masks = masks-same;
@@ -151,7 +158,6 @@ spatial-laws = record {
   jointAt-putMasks-other = λ w n j i none ne. refl;
   named-putMasks = λ w w′ n n′ j none room room′ s. s;
   maskRules-putMasks = λ w j joints none fit room hold. hold;
-  no-ids = no-ids 3 3;
   few-ids = few;
   length-update = update-length;
   reads-no-row = no-row-read;
@@ -159,15 +165,9 @@ spatial-laws = record {
   mask-numbered = λ words joints fit. (omega arith, (omega arith, tt));
   own-masks = unfit;
   content-numbered = λ words n joints. tt;
-  finiteBody-putVel = λ b i i′ v. finiteBody-kept b (putVel b i v) i′ (putVel-kept b i v i′);
-  finiteBody-putPose = λ b i i′ p f room was was′. place-finite p f b i room i′ was was′;
-  finiteJoint-putSeed = λ words n j j′ id p. finiteJoint-kept n j id p j′ words;
-  contentRules-putSeed = λ words n joints j id p. refl;
   further-numbered = λ none m. absurd none;
-  further-size = λ none m. absurd none;
+  further-same = λ none m. absurd none;
   further-equal = λ none m m′ e. absurd none;
-  further-finite = λ none m. absurd none;
-  further-contents = λ none m. absurd none;
   further-named = λ none m m′. absurd none;
 }
 

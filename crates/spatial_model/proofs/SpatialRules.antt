@@ -16,13 +16,13 @@ use Rattle.multibody.specs.Model.{Model, model, world}
 use Rattle.multibody.specs.Records.{word}
 use Rattle.multibody.specs.JointRows.{jointIds, rowCount, rowMasksAt}
 use Rattle.multibody.specs.Counts.{bodyCount, jointCount, rowCapacity, rowsBefore}
-use Rattle.multibody.specs.Finite.{finiteFrom, noNanFrom, finiteMotor}
-use Rattle.multibody.specs.Refusals.{presentOrWorld, bodiesPresent, bodiesApart, finiteParams, modelRules, modelRulesWith, storageRule}
+use Rattle.multibody.specs.Finite.{passes, passesFrom}
+use Rattle.multibody.specs.Refusals.{presentOrWorld, bodiesPresent, bodiesApart, finiteParams, finiteBody, finiteJoint, modelRules, modelRulesWith, storageRule}
 use Rattle.multibody.specs.Calls.{rulesOf}
 use Rattle.multibody.specs.Calls.Call.{load}
 use Rattle.spatial_model.specs.Layout.{wordsWidth, masksPlace}
 use Rattle.spatial_model.specs.Store.{masksAt, enabledAt, body1At, body2At}
-use Rattle.spatial_model.specs.Refusals.{linearAxes, masksFit, linearAlone, finiteBody, finiteJoint}
+use Rattle.spatial_model.specs.Refusals.{linearAxes, masksFit, linearAlone}
 use Rattle.spatial_model.specs.Spatial.{spatial}
 
 -- document 01's order, with 17 right after 3
@@ -77,5 +77,5 @@ mask-cases : map told (
     ∷ masked 0 64 8 1 0 0
     ∷ []
     ) ≡ 0 ∷ 0 ∷ 17 ∷ 17 ∷ 17 ∷ 17 ∷ 17 ∷ 17 ∷ 4 ∷ 3 ∷ 3 ∷ 3 ∷ []
-unfolding rulesOf refusal all modelRulesWith storageRule masksFit linearAlone presentOrWorld bodiesPresent bodiesApart finiteFrom noNanFrom finiteParams finiteBody finiteMotor finiteJoint absOf isFinite isNan lt ofBits bodyCount jointCount rowCapacity rowsBefore rowCount jointIds rowMasksAt enabledAt masksAt body1At body2At hasAxis rowIds
+unfolding rulesOf refusal all modelRulesWith storageRule masksFit linearAlone presentOrWorld bodiesPresent bodiesApart passes passesFrom finiteParams finiteBody finiteJoint absOf isFinite isNan lt ofBits bodyCount jointCount rowCapacity rowsBefore rowCount jointIds rowMasksAt enabledAt masksAt body1At body2At hasAxis rowIds
 mask-cases = refl

@@ -1,6 +1,6 @@
 -- What was stored of a row, a body or a joint is what is read there again, and every other row, body and joint reads as before; lengths are kept.
 use mathlib.Core.Path.{_≡_, refl, ap}
-use mathlib.Core.Logic.{_≢_, inl, inr}
+use mathlib.Core.Logic.{_≢_, inr}
 use mathlib.Core.Bool.{Bool, true, false, cond}
 use mathlib.Core.List.{List, [], _∷_}
 use Prim.Native.Nat.{ℕ, _+_, _*_, _-_, _≤_, _<_}
@@ -19,7 +19,7 @@ use Rattle.spatial_rows.specs.declared.joint_velocity_constraint.SolverVel.{Sol
 use Rattle.multibody.specs.Model.{world}
 use Rattle.multibody.specs.Records.{num, word, puts}
 use Rattle.multibody.specs.JointRecords.{axisOf}
-use Rattle.multibody.proofs.Strided.{length-puts, num-stored, num-kept, num-set, num-other, num-beside, record-past}
+use Rattle.multibody.proofs.Strided.{length-puts, num-stored, num-set, num-other, num-beside, record-past}
 use Rattle.spatial_model.specs.Layout.{rowWidth, bodyWidth, posePlace, inertiaPlace, massPlace, velocityPlace, wordsWidth, numbersWidth}
 use Rattle.spatial_model.specs.Store.{rowOfNumbers, rowAt, rowNumbers, putRow, vectorOf, poseOf, poseNumbers, inertiaOf, worldPose, solverPoseAt, rest, velAt, velNumbers, putVel, putPose, seedIndex, seedAxes, putSeed, jointAt, jointOf}
 
@@ -143,14 +143,6 @@ solverPoseAt-cong b b′ i h = ap (cond (eqb i world) worldPose) (bodyOf-cong (n
 
 -- ---- a velocity stored
 
-pub length-putVel : (b : List Float) (i : ℕ) (v : SolverVel) → length (putVel b i v) ≡ length b
-unfolding putVel
-length-putVel b i v = go (eqb i world)
-  where
-    go : (t : Bool) → length (cond t b (puts b (i * bodyWidth) velocityPlace (velNumbers v))) ≡ length b
-    go true = refl
-    go false = length-puts (velNumbers v) b (i * bodyWidth) velocityPlace
-
 pub velAt-putVel : (b : List Float) (i : ℕ) (v : SolverVel) → i ≢ world → i * bodyWidth + bodyWidth ≤ length b → velAt (putVel b i v) i ≡ v
 unfolding velAt putVel
 velAt-putVel b i v ne room =
@@ -169,15 +161,6 @@ velAt-putVel-other b i i′ v ne = go (eqb i world)
     go : (t : Bool) → velAt (cond t b (puts b (i * bodyWidth) velocityPlace (velNumbers v))) i′ ≡ velAt b i′
     go true = refl
     go false = velAt-cong b (puts b (i * bodyWidth) velocityPlace (velNumbers v)) i′ (λ c _ h. num-other bodyWidth b (velNumbers v) i i′ velocityPlace c ne (lit< tt) h)
-
--- poses and masses stay
-pub solverPoseAt-putVel : (b : List Float) (i i′ : ℕ) (v : SolverVel) → solverPoseAt (putVel b i v) i′ ≡ solverPoseAt b i′
-unfolding putVel
-solverPoseAt-putVel b i i′ v = go (eqb i world)
-  where
-    go : (t : Bool) → solverPoseAt (cond t b (puts b (i * bodyWidth) velocityPlace (velNumbers v))) i′ ≡ solverPoseAt b i′
-    go true = refl
-    go false = solverPoseAt-cong b (puts b (i * bodyWidth) velocityPlace (velNumbers v)) i′ (λ c h. num-beside bodyWidth b (velNumbers v) i i′ velocityPlace c (lit< tt) (omega arith) (inl h))
 
 -- ---- a pose stored
 
@@ -234,27 +217,10 @@ velAt-putPose b i i′ p = velAt-cong b (puts b (i * bodyWidth) posePlace (poseN
 
 -- ---- a stored impulse stored
 
-pub length-putSeed : (numbers : List Float) (j : ℕ) (id : WritebackId) (p : Float) → length (putSeed numbers j id p) ≡ length numbers
-unfolding putSeed
-length-putSeed numbers j id p = go (ltb (axisOf id) (seedAxes id))
-  where
-    go : (t : Bool) → length (cond t (set numbers (j * numbersWidth + seedIndex id) p) numbers) ≡ length numbers
-    go true = length-puts (p ∷ []) numbers (j * numbersWidth) (seedIndex id)
-    go false = refl
-
 -- an id past the last axis of its kind
 pub putSeed-past : (numbers : List Float) (j : ℕ) (id : WritebackId) (p : Float) → seedAxes id ≤ axisOf id → putSeed numbers j id p ≡ numbers
 unfolding putSeed
 putSeed-past numbers j id p h = rw (le-ltb (axisOf id) (seedAxes id) h)
-
--- every other number of the joint
-pub num-putSeed-kept : (numbers : List Float) (j : ℕ) (id : WritebackId) (p : Float) (c : ℕ) → c ≢ seedIndex id → num numbersWidth (putSeed numbers j id p) j c ≡ num numbersWidth numbers j c
-unfolding putSeed
-num-putSeed-kept numbers j id p c ne = go (ltb (axisOf id) (seedAxes id))
-  where
-    go : (t : Bool) → num numbersWidth (cond t (set numbers (j * numbersWidth + seedIndex id) p) numbers) j c ≡ num numbersWidth numbers j c
-    go true = num-kept numbersWidth numbers p j (seedIndex id) c ne
-    go false = refl
 
 -- every number of another joint
 pub num-putSeed-other : (numbers : List Float) (j j′ : ℕ) (id : WritebackId) (p : Float) (c : ℕ) → j′ ≢ j → c < numbersWidth → num numbersWidth (putSeed numbers j id p) j′ c ≡ num numbersWidth numbers j′ c

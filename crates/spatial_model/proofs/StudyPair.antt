@@ -26,8 +26,8 @@ use Rattle.multibody.specs.Rules.{refusal, all}
 use Rattle.multibody.specs.Model.{Model, model, world}
 use Rattle.multibody.specs.JointRows.{jointIds, rowCount, rowMasksAt}
 use Rattle.multibody.specs.Counts.{bodyCount, jointCount, rowCapacity, rowsBefore, storeFirsts, Room}
-use Rattle.multibody.specs.Finite.{finiteFrom, noNanFrom, finiteMotor}
-use Rattle.multibody.specs.Refusals.{presentOrWorld, bodiesPresent, bodiesApart, finiteParams, finiteWarm, modelRulesWith, storageRule, seedsRule, readsRows}
+use Rattle.multibody.specs.Finite.{passes, passesFrom}
+use Rattle.multibody.specs.Refusals.{presentOrWorld, bodiesPresent, bodiesApart, finiteParams, finiteWarm, finiteBody, finiteJoint, modelRulesWith, storageRule, seedsRule, readsRows}
 use Rattle.multibody.specs.Calls.{Call, rulesOf, grantedOf, run}
 use Rattle.multibody.specs.Calls.Call.{load, build, warmStart, sweep, removeBias, writeBack}
 use Rattle.multibody.specs.Traces.{Study, AtEach}
@@ -37,7 +37,7 @@ use Rattle.multibody.proofs.RefusedExactly.{told}
 use Rattle.multibody.proofs.Premises.{Turn, recorded, recorded-returns}
 use Rattle.multibody.proofs.WordsKept.{AllKeepWords, AllLend, named-before, enough-before, no-alike}
 use Rattle.spatial_model.specs.Store.{solverPoseAt, velAt, jointAt, masksAt, body1At, body2At, enabledAt}
-use Rattle.spatial_model.specs.Refusals.{masksFit, linearAlone, finiteBody, finiteJoint}
+use Rattle.spatial_model.specs.Refusals.{masksFit, linearAlone}
 use Rattle.spatial_model.specs.Spatial.{space, spatial}
 use Rattle.spatial_model.specs.Studies.{spatialCalls}
 use Rattle.spatial_model.proofs.SpatialLaws.{spatial-laws, spatial-two-studies}
@@ -108,7 +108,7 @@ abbrev Granted : Model → Type 0
 Granted n = (refusal (rulesOf spatial load n storage) ≡ 0) × (refusal (rulesOf spatial (build Cold 0) n storage) ≡ 0)
 
 both-granted : Granted m × Granted m′
-unfolding rulesOf refusal all modelRulesWith storageRule seedsRule readsRows masksFit linearAlone presentOrWorld bodiesPresent bodiesApart finiteFrom noNanFrom finiteParams finiteWarm finiteBody finiteMotor finiteJoint absOf isFinite isNan lt ofBits bodyCount jointCount rowCapacity rowsBefore rowCount jointIds rowMasksAt enabledAt masksAt body1At body2At hasAxis rowIds
+unfolding rulesOf refusal all modelRulesWith storageRule seedsRule readsRows masksFit linearAlone presentOrWorld bodiesPresent bodiesApart passes passesFrom finiteParams finiteWarm finiteBody finiteJoint absOf isFinite isNan lt ofBits bodyCount jointCount rowCapacity rowsBefore rowCount jointIds rowMasksAt enabledAt masksAt body1At body2At hasAxis rowIds
 both-granted = ((refl, refl), (refl, refl))
 
 granted : Granted m

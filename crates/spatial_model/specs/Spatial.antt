@@ -17,7 +17,7 @@ use Rattle.multibody.specs.System.{System}
 use Rattle.multibody.specs.Refusals.{bodiesPresent, bodiesApart}
 use Rattle.spatial_model.specs.Layout.{rowWidth, bodyWidth, wordsWidth, numbersWidth}
 use Rattle.spatial_model.specs.Store.{rowAt, putRow, velAt, putVel, solverPoseAt, putPose, jointAt, masksAt, enabledAt, body1At, body2At, putSeed}
-use Rattle.spatial_model.specs.Refusals.{masksFit, linearAlone, finitePose, finiteBody, finiteJoint}
+use Rattle.spatial_model.specs.Refusals.{masksFit, linearAlone, finitePose, bodyAsks, jointAsks}
 
 -- bodies, joints and rows of space
 abbrev pub space : Store
@@ -62,8 +62,8 @@ spatial = record {
   store = space;
   maskRules = λ words joints fit. rule 3 (fit && all 0 joints (masksFit words)) ∷ rule 17 (all 0 joints (linearAlone words)) ∷ [];
   finitePose = finitePose;
-  finiteBody = finiteBody;
-  finiteJoint = finiteJoint;
+  bodyAsks = bodyAsks;
+  jointAsks = λ words j. jointAsks;
   contentRules = λ words numbers joints. [];
   NewMasks = ⊥;
   fitMasks = λ none. true;

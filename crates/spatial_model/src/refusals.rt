@@ -3,17 +3,18 @@ ghost use mathlib.Core.Path.{_≡_};
 ghost use mathlib.Core.Bool.{Bool, not, _&&_, _||_};
 ghost use mathlib.Core.List.{[], _∷_, _++_};
 ghost use Prim.Native.Nat.{_+_, _*_, _≤_};
-ghost use lib.ListN.{length};
+ghost use lib.ListN.{length, replicate};
 ghost use lib.Ieee.{isNan};
 ghost use Rattle.spatial_model.specs.declared.header.Header.{Header};
-ghost use Rattle.spatial_model.specs.Layout.{bodyWidth, wordsWidth, numbersWidth};
+ghost use Rattle.spatial_model.specs.Layout.{bodyWidth, wordsWidth, numbersWidth, limitsPlace, motorsPlace};
 ghost use Rattle.spatial_model.specs.Model.{modelOf};
 ghost use Rattle.multibody.specs.Counts.{totalRows};
 ghost use Rattle.multibody.specs.Rules.{rule, refusal, all, atMost};
-ghost use Rattle.multibody.specs.Refusals.{presentOrWorld, bodiesPresent, bodiesApart, finiteParams, finiteWarm, modelRules, storageRule};
-ghost use Rattle.multibody.specs.Finite.{finiteFrom, noNanFrom, finiteMotor};
+ghost use Rattle.multibody.specs.Refusals.{presentOrWorld, bodiesPresent, bodiesApart, finiteParams, finiteWarm, finiteBody, finiteJoint, modelRules, storageRule};
+ghost use Rattle.multibody.specs.Finite.{passesFrom, limitAsks, motorAsks, thrice};
+ghost use Rattle.multibody.specs.Finite.Asks.{finite, noNan};
 ghost use Rattle.spatial_model.specs.Spatial.{jointRules, space, spatial};
-ghost use Rattle.spatial_model.specs.Refusals.{masksFit, linearAlone, finiteVector, finiteRotation, finitePose, finiteBody, limitEnds, finiteMotors, finiteJoint};
+ghost use Rattle.spatial_model.specs.Refusals.{masksFit, linearAlone, finiteVector, finiteRotation, finitePose};
 use crate::counts::body_count;
 use crate::counts::joint_count;
 use crate::counts::row_capacity;
@@ -168,7 +169,7 @@ fn all_bodies_apart(words: &[u32], n: usize) -> bool
 // n numbers from place o on. No number ends the loop early, so that the machine code has no branch for each of them.
 fn finite_from(s: &[f32], o: usize, n: usize) -> bool
     requires { ⌜ o + n ≤ length (now s) ⌝ }
-    ensures { λ r. ⌜ r ≡ finiteFrom (now (s .entry)) o n ⌝ }
+    ensures { λ r. ⌜ r ≡ passesFrom (replicate n finite) (now (s .entry)) o ⌝ }
 {
     let mut finite = true;
     let mut i = 0usize;
@@ -188,7 +189,7 @@ fn is_nan(x: f32) -> bool
 
 fn no_nan_from(s: &[f32], o: usize, n: usize) -> bool
     requires { ⌜ o + n ≤ length (now s) ⌝ }
-    ensures { λ r. ⌜ r ≡ noNanFrom (now (s .entry)) o n ⌝ }
+    ensures { λ r. ⌜ r ≡ passesFrom (replicate n noNan) (now (s .entry)) o ⌝ }
 {
     let mut no_nan = true;
     let mut i = 0usize;
@@ -258,7 +259,7 @@ pub fn finite_warm(warmstart: Warmstart) -> bool
 
 fn all_finite_bodies(bodies: &[f32], n: usize) -> bool
     requires { ⌜ n * bodyWidth ≤ length (now bodies) ⌝ }
-    ensures { λ r. ⌜ r ≡ all 0 n (finiteBody (now (bodies .entry))) ⌝ }
+    ensures { λ r. ⌜ r ≡ all 0 n (finiteBody spatial (now (bodies .entry))) ⌝ }
 {
     let mut i = 0usize;
     while i < n {
@@ -272,7 +273,7 @@ fn all_finite_bodies(bodies: &[f32], n: usize) -> bool
 
 fn finite_motor(s: &[f32], o: usize) -> bool
     requires { ⌜ o + 6 ≤ length (now s) ⌝ }
-    ensures { λ r. ⌜ r ≡ finiteMotor (now (s .entry)) o ⌝ }
+    ensures { λ r. ⌜ r ≡ passesFrom motorAsks (now (s .entry)) o ⌝ }
 {
     if !finite_from(s, o, 4) {
         return false;
@@ -283,7 +284,7 @@ fn finite_motor(s: &[f32], o: usize) -> bool
 // Of a joint whose numbers start at place o, the ends of its limits, and its motors.
 fn limit_ends(s: &[f32], o: usize) -> bool
     requires { ⌜ o + numbersWidth ≤ length (now s) ⌝ }
-    ensures { λ r. ⌜ r ≡ limitEnds (now (s .entry)) o ⌝ }
+    ensures { λ r. ⌜ r ≡ passesFrom (thrice limitAsks) (now (s .entry)) (o + limitsPlace) ⌝ }
 {
     if !no_nan_from(s, o + LIMITS_X, 2) {
         return false;
@@ -296,7 +297,7 @@ fn limit_ends(s: &[f32], o: usize) -> bool
 
 fn finite_motors(s: &[f32], o: usize) -> bool
     requires { ⌜ o + numbersWidth ≤ length (now s) ⌝ }
-    ensures { λ r. ⌜ r ≡ finiteMotors (now (s .entry)) o ⌝ }
+    ensures { λ r. ⌜ r ≡ passesFrom (thrice motorAsks) (now (s .entry)) (o + motorsPlace) ⌝ }
 {
     if !finite_motor(s, o + MOTOR_X) {
         return false;
@@ -310,7 +311,7 @@ fn finite_motors(s: &[f32], o: usize) -> bool
 fn finite_joint(words: &[u32], s: &[f32], j: usize) -> bool
     requires { ⌜ j * wordsWidth + wordsWidth ≤ length (now words) ⌝ }
     requires { ⌜ j * numbersWidth + numbersWidth ≤ length (now s) ⌝ }
-    ensures { λ r. ⌜ r ≡ finiteJoint (now (words .entry)) (now (s .entry)) j ⌝ }
+    ensures { λ r. ⌜ r ≡ finiteJoint spatial (now (words .entry)) (now (s .entry)) j ⌝ }
 {
     let o = j * NUMBERS_WIDTH;
     if !finite_from(s, o, LIMITS_X) {
@@ -328,7 +329,7 @@ fn finite_joint(words: &[u32], s: &[f32], j: usize) -> bool
 fn all_finite_joints(words: &[u32], numbers: &[f32], n: usize) -> bool
     requires { ⌜ n * wordsWidth ≤ length (now words) ⌝ }
     requires { ⌜ n * numbersWidth ≤ length (now numbers) ⌝ }
-    ensures { λ r. ⌜ r ≡ all 0 n (finiteJoint (now (words .entry)) (now (numbers .entry))) ⌝ }
+    ensures { λ r. ⌜ r ≡ all 0 n (finiteJoint spatial (now (words .entry)) (now (numbers .entry))) ⌝ }
 {
     let mut j = 0usize;
     while j < n {
@@ -352,7 +353,7 @@ fn all_finite(
     requires { ⌜ n * bodyWidth ≤ length (now bodies) ⌝ }
     requires { ⌜ joints * wordsWidth ≤ length (now words) ⌝ }
     requires { ⌜ joints * numbersWidth ≤ length (now numbers) ⌝ }
-    ensures { λ r. ⌜ r ≡ (finite && (all 0 n (finiteBody (now (bodies .entry))) && all 0 joints (finiteJoint (now (words .entry)) (now (numbers .entry))))) ⌝ }
+    ensures { λ r. ⌜ r ≡ (finite && (all 0 n (finiteBody spatial (now (bodies .entry))) && all 0 joints (finiteJoint spatial (now (words .entry)) (now (numbers .entry))))) ⌝ }
 {
     if !finite {
         return false;

@@ -1,28 +1,29 @@
 -- `all_finite_bodies` meets its contract. Before turn i, the bodies from i on decide.
 use Prim.Native.Nat.{_-_}
+use mathlib.Core.Path.{_∙_}
 use borrow.Author.Needs.{needs}
-use Rattle.model.specs.Refusals.{finiteBody}
+use Rattle.multibody.specs.Refusals.{finiteBody}
+use Rattle.model.specs.Planar.{planar}
 use Rattle.multibody.proofs.RuleLaws.{holds, fails, Undecided, undecided, still-undecided, one-fails, all-pass}
+use Rattle.model.proofs.Tried.{body-tried}
 use Rattle.model.proofs.refusals.all_finite_bodies.Statement.{statement}
 use Rattle.model.proofs.refusals.all_finite_bodies.Tie as tie
 
 abbrev Inv-loop : tie.InvT-loop
-Inv-loop bodies n i₀ i = Undecided (finiteBody bodies) n i
+Inv-loop bodies n i₀ i = Undecided (finiteBody planar bodies) n i
 
 abbrev μ-loop : tie.MeasureT-loop
 μ-loop bodies n i₀ i = n - i
 
 returns : tie.Need-returns Inv-loop μ-loop
-unfolding finiteBody
 returns c =
     let lt = c .before .before in
-    one-fails _ _ _ (lt .before .loop .inv) (lt .loop-test .taken) (fails (c .before .finite-from .ensures) (c .if1 .taken))
+    one-fails _ _ _ (lt .before .loop .inv) (lt .loop-test .taken) (body-tried _ _ ∙ fails (c .before .finite-from .ensures) (c .if1 .taken))
 
 loop-again : tie.Need-loop-again Inv-loop μ-loop
-unfolding finiteBody
 loop-again c =
     let lt = c .before .before in
-    still-undecided _ _ _ (lt .before .loop .inv) (lt .loop-test .taken) (holds (c .before .finite-from .ensures) (c .if1 .left))
+    still-undecided _ _ _ (lt .before .loop .inv) (lt .loop-test .taken) (body-tried _ _ ∙ holds (c .before .finite-from .ensures) (c .if1 .left))
 
 returns-2 : tie.Need-returns-2 Inv-loop μ-loop
 returns-2 c = all-pass _ _ _ (c .before .loop .inv) (c .loop-test .left)

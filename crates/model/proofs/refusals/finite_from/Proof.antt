@@ -4,23 +4,20 @@ use mathlib.Core.Path.{_≡_, sym, _∙_}
 use mathlib.Core.Bool.{_&&_}
 use native.Mathlib.Nat.{add-zero, sub-zero}
 use borrow.Author.Needs.{needs}
-use lib.ListN.{getD}
-use lib.Ieee.{nan}
-use Rattle.floats.specs.Scalar.{isFinite}
-use Rattle.model.specs.Refusals.{finiteFrom}
-use Rattle.multibody.specs.Rules.{all}
-use Rattle.multibody.proofs.RuleLaws.{all-next, all-over}
+use lib.ListN.{replicate}
+use Rattle.multibody.specs.Finite.{passes, passesFrom}
+use Rattle.multibody.specs.Finite.Asks.{finite}
+use Rattle.multibody.proofs.AskLaws.{run-next, run-over}
 use Rattle.model.proofs.refusals.finite_from.Statement.{statement}
 use Rattle.model.proofs.refusals.finite_from.Tie as tie
 
 abbrev Inv-loop : tie.InvT-loop
-Inv-loop s o n so-far₀ i₀ so-far i = (i ≤ n) × ((so-far && all (o + i) (n - i) (λ p. isFinite (getD s p nan))) ≡ finiteFrom s o n)
+Inv-loop s o n so-far₀ i₀ so-far i = (i ≤ n) × ((so-far && passesFrom (replicate (n - i) finite) s (o + i)) ≡ passesFrom (replicate n finite) s o)
 
 abbrev μ-loop : tie.MeasureT-loop
 μ-loop s o n so-far₀ i₀ so-far i = n - i
 
 loop-holds : tie.Need-loop-holds Inv-loop μ-loop
-unfolding finiteFrom
 loop-holds c = (search needs, rw (add-zero, sub-zero))
 
 add-is-finite : tie.Need-add-is-finite Inv-loop μ-loop
@@ -42,17 +39,18 @@ loop-less : tie.Need-loop-less Inv-loop μ-loop
 loop-less c = search needs
 
 loop-again : tie.Need-loop-again Inv-loop μ-loop
+unfolding passes
 loop-again c =
     let lt = c .before .before in
     let l = lt .before .loop in
     let a = lt .before .before .before .args in
-    (search needs, rw (c .is-finite .ensures) (all-next (λ p. isFinite (getD (a .s .now) p nan)) (l .finite) (a .o) (a .n) (l .i) (lt .loop-test .taken)) ∙ l .inv .1)
+    (search needs, rw (c .is-finite .ensures) (run-next finite (a .s .now) (l .finite) (a .o) (a .n) (l .i) (lt .loop-test .taken)) ∙ l .inv .1)
 
 returns : tie.Need-returns Inv-loop μ-loop
 returns c =
     let l = c .before .loop in
     let a = c .before .before .before .args in
-    sym (all-over (λ p. isFinite (getD (a .s .now) p nan)) (l .finite) (a .o + l .i) (a .n) (l .i) (c .loop-test .left)) ∙ l .inv .1
+    sym (run-over finite (a .s .now) (l .finite) (a .o + l .i) (a .n) (l .i) (c .loop-test .left)) ∙ l .inv .1
 
 pub finite-from-spec : {M : Type 1} → statement M
 finite-from-spec =

@@ -1,7 +1,7 @@
 -- `finite_motor` meets its contract: each test is tried where those before it hold.
 use borrow.Author.Needs.{needs}
-use Rattle.model.specs.Refusals.{finiteMotor}
 use Rattle.multibody.proofs.RuleLaws.{holds, fails}
+use Rattle.multibody.proofs.AskLaws.{motor-tried}
 use Rattle.model.proofs.refusals.finite_motor.Statement.{statement}
 use Rattle.model.proofs.refusals.finite_motor.Tie as tie
 
@@ -9,8 +9,7 @@ finite-from-requires : tie.Need-finite-from-requires
 finite-from-requires c κs = search needs
 
 returns : tie.Need-returns
-unfolding finiteMotor
-returns c = rw (fails (c .before .finite-from .ensures) (c .if1 .taken))
+returns c = rw (motor-tried, fails (c .before .finite-from .ensures) (c .if1 .taken))
 
 add-no-nan-from : tie.Need-add-no-nan-from
 add-no-nan-from c = search needs
@@ -19,8 +18,7 @@ no-nan-from-requires : tie.Need-no-nan-from-requires
 no-nan-from-requires c κs = search needs
 
 returns-2 : tie.Need-returns-2
-unfolding finiteMotor
-returns-2 c = rw (holds (c .before .before .finite-from .ensures) (c .before .if1 .left)) (c .no-nan-from .ensures)
+returns-2 c = rw (motor-tried, holds (c .before .before .finite-from .ensures) (c .before .if1 .left)) (c .no-nan-from .ensures)
 
 pub finite-motor-spec : {M : Type 1} → statement M
 finite-motor-spec =

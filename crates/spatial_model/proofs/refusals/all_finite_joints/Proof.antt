@@ -1,13 +1,14 @@
 -- `all_finite_joints` meets its contract. Before turn j, the joints from j on decide.
 use Prim.Native.Nat.{_-_}
 use borrow.Author.Needs.{needs}
-use Rattle.spatial_model.specs.Refusals.{finiteJoint}
+use Rattle.multibody.specs.Refusals.{finiteJoint}
+use Rattle.spatial_model.specs.Spatial.{spatial}
 use Rattle.multibody.proofs.RuleLaws.{holds, fails, Undecided, undecided, still-undecided, one-fails, all-pass}
 use Rattle.spatial_model.proofs.refusals.all_finite_joints.Statement.{statement}
 use Rattle.spatial_model.proofs.refusals.all_finite_joints.Tie as tie
 
 abbrev Inv-loop : tie.InvT-loop
-Inv-loop words numbers n j₀ j = Undecided (finiteJoint words numbers) n j
+Inv-loop words numbers n j₀ j = Undecided (finiteJoint spatial words numbers) n j
 
 abbrev μ-loop : tie.MeasureT-loop
 μ-loop words numbers n j₀ j = n - j

@@ -1,34 +1,30 @@
 -- `finite_joint` meets its contract: each test is tried where those before it hold.
 use borrow.Author.Needs.{needs}
-use Rattle.spatial_model.specs.Refusals.{finiteJoint}
 use Rattle.multibody.proofs.RuleLaws.{holds, fails}
+use Rattle.spatial_model.proofs.Tried.{joint-tried}
 use Rattle.spatial_model.proofs.refusals.finite_joint.Statement.{statement}
 use Rattle.spatial_model.proofs.refusals.finite_joint.Tie as tie
 
 returns : tie.Need-returns
-unfolding finiteJoint
-returns c = rw (fails (c .before .finite-from .ensures) (c .if1 .taken))
+returns c = rw (joint-tried, fails (c .before .finite-from .ensures) (c .if1 .taken))
 
 returns-2 : tie.Need-returns-2
-unfolding finiteJoint
 returns-2 c =
     let d = c .before .before in
-    rw (holds (d .before .finite-from .ensures) (d .if1 .left), fails (c .before .limit-ends .ensures) (c .if2 .taken))
+    rw (joint-tried, holds (d .before .finite-from .ensures) (d .if1 .left), fails (c .before .limit-ends .ensures) (c .if2 .taken))
 
 returns-3 : tie.Need-returns-3
-unfolding finiteJoint
 returns-3 c =
     let d = c .before .before in
     let e = d .before .before in
-    rw (holds (e .before .finite-from .ensures) (e .if1 .left), holds (d .before .limit-ends .ensures) (d .if2 .left), fails (c .before .finite-motors .ensures) (c .if3 .taken))
+    rw (joint-tried, holds (e .before .finite-from .ensures) (e .if1 .left), holds (d .before .limit-ends .ensures) (d .if2 .left), fails (c .before .finite-motors .ensures) (c .if3 .taken))
 
 returns-4 : tie.Need-returns-4
-unfolding finiteJoint
 returns-4 c =
     let d = c .before in
     let e = d .before .before in
     let f = e .before .before in
-    rw (holds (f .before .finite-from .ensures) (f .if1 .left), holds (e .before .limit-ends .ensures) (e .if2 .left), holds (d .before .finite-motors .ensures) (d .if3 .left)) (c .finite-from2 .ensures)
+    rw (joint-tried, holds (f .before .finite-from .ensures) (f .if1 .left), holds (e .before .limit-ends .ensures) (e .if2 .left), holds (d .before .finite-motors .ensures) (d .if3 .left)) (c .finite-from2 .ensures)
 
 pub finite-joint-spec : {M : Type 1} → statement M
 finite-joint-spec =

@@ -1,17 +1,15 @@
 -- `finite_motor` meets its contract: each test is tried where those before it hold.
 use borrow.Author.Needs.{needs}
-use Rattle.multibody.specs.Finite.{finiteMotor}
 use Rattle.multibody.proofs.RuleLaws.{holds, fails}
+use Rattle.multibody.proofs.AskLaws.{motor-tried}
 use Rattle.spatial_model.proofs.refusals.finite_motor.Statement.{statement}
 use Rattle.spatial_model.proofs.refusals.finite_motor.Tie as tie
 
 returns : tie.Need-returns
-unfolding finiteMotor
-returns c = rw (fails (c .before .finite-from .ensures) (c .if1 .taken))
+returns c = rw (motor-tried, fails (c .before .finite-from .ensures) (c .if1 .taken))
 
 returns-2 : tie.Need-returns-2
-unfolding finiteMotor
-returns-2 c = rw (holds (c .before .before .finite-from .ensures) (c .before .if1 .left)) (c .no-nan-from .ensures)
+returns-2 c = rw (motor-tried, holds (c .before .before .finite-from .ensures) (c .before .if1 .left)) (c .no-nan-from .ensures)
 
 pub finite-motor-spec : {M : Type 1} → statement M
 finite-motor-spec =

@@ -13,9 +13,8 @@ use Rattle.spatial_model.specs.Model.{modelOf}
 use Rattle.multibody.specs.Model.{mostBodies, mostJoints, Model}
 use Rattle.multibody.specs.Counts.{bodyCount, jointCount, rowsBefore, totalRows}
 use Rattle.multibody.specs.Rules.{Rule, rule, refusal, all, atMost}
-use Rattle.multibody.specs.Refusals.{finiteParams, allFinite, modelRules, modelRulesWith}
+use Rattle.multibody.specs.Refusals.{finiteParams, finiteBody, finiteJoint, allFinite, modelRules, modelRulesWith}
 use Rattle.spatial_model.specs.Spatial.{jointRules, space, spatial}
-use Rattle.spatial_model.specs.Refusals.{finiteBody, finiteJoint}
 use Rattle.multibody.proofs.CountLaws.{bodies-fit, joints-words, joints-numbers}
 use Rattle.multibody.proofs.RuleLaws.{holds, fails, no-rules, rule-holds, rule-fails, granted-append, refused-append}
 use Rattle.spatial_model.proofs.refusals.first_refusal.Statement.{statement}
@@ -60,9 +59,9 @@ module _ (m : Model) (arguments handed : Bool) (room : ℕ) {n joints : ℕ} (b 
     joints-fail z = sym (few ∙ refused-append (jointRules (m .bodies) (m .words) joints) last (λ q. z (e ∙ q)) ∙ sym e)
 
     module _ (z : k ≡ 0) {own t : Bool} (o : own ≡ (finiteParams (m .params) && arguments))
-        (f : t ≡ (own && (all 0 n (finiteBody (m .bodies)) && all 0 joints (finiteJoint (m .words) (m .numbers))))) where
+        (f : t ≡ (own && (all 0 n (finiteBody spatial (m .bodies)) && all 0 joints (finiteJoint spatial (m .words) (m .numbers))))) where
       sixth : t ≡ allFinite spatial (m .params) (m .bodies) n (m .words) (m .numbers) joints arguments
-      sixth = f ∙ rw o (together (finiteParams (m .params)) arguments (all 0 n (finiteBody (m .bodies))) (all 0 joints (finiteJoint (m .words) (m .numbers))))
+      sixth = f ∙ rw o (together (finiteParams (m .params)) arguments (all 0 n (finiteBody spatial (m .bodies))) (all 0 joints (finiteJoint spatial (m .words) (m .numbers))))
 
       joints-hold : refusal rules ≡ refusal last
       joints-hold = few ∙ granted-append (jointRules (m .bodies) (m .words) joints) last (omega arith) (sym e ∙ z)
