@@ -1,0 +1,2 @@
+pub mod StudyExports
+pub mod ReadBack
