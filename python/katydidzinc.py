@@ -664,3 +664,6 @@ def seeded(seed):
 _NONE = ctypes.c_uint32()
 
 import katydidzinc_space as space  # noqa: E402: it takes what is above from here
+import katydidzinc_study  # noqa: E402
+
+read, loads, StudyError, Study.text, Study.calls = katydidzinc_study.read, katydidzinc_study.loads, katydidzinc_study.StudyError, katydidzinc_study.text, ()
