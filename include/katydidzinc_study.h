@@ -21,8 +21,11 @@ extern "C" {
 /* ---- Storage. So many bodies, and so many joints, are read: one more than a model may have, so that a load refuses it. */
 #define KATYDIDZINC_TEXT_MOST 129
 
-/* The numbers: dt, length_unit and normalized_max_corrective_velocity; from KATYDIDZINC_TEXT_BODIES on the bodies' records,
- * from KATYDIDZINC_TEXT_JOINTS on the joints' numbers. So many numbers, and words of the joints, are lent. */
+/* The numbers: the three settings, from KATYDIDZINC_TEXT_BODIES on the bodies' records, from KATYDIDZINC_TEXT_JOINTS on the
+ * joints' numbers. So many numbers, and words of the joints, are lent. */
+#define KATYDIDZINC_TEXT_DT 0
+#define KATYDIDZINC_TEXT_LENGTH_UNIT 1
+#define KATYDIDZINC_TEXT_MAX_CORRECTIVE_VELOCITY 2
 #define KATYDIDZINC_TEXT_BODIES 3
 #define KATYDIDZINC_TEXT_JOINTS 1293
 #define KATYDIDZINC_TEXT_NUMBERS 6711
@@ -151,9 +154,9 @@ static inline katydidzinc_text_read katydidzinc_study_read(katydidzinc_study *s,
                                       storage->words, KATYDIDZINC_TEXT_WORDS, storage->names, KATYDIDZINC_TEXT_NAMES);
     }
     if (read.fault == 0) {
-        s->dt = storage->numbers[0];
-        s->length_unit = storage->numbers[1];
-        s->normalized_max_corrective_velocity = storage->numbers[2];
+        s->dt = storage->numbers[KATYDIDZINC_TEXT_DT];
+        s->length_unit = storage->numbers[KATYDIDZINC_TEXT_LENGTH_UNIT];
+        s->normalized_max_corrective_velocity = storage->numbers[KATYDIDZINC_TEXT_MAX_CORRECTIVE_VELOCITY];
         s->built = 0;
         s->bodies = storage->numbers + KATYDIDZINC_TEXT_BODIES;
         s->bodies_len = (size_t)read.bodies * KATYDIDZINC_BODY_WIDTH;

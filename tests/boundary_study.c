@@ -192,7 +192,7 @@ static size_t write_out(size_t room, katydidzinc_text_read told)
         kept[k] = (unsigned char)(k * 11 + room);
     }
     memcpy(at, kept, room);
-    len = katydidzinc_write_study(numbers[0], numbers[1], numbers[2], numbers + KATYDIDZINC_TEXT_BODIES, (size_t)told.bodies * KATYDIDZINC_BODY_WIDTH,
+    len = katydidzinc_write_study(numbers[KATYDIDZINC_TEXT_DT], numbers[KATYDIDZINC_TEXT_LENGTH_UNIT], numbers[KATYDIDZINC_TEXT_MAX_CORRECTIVE_VELOCITY], numbers + KATYDIDZINC_TEXT_BODIES, (size_t)told.bodies * KATYDIDZINC_BODY_WIDTH,
                                   (const uint32_t *)(const void *)first[WORDS], (size_t)told.joints * KATYDIDZINC_WORDS_WIDTH, numbers + KATYDIDZINC_TEXT_JOINTS,
                                   (size_t)told.joints * KATYDIDZINC_NUMBERS_WIDTH, at, room);
     if (memcmp(at + (len <= room ? len : 0), kept + (len <= room ? len : 0), room - (len <= room ? len : 0)) != 0) {
