@@ -1,5 +1,5 @@
 /* The float modes that a caller has to keep: the checked calls find each that is not. */
-#include "katydidzinc.h"
+#include "katydidzinc_study.h"
 
 #include <fenv.h>
 #include <stdio.h>
@@ -7,14 +7,16 @@
 #include <xmmintrin.h>
 #endif
 
-static katydidzinc_study s;
+static katydidzinc_study s, read;
+static katydidzinc_text storage;
 
+/* Of a load, and of a text that is read: 0 is granted and no fault. */
 static int wrong(const char *mode, uint64_t wanted)
 {
-    uint64_t answer = katydidzinc_study_load(&s);
+    uint64_t answer = katydidzinc_study_load(&s), fault = katydidzinc_study_read(&read, &storage, NULL, 0).fault;
     fesetround(FE_TONEAREST);
-    if (answer != wanted) {
-        printf("%s: %lu, not %lu\n", mode, (unsigned long)answer, (unsigned long)wanted);
+    if (answer != wanted || fault != wanted) {
+        printf("%s: %lu and %lu, not %lu\n", mode, (unsigned long)answer, (unsigned long)fault, (unsigned long)wanted);
         return 1;
     }
     return 0;
