@@ -12,8 +12,11 @@
 told, and not run: `study.calls` has their lines. `study.text()` is a model's text. include/katydidzinc_study.h describes the functions, and this module has its names and numbers.
 """
 
-import collections
+from __future__ import annotations
+
 import ctypes
+import os
+from typing import List, NamedTuple, Union
 
 import katydidzinc as kz
 
@@ -59,17 +62,20 @@ FAULTS = {
 class StudyError(ValueError):
     """A text that cannot be read: the `fault`'s number, its `line` and `column` from 1 (a column is counted in bytes), what was `expected` in words, and the `name` of what was read."""
 
-    def __init__(self, fault, line, column, name="text"):
+    def __init__(self, fault: int, line: int, column: int, name: str = "text") -> None:
         super().__init__(fault, line, column, name)
         self.fault, self.line, self.column, self.name = fault, line, column, name
         self.expected = FAULTS.get(fault, "no fault of this library")
 
-    def __str__(self):
+    def __str__(self) -> str:
         return f"{self.name}:{self.line}:{self.column}: {self.expected}"
 
 
-CallLine = collections.namedtuple("CallLine", "line text")
-CallLine.__doc__ = "A call of a study's text that was read and not run: the number of its line, from 1, and its words."
+class CallLine(NamedTuple):
+    """A call of a study's text that was read and not run: the number of its line, from 1, and its words."""
+
+    line: int
+    text: str
 
 
 class _Read(ctypes.Structure):
@@ -88,18 +94,18 @@ kz._lib.katydidzinc_read_study.argtypes, kz._lib.katydidzinc_read_study.restype 
 kz._lib.katydidzinc_write_study.argtypes, kz._lib.katydidzinc_write_study.restype = (ctypes.c_float,) * 3 + _slice * 4, ctypes.c_size_t
 
 
-def _call_lines(text, at):
+def _call_lines(text: bytes, at: int) -> List[CallLine]:
     """The lines from a place on that hold a word, without comments."""
     first = text.count(b"\n", 0, at) + 1
     lines = ((first + i, line.split(b"#")[0].strip(b" \t\r")) for i, line in enumerate(text[at:].split(b"\n")))
     return [CallLine(number, _decoded(words)) for number, words in lines if words]
 
 
-def _decoded(name):
+def _decoded(name: bytes) -> str:
     return name.decode("utf-8", "surrogateescape")
 
 
-def loads(text, name="text"):
+def loads(text: Union[str, bytes, bytearray], name: str = "text") -> kz.Study:
     """The study that a text, str or bytes, describes: a Study with its settings, bodies, joints and names. Its calls are not run: `calls` has their lines, a CallLine each. Where the text has a fault,
     StudyError tells the first, under `name`."""
     if not kz.float_mode():
@@ -115,7 +121,10 @@ def loads(text, name="text"):
         raise StudyError(found.fault, found.line, found.column, name)
     study = kz.Study()
     study.dt, study.length_unit, study.normalized_max_corrective_velocity = numbers[:TEXT_BODIES]
-    named = lambda from_, count: [_decoded(text[names[k] : names[k + 1]]) for k in range(from_, from_ + 2 * count, 2)]
+
+    def named(first: int, count: int) -> List[str]:
+        return [_decoded(text[names[k] : names[k + 1]]) for k in range(first, first + 2 * count, 2)]
+
     study.body_names, study.joint_names = named(0, found.bodies), named(TEXT_JOINT_NAMES, found.joints)
     study.bodies = study._floats(numbers[TEXT_BODIES : TEXT_BODIES + found.bodies * kz.BODY_WIDTH], kz.BODY_WIDTH)
     study.words = study._integers(words[: found.joints * kz.WORDS_WIDTH], kz.WORDS_WIDTH)
@@ -125,13 +134,13 @@ def loads(text, name="text"):
     return study
 
 
-def read(path):
+def read(path: Union[str, "os.PathLike[str]"]) -> kz.Study:
     """The study that a file's text describes, as by loads()."""
     with open(path, "rb") as file:
         return loads(file.read(), str(path))
 
 
-def text(study):
+def text(study: kz.Study) -> str:
     """The text of the study's model, in one spelling: a study with no call, every number as its bits, nothing left out. Names are not kept: bodies are b0, b1, .. and joints j0, j1, ... What loads()
     reads of it is the same model, if its load is not refused by rules 1 to 4; that is proved. Rows, the mark and `calls` are no part of it. A model of more than 128 bodies or joints is refused."""
     slices = [study._slice(study.bodies, "f"), study._slice(study.words, "IL"), study._slice(study.numbers, "f")]

@@ -71,8 +71,8 @@ class Read(unittest.TestCase):
         self.assertEqual(kz.Study().calls, ())
 
     def test_defaults_are_those_of_the_module(self):
-        read = kz.loads("body a\nbody b\njoint j a b\n limits angle 0 1\njoint k world a\n")
-        made = kz.Study([kz.Body("a"), kz.Body("b")], [kz.Joint("j", "a", "b", limits={2: kz.Limits(0.0, 1.0)}), kz.Joint("k", "world", "a")])
+        read = kz.loads("body a\nbody b\njoint j a b\n limit angle\n limits angle 0 1\njoint k world a\n")
+        made = kz.Study([kz.Body("a"), kz.Body("b")], [kz.Joint("j", "a", "b", limit_axes=kz.ANG_X, limits={2: kz.Limits(0.0, 1.0)}), kz.Joint("k", "world", "a")])
         self.assertEqual(held(read)[:3], held(made)[:3])
         self.assertEqual((read.body_names, read.joint_names), (made.body_names, made.joint_names))
         self.assertEqual(len(memoryview(read.rows).cast("B")), len(memoryview(made.rows).cast("B")))
@@ -197,7 +197,7 @@ class Text(unittest.TestCase):
             self.assertEqual(again.calls, [])
 
     def test_of_a_study_made_here(self):
-        s = kz.Study([kz.Body("bob", (1.0, -0.0), inverse_masses=(1e-45, 2.0))], [kz.Joint("pin", "world", "bob", locked_axes=3, frame2=kz.Pose(x=-1.0), limits={0: kz.Limits(-math.inf, math.inf)})])
+        s = kz.Study([kz.Body("bob", (1.0, -0.0), inverse_masses=(1e-45, 2.0))], [kz.Joint("pin", "world", "bob", locked_axes=3, limit_axes=kz.LIN_X, frame2=kz.Pose(x=-1.0), limits={0: kz.Limits(-math.inf, math.inf)})])
         text = s.text()
         self.assertTrue(text.startswith("settings\ndt 0x3C888889\n"))
         self.assertIn("\nbody b0\n", text)
