@@ -16,6 +16,7 @@ ROOT = pathlib.Path(__file__).resolve().parent.parent
 HEADER = ROOT / "include" / "katydidzinc_study.h"
 STUDIES = sorted((ROOT / "examples" / "studies").glob("*.study"))
 KNEE = ROOT / "examples" / "studies" / "knee.study"
+PROGRAM = ROOT / "target" / "bin" / "study"
 
 
 def held(study):
@@ -165,18 +166,16 @@ class Faults(unittest.TestCase):
             with self.assertRaises(FileNotFoundError):
                 kz.read(pathlib.Path(folder) / "none")
 
+    @unittest.skipUnless(PROGRAM.is_file(), "the program study is not linked")
     def test_command(self):
-        """What the command `study` tells of each text, where the program is there."""
-        program = ROOT / "target" / "bin" / "study"
-        if not program.is_file():
-            self.skipTest("the program study is not linked")
+        """What the command `study` tells of each text."""
         with tempfile.TemporaryDirectory() as folder:
             path = pathlib.Path(folder) / "case"
             for text, line, column in self.TEXTS.values():
                 path.write_text(text)
                 with self.assertRaises(kz.StudyError) as raised:
                     kz.read(path)
-                said = subprocess.run([program, path], capture_output=True, text=True).stderr
+                said = subprocess.run([PROGRAM, path], capture_output=True, text=True).stderr
                 self.assertEqual(said, f"{raised.exception}\n")
 
 
@@ -195,6 +194,12 @@ class Text(unittest.TestCase):
             self.assertEqual(again.body_names, [f"b{i}" for i in range(len(s.body_names))])
             self.assertEqual(again.joint_names, [f"j{j}" for j in range(len(s.joint_names))])
             self.assertEqual(again.calls, [])
+
+    @unittest.skipUnless(PROGRAM.is_file(), "the program study is not linked")
+    def test_command(self):
+        """What `study print` prints of each study."""
+        for path in STUDIES:
+            self.assertEqual(subprocess.run([PROGRAM, "print", path], capture_output=True, text=True).stdout, kz.read(path).text())
 
     def test_of_a_study_made_here(self):
         s = kz.Study([kz.Body("bob", (1.0, -0.0), inverse_masses=(1e-45, 2.0))], [kz.Joint("pin", "world", "bob", locked_axes=3, limit_axes=kz.LIN_X, frame2=kz.Pose(x=-1.0), limits={0: kz.Limits(-math.inf, math.inf)})])
