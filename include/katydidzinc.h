@@ -4,7 +4,7 @@
  * numbers, and row storage. A call answers what it grants or the number of a refusal, and a refused call leaves everything as it
  * was. The functions keep nothing between calls, allocate nothing and may run on several threads at once, each on its own slices.
  *
- * In this file: the records, the answers, the calls, motor tables, models drawn from seeds; and, over these, the same calls on a struct, checked for what the library
+ * In this file: the version, the records, the answers, the calls, motor tables, models drawn from seeds; and, over these, the same calls on a struct, checked for what the library
  * cannot see (katydidzinc_study_load and so on), and the Rust's defaults.
  */
 #ifndef KATYDIDZINC_H
@@ -16,6 +16,22 @@
 #ifdef __cplusplus
 extern "C" {
 #endif
+
+/* ---- Version. A program that is linked to a shared object may meet one of another version than its header's. Records are the same where katydidzinc_layout() is
+ * KATYDIDZINC_LAYOUT; else every call would read them wrongly, and a program should stop. */
+
+/* The header's own version: new calls or refusals move the minor number, a record that changes the major one and the layout. */
+#define KATYDIDZINC_VERSION "1.0.0"
+#define KATYDIDZINC_VERSION_MAJOR 1
+#define KATYDIDZINC_VERSION_MINOR 0
+#define KATYDIDZINC_VERSION_PATCH 0
+#define KATYDIDZINC_LAYOUT 1
+
+/* The library's version: major * 1000000 + minor * 1000 + patch. */
+uint32_t katydidzinc_version(void);
+
+/* The number of the library's records, in the plane and in space: another one wherever a record has another width, or its parts another order. */
+uint32_t katydidzinc_layout(void);
 
 /* ---- Records. Storage is flat: record i of a slice starts at i times its width. A part of a record at a slice's end is passed over. A joint
  * is there where both its words and its numbers are whole. Angles are in radians. */

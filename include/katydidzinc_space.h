@@ -1,7 +1,7 @@
 /* Katydidzinc in space: the scalar f32 joint rows of rapier 0.36.1 with three linear and three angular axes, for C and C++ on x86-64.
  *
- * A model in space lies in lent slices as a planar one does, and its calls answer and refuse as the planar ones do: katydidzinc.h says what a caller has to keep, what an answer is, and what each
- * call does. Here are the records' widths, the calls, and the same calls on a struct, checked. A spatial model has no motor tables, no mask changes, no frames and no seeds.
+ * A model in space lies in lent slices as a planar one does, and its calls answer and refuse as the planar ones do: katydidzinc.h says what a caller has to keep, what an answer is, what each
+ * call does, and which version and layout this is. Here are the records' widths, the calls, and the same calls on a struct, checked. A spatial model has no motor tables, no mask changes, no frames and no seeds.
  *
  * A joint locks any of its six axes. Limits and motors are for linear axes only, and no axis is coupled: else the model is refused with 17. A joint has at most nine rows.
  */

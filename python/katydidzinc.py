@@ -32,8 +32,11 @@ try:
 except ImportError:
     numpy = None
 
+__version__ = "1.0.0"
+
 # ---- the header's numbers
 
+VERSION_MAJOR, VERSION_MINOR, VERSION_PATCH, LAYOUT = 1, 0, 0, 1
 WORLD = 4294967295
 MOST_BODIES, MOST_JOINTS, MOST_ROUNDS, MOST_SUBSTEPS, MOST_ROWS = 128, 128, 64, 16, 6
 POSE_RE, POSE_IM, POSE_X, POSE_Y = range(4)
@@ -118,11 +121,23 @@ def _library():
     ]
     for place in places:
         if place and pathlib.Path(place).is_file():
-            return ctypes.CDLL(str(place))
+            return _of_this_layout(ctypes.CDLL(str(place)), place)
     try:
-        return ctypes.CDLL(name)
+        return _of_this_layout(ctypes.CDLL(name), name)
     except OSError:
         raise ImportError(f"{name} is not found: make it by tools/library, or name it in KATYDIDZINC_LIBRARY") from None
+
+
+def _of_this_layout(library, place):
+    """The library, if its records are those of this module."""
+    try:
+        layout, version = library.katydidzinc_layout(), library.katydidzinc_version()
+    except AttributeError:
+        raise ImportError(f"{place} does not say what its records are: it is older than this module, {__version__}") from None
+    if layout != LAYOUT:
+        of = f"{version // 1000000}.{version // 1000 % 1000}.{version % 1000}"
+        raise ImportError(f"{place}, version {of}, has records of layout {layout}; this module, {__version__}, reads those of layout {LAYOUT}: take both of one release")
+    return library
 
 
 _lib = _library()

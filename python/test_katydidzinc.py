@@ -47,6 +47,21 @@ class Header(unittest.TestCase):
         self.assertEqual(calls, set(kz._ARGUMENTS))
 
 
+class Version(unittest.TestCase):
+    def test_library(self):
+        self.assertEqual(kz.__version__, f"{kz.VERSION_MAJOR}.{kz.VERSION_MINOR}.{kz.VERSION_PATCH}")
+        self.assertEqual(kz._lib.katydidzinc_version(), 1000000 * kz.VERSION_MAJOR + 1000 * kz.VERSION_MINOR + kz.VERSION_PATCH)
+
+    def test_other_layout(self):
+        class Other:
+            katydidzinc_layout, katydidzinc_version = staticmethod(lambda: kz.LAYOUT + 1), staticmethod(lambda: 2003004)
+
+        with self.assertRaisesRegex(ImportError, f"elsewhere.so, version 2.3.4, has records of layout {kz.LAYOUT + 1}; this module, {kz.__version__}, reads those of layout {kz.LAYOUT}"):
+            kz._of_this_layout(Other, "elsewhere.so")
+        with self.assertRaisesRegex(ImportError, "elsewhere.so does not say what its records are"):
+            kz._of_this_layout(object(), "elsewhere.so")
+
+
 class Defaults(unittest.TestCase):
     def test_joint(self):
         s = kz.Study([kz.Body(), kz.Body()], [kz.Joint("j", 0, 1)])

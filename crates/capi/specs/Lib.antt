@@ -5,3 +5,4 @@ pub mod ReactionExports
 pub mod SeedExports
 pub mod Stored
 pub mod TableExports
+pub mod Version

@@ -11,6 +11,7 @@ pub mod reactions;
 pub mod seeds;
 pub mod stored;
 pub mod tables;
+pub mod version;
 
 // The report as one number: Over is 2^32 and NaN is 2^33.
 #[no_mangle]

@@ -44,6 +44,6 @@ docs/STUDY.md has all of it, with units and signs; docs/RULES.md the rules that 
 
 pub fn version() {
     out(
-        b"study of katydidzinc, after rapier2d 0.36.1; proved by rattle-kit-5b-plain logic 097e4c862dff5811\n",
+        b"katydidzinc 1.0.0, after rapier2d 0.36.1; proved by rattle-kit-5b-plain logic 097e4c862dff5811\n",
     );
 }
