@@ -42,8 +42,19 @@ docs/STUDY.md has all of it, with units and signs; docs/RULES.md the rules that 
     );
 }
 
+// Which version made a number, and after what.
+fn name() {
+    out(b"katydidzinc 1.0.0, after rapier2d 0.36.1");
+}
+
 pub fn version() {
-    out(
-        b"katydidzinc 1.0.0, after rapier2d 0.36.1; proved by rattle-kit-5b-plain logic 097e4c862dff5811\n",
-    );
+    name();
+    out(b"; proved by rattle-kit-5b-plain logic 097e4c862dff5811\n");
+}
+
+// The last line below a table.
+pub fn made_by() {
+    out(b"by ");
+    name();
+    out(b"\n");
 }

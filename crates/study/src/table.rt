@@ -1,6 +1,7 @@
 // The table of a built model: a line a row, and the rules that its rows came from.
 use crate::counts::is_swept;
 use crate::counts::motors_at;
+use crate::help::made_by;
 use crate::out::out_part;
 use model::calls::Plain;
 use model::calls::read_rows;
@@ -300,9 +301,10 @@ pub fn out_heading(csv: bool) {
     out_part(&line, 0, n);
 }
 
-// The rules that were used, each once, in words.
+// The rules that were used, each once, in words, and the version that made the table.
 pub fn out_rules(used: u32) {
     let mut lines = [0u8; 4608];
     let n = write_rules(&mut lines, used);
     out_part(&lines, 0, n);
+    made_by();
 }

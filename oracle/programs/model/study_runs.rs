@@ -10,7 +10,7 @@ struct Said {
     errors: String,
 }
 
-/// Standard output without the words below reactions and without the rules' words: `rules:` and their numbers.
+/// Standard output without the words below reactions and the line that names the version, and of the rules' words `rules:` and their numbers alone.
 fn without_words(out: &str) -> String {
     let mut text = String::new();
     let mut rules: Option<String> = None;
@@ -29,11 +29,17 @@ fn without_words(out: &str) -> String {
                 r.push_str(&format!(" {}", &n[..3]));
             }
         } else {
-            if let Some(r) = rules.take() {
-                text.push_str(&r);
-                text.push('\n');
+            let named = match rules.take() {
+                Some(r) => {
+                    text.push_str(&r);
+                    text.push('\n');
+                    line.starts_with("by katydidzinc ")
+                }
+                None => false,
+            };
+            if !named {
+                text.push_str(line);
             }
-            text.push_str(line);
         }
     }
     if let Some(r) = rules.take() {
