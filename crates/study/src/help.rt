@@ -9,6 +9,7 @@ pub fn help() {
   study FILE...        the same for each file
   study check FILE...  reads and loads, runs nothing
   study draw FILE      prints a picture of bodies, joints and row ids, in SVG
+  study report FILE    prints a page for a supplement, in HTML: tables and picture, with each impulse's rule, definition and contract
   study print FILE     prints the model as a study, every number as its bits
   study seeded SEED    prints the study that a seed from 0 to 4294967295 draws, a load that others can repeat
   study example NAME   prints an example: knee, finger, finger_cut, wing, pendulum, leg, gait
