@@ -7,3 +7,5 @@ pub mod ReadLaws
 pub mod Places
 pub mod StudyLaws
 pub mod FirstRows
+pub mod LineLaws
+pub mod DefaultLaws

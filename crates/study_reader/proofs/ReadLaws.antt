@@ -8,7 +8,7 @@ use native.Mathlib.Omega.{arith}
 use borrow.Author.Tests.{ltb-true, leb-true}
 use lib.Bits.{bitOr}
 use lib.Dec.{ltb, leb}
-use Rattle.model.specs.Layout.{bodyWidth, wordsWidth, numbersWidth}
+use Rattle.model.specs.Layout.{bodyWidth, wordsWidth, numbersWidth, motorWidth}
 use Rattle.study_reader.specs.Words.{nextWord, isEmpty, sameBytes, bytesOf}
 use Rattle.study_reader.specs.Faults.{faultAxis}
 use Rattle.study_reader.specs.Storage.{mostItems, settingsWidth, jointsPlace, numbersSize, wordsSize, bodyBase, jointBase, wordsBase}
@@ -65,21 +65,21 @@ meaning-all test (l ∷ ls) other bytes a o =
     (meaning-all test ls other bytes (and-second (test (l .means)) (allMean test ls) a) o)
 
 smallField : Field → Bool
-smallField f = leb (f .place) 41 && leb (f .stride) 6
+smallField f = ltb (f .place) numbersWidth && leb (f .stride) motorWidth
 
 field-is-small : (text : List ℕ) (w : Word) → smallField (fieldOf text w) ≡ true
 unfolding allMean smallField
 field-is-small text w = meaning-all smallField _ _ (bytesOf text w) refl refl
 
-pub field-place-small : (text : List ℕ) (w : Word) → fieldOf text w .place ≤ 41
+pub field-place-small : (text : List ℕ) (w : Word) → fieldOf text w .place < numbersWidth
 unfolding smallField
-field-place-small text w = leb-true _ _ (and-first _ _ (field-is-small text w))
+field-place-small text w = ltb-true _ _ (and-first _ _ (field-is-small text w))
 
-pub field-stride-small : (text : List ℕ) (w : Word) → fieldOf text w .stride ≤ 6
+pub field-stride-small : (text : List ℕ) (w : Word) → fieldOf text w .stride ≤ motorWidth
 unfolding smallField
-field-stride-small text w = leb-true _ _ (and-second (leb (fieldOf text w .place) 41) _ (field-is-small text w))
+field-stride-small text w = leb-true _ _ (and-second (ltb (fieldOf text w .place) numbersWidth) _ (field-is-small text w))
 
-pub small-product : {a s : ℕ} → a ≤ 2 → s ≤ 6 → a * s ≤ 12
+pub small-product : {a s : ℕ} → a ≤ 2 → s ≤ motorWidth → a * s ≤ 2 * motorWidth
 small-product h k = mul-le-mul h k
 
 -- ---- axes of a mask

@@ -7,7 +7,7 @@ use lib.Ieee.{Float}
 use lib.ListN.{set}
 use Rattle.floats.specs.Operators.{bits}
 use Rattle.model.specs.Layout.{posePlace, frame1Place, frame2Place, limitsPlace, limitsWidth, motorsPlace, motorWidth, softnessPlace, centerPlace}
-use Rattle.study_reader.specs.Storage.{bodyBase, jointBase}
+use Rattle.study_reader.specs.Storage.{dtPlace, lengthUnitPlace, maxCorrectiveVelocityPlace, bodyBase, jointBase}
 use Rattle.study_reader.specs.Keywords.{noItem, settingsItem, bodyItem, jointItem, callsItem, repeatKeyword, endKeyword}
 use Rattle.study_reader.specs.declared.draft.State.{State}
 
@@ -106,7 +106,7 @@ least = bits 0xFF7F_FFFF
 
 -- dt, 1/60; length_unit, 1; normalized_max_corrective_velocity, 3
 abbrev pub settingsDefaults : List Default
-settingsDefaults = default 0 (bits 0x3C88_8889) ∷ default 1 one ∷ default 2 (bits 0x4040_0000) ∷ []
+settingsDefaults = default dtPlace (bits 0x3C88_8889) ∷ default lengthUnitPlace one ∷ default maxCorrectiveVelocityPlace (bits 0x4040_0000) ∷ []
 
 -- the cosine of the rotation
 abbrev pub bodyDefaults : List Default

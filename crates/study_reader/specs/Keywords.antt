@@ -6,6 +6,7 @@ use Prim.Native.String.{String}
 use Rattle.texts.specs.Ascii.{ascii}
 use Rattle.model.specs.Layout.{posePlace, inertiaPlace, massPlace, velocityPlace, frame1Place, frame2Place, limitsPlace, limitsWidth, limitSeed, motorsPlace, motorWidth, motorSeed, softnessPlace, dofsPlace}
 use Rattle.study_reader.specs.Words.{sameBytes, bytesOf}
+use Rattle.study_reader.specs.Storage.{dtPlace, lengthUnitPlace, maxCorrectiveVelocityPlace}
 use Rattle.study_reader.specs.declared.words.Word.{Word}
 use Rattle.study_reader.specs.declared.fields.Field.{Field}
 
@@ -59,9 +60,9 @@ noField = field noItem 0 0 0
 
 abbrev pub settingsFields : List (Named Field)
 settingsFields =
-    named "dt" (field settingsItem 0 1 0) ∷
-    named "length_unit" (field settingsItem 1 1 0) ∷
-    named "normalized_max_corrective_velocity" (field settingsItem 2 1 0) ∷
+    named "dt" (field settingsItem dtPlace 1 0) ∷
+    named "length_unit" (field settingsItem lengthUnitPlace 1 0) ∷
+    named "normalized_max_corrective_velocity" (field settingsItem maxCorrectiveVelocityPlace 1 0) ∷
     []
 
 abbrev pub bodyFields : List (Named Field)

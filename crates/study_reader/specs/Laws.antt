@@ -34,7 +34,7 @@ WholeText =
     → linesRead text (length text) d .state .fault ≡ 0
     → length text ≤ linesRead text (length text) d .state .at
 
--- However the storage is lent: a fault's place is in the text or at its end, and there are at most 129 bodies and 129 joints.
+-- However the storage is lent: a fault's place is in the text or at its end, and there are at most `mostItems` bodies and joints.
 pub record Inside (text : List ℕ) (d : Draft) : Type 0 where
   pub fault : d .state .«fault_at» ≤ length text
   pub bodies : d .state .bodies ≤ mostItems

@@ -10,3 +10,5 @@ pub mod Draft
 pub mod Items
 pub mod Study
 pub mod Laws
+pub mod LineLaws
+pub mod DefaultLaws

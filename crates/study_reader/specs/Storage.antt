@@ -11,9 +11,18 @@ use Rattle.model.specs.Layout.{bodyWidth, wordsWidth, numbersWidth}
 abbrev pub mostItems : ℕ
 mostItems = 129
 
--- dt, length_unit, normalized_max_corrective_velocity
+-- the settings
 abbrev pub settingsWidth : ℕ
 settingsWidth = 3
+
+abbrev pub dtPlace : ℕ
+dtPlace = 0
+
+abbrev pub lengthUnitPlace : ℕ
+lengthUnitPlace = 1
+
+abbrev pub maxCorrectiveVelocityPlace : ℕ
+maxCorrectiveVelocityPlace = 2
 
 -- where the joints' numbers start
 abbrev pub jointsPlace : ℕ

@@ -4,14 +4,15 @@ use mathlib.Core.Bool.{Bool, true, false, cond, not, _&&_}
 use mathlib.Core.List.{List}
 use Prim.Native.Nat.{ℕ, zero, suc, _+_, _*_}
 use lib.Dec.{eqb, ltb, leb}
-use lib.Ieee.{Float, lt}
-use lib.ListN.{length, getD, set, replicate}
+use lib.Ieee.{Float, nan, lt}
+use lib.ListN.{length, getD, set, drop, replicate}
 use Rattle.floats.specs.Operators.{bits, _⊕_, _⊖_, _⊗_}
 use Rattle.floats.specs.Constants.{half, pi}
+use Rattle.rows.specs.declared.integration_parameters.IntegrationParameters.{IntegrationParameters}
 use Rattle.model.specs.Layout.{body1Place, body2Place, centerChoicePlace, limitsPlace, limitsWidth, centerPlace}
 use Rattle.study_reader.specs.Words.{nextLine}
 use Rattle.study_reader.specs.Faults.{faultOpenRepeat}
-use Rattle.study_reader.specs.Storage.{numbersSize, wordsSize, jointNames, namesSize, bodyBase, jointBase, wordsBase, kept}
+use Rattle.study_reader.specs.Storage.{settingsWidth, dtPlace, lengthUnitPlace, maxCorrectiveVelocityPlace, jointsPlace, numbersSize, wordsSize, jointNames, namesSize, bodyBase, jointBase, wordsBase, kept}
 use Rattle.study_reader.specs.Keywords.{settingsItem, bodyItem, jointItem}
 use Rattle.study_reader.specs.Draft.{Draft, draft, withState, start, faulty, reached, opened, called, itemBase, puts, settingsDefaults, bodyDefaults, jointDefaults}
 use Rattle.study_reader.specs.Items.{byAngle, noCenter, lineOf}
@@ -140,3 +141,19 @@ readStudy text numbers origins words names =
 -- The study that a text describes: in storage of its full size, with nothing in it before.
 unfoldable pub studyOf : List ℕ → Draft
 studyOf text = readStudy text (replicate numbersSize (bits 0)) (replicate (numbersSize + wordsSize) 0) (replicate wordsSize 0) (replicate namesSize 0)
+
+-- ---- what was read, as a model has it
+
+-- the settings, the bodies' numbers and the joints' numbers; the joints' words are the study's
+abbrev pub settingsRead : Draft → IntegrationParameters
+settingsRead d = record {
+  dt = getD (d .numbers) dtPlace nan;
+  «length_unit» = getD (d .numbers) lengthUnitPlace nan;
+  «normalized_max_corrective_velocity» = getD (d .numbers) maxCorrectiveVelocityPlace nan;
+}
+
+abbrev pub bodiesRead : Draft → List Float
+bodiesRead d = drop settingsWidth (d .numbers)
+
+abbrev pub jointsRead : Draft → List Float
+jointsRead d = drop jointsPlace (d .numbers)

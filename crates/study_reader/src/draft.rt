@@ -9,6 +9,9 @@ use crate::fields::JOINT_ITEM;
 use crate::fields::NO_ITEM;
 use crate::keywords::END;
 use crate::keywords::REPEAT;
+use crate::storage::DT;
+use crate::storage::LENGTH_UNIT;
+use crate::storage::MAX_CORRECTIVE_VELOCITY;
 use crate::storage::body_base;
 use crate::storage::joint_base;
 use crate::storage::set;
@@ -161,9 +164,9 @@ pub fn item_base(st: State) -> usize
 pub fn default_settings(numbers: &mut [f32])
     ensures { λ _. ⌜ now (numbers .exit) ≡ puts 0 settingsDefaults (now (numbers .entry)) ⌝ }
 {
-    set(numbers, 0, from_bits(0x3c88_8889));
-    set(numbers, 1, 1.0);
-    set(numbers, 2, 3.0);
+    set(numbers, DT, from_bits(0x3c88_8889));
+    set(numbers, LENGTH_UNIT, 1.0);
+    set(numbers, MAX_CORRECTIVE_VELOCITY, 3.0);
 }
 
 pub fn default_body(numbers: &mut [f32], i: u32)

@@ -11,6 +11,13 @@ use model::layout::WORDS_WIDTH;
 // One more body or joint than a model may have is kept, so that a load can refuse it.
 pub const MOST: u32 = 129;
 
+// The settings.
+pub const DT: usize = 0;
+
+pub const LENGTH_UNIT: usize = 1;
+
+pub const MAX_CORRECTIVE_VELOCITY: usize = 2;
+
 // Where bodies and joints start in the numbers, after the three of the settings; and how many numbers, words and offsets there are.
 pub const BODIES: usize = 3;
 

@@ -1,7 +1,8 @@
 use borrow.Author.Tests.{eq-eqb, ne-eqb, lt-ltb, le-ltb}
 use native.Mathlib.Omega.{arith}
 use borrow.Author.Needs.{needs}
-use Prim.Native.Nat.{_≤_}
+use Prim.Native.Nat.{_≤_, _<_}
+use Rattle.model.specs.Layout.{numbersWidth, motorWidth}
 use Rattle.study_reader.specs.Items.{fieldNumbers}
 use Rattle.study_reader.proofs.ReadLaws.{field-place-small, field-stride-small, small-product}
 use Rattle.study_reader.proofs.items.read_field.Statement.{statement}
@@ -39,15 +40,15 @@ mul-read-numbers : tie.Need-mul-read-numbers
 mul-read-numbers c =
     let b2 = c .before in
     let fo = b2 .before .before .before .before .before in
-    let s : fo .field-of .result .stride ≤ 6 = rw (fo .field-of .ensures) (field-stride-small _ _) in
+    let s : fo .field-of .result .stride ≤ motorWidth = rw (fo .field-of .ensures) (field-stride-small _ _) in
     omega (arith, small-product (b2 .if2 .left) s)
 
 add-read-numbers : tie.Need-add-read-numbers
 add-read-numbers c =
     let b2 = c .before .before in
     let fo = b2 .before .before .before .before .before in
-    let s : fo .field-of .result .stride ≤ 6 = rw (fo .field-of .ensures) (field-stride-small _ _) in
-    let p : fo .field-of .result .place ≤ 41 = rw (fo .field-of .ensures) (field-place-small _ _) in
+    let s : fo .field-of .result .stride ≤ motorWidth = rw (fo .field-of .ensures) (field-stride-small _ _) in
+    let p : fo .field-of .result .place < numbersWidth = rw (fo .field-of .ensures) (field-place-small _ _) in
     omega (arith, small-product (b2 .if2 .left) s)
 
 read-numbers-requires-2 : tie.Need-read-numbers-requires-2
