@@ -1,16 +1,21 @@
 """Tests of the Python module: its numbers are the header's, its calls are the library's, and what the library cannot see is refused before a call."""
 
 import array
+import copy
 import ctypes
+import fractions
 import math
 import pathlib
+import pickle
+import random
 import re
 import struct
 import unittest
 
 import katydidzinc as kz
 
-HEADER = pathlib.Path(__file__).resolve().parent.parent / "include" / "katydidzinc.h"
+ROOT = pathlib.Path(__file__).resolve().parent.parent
+HEADER = ROOT / "include" / "katydidzinc.h"
 
 
 def pendulum():
@@ -27,7 +32,7 @@ def pendulum():
 
 
 def held(study):
-    return [bytes(memoryview(s).cast("B")) for s in (study.bodies, study.words, study.numbers, study.rows)] + [study.built]
+    return [memoryview(s).tobytes() for s in (study.bodies, study.words, study.numbers, study.rows)] + [study.built]
 
 
 class Header(unittest.TestCase):
@@ -98,7 +103,185 @@ class Defaults(unittest.TestCase):
         self.assertEqual(list(memoryview(kz.Study([kz.Body()]).bodies).cast("B").cast("f")), [1.0] + [0.0] * 9)
 
 
+class Given(unittest.TestCase):
+    """What a caller types, in the ways that a study's text has."""
+
+    def numbers(self, **given):
+        return list(kz.flat(kz.Study([kz.Body(**given)]).bodies))
+
+    def test_inverse(self):
+        def nearest(x):
+            """The f32 nearest to a fraction, ties to even, by whole numbers alone."""
+            low = kz._rounded(float(x))
+            near = [struct.unpack("f", struct.pack("I", struct.unpack("I", struct.pack("f", low))[0] + d))[0] for d in (-1, 0, 1)]
+            return min(near, key=lambda y: (abs(fractions.Fraction(y) - x), struct.unpack("I", struct.pack("f", y))[0] % 2))
+
+        draw = random.Random(1)
+        # the largest have inverses below the smallest normal f32
+        for bits in [draw.randrange(0x1E800000, 0x7F800000) for _ in range(2000)] + [0x7F7FFFFF, 0x7F000001, 0x7E800001, 0x3F800001]:
+            x = struct.unpack("f", struct.pack("I", bits))[0]
+            self.assertEqual((kz.inverse(x), kz.inverse(-x)), (nearest(1 / fractions.Fraction(x)), -nearest(1 / fractions.Fraction(x))))
+        self.assertEqual([kz.inverse(x) for x in (0.0, -0.0, 1.0e-46, 1.0e-20, -1.0e-20, math.inf)], [0.0] * 6)
+        self.assertNotEqual(kz.inverse(1.1e-20), 0.0)
+        self.assertTrue(math.isnan(kz.inverse(math.nan)))
+
+    def test_sines(self):
+        """The table of sines that the proved crate has."""
+        text = (ROOT / "crates" / "floats" / "src" / "sines.rt").read_text()
+        table = [int(n) for n in re.findall(r"^    (\d+),$", text, re.M)]
+        self.assertEqual((len(table), [kz._sine_entry(k) for k in range(4097)]), (4097, table))
+
+    def test_rotation(self):
+        for angle in (0.0, -0.0, 0.1, 1.0, -1.0, 1.5707964, 3.1415927, -3.1415927, 4.0, 6.2831855, 100.0, -1024.0, 1.0e-12):
+            re, im = kz.rotation_from_angle(angle)
+            x = kz._rounded(angle)
+            self.assertAlmostEqual(re, math.cos(x), delta=1.0e-6)
+            self.assertAlmostEqual(im, math.sin(x), delta=1.0e-6)
+            self.assertEqual((kz._rounded(re), kz._rounded(im)), (re, im))
+        self.assertEqual(struct.pack("ff", *kz.rotation_from_angle(-0.0)), struct.pack("ff", 1.0, 0.0))
+        for x in (math.nan, math.inf, -math.inf):
+            self.assertTrue(all(map(math.isnan, kz.rotation_from_angle(x))))
+        self.assertEqual(kz.rotation_from_angle(3.0e38), kz.rotation_from_angle(kz._rounded(3.0e38)))
+
+    def test_ways(self):
+        turned = list(kz.rotation_from_angle(0.3))
+        self.assertEqual(self.numbers(angle=0.3)[:2], turned)
+        self.assertEqual(self.numbers(mass=3.0, inertia=7.0)[4:7], [kz.inverse(7.0), kz.inverse(3.0), kz.inverse(3.0)])
+        self.assertEqual(self.numbers(inverse_mass=0.25)[5:7], [0.25, 0.25])
+        self.assertEqual(self.numbers(mass=0, inertia=0)[4:7], [0.0, 0.0, 0.0])
+        self.assertEqual(kz.Pose(1.0, 2.0, angle=0.3)._list(), turned + [1.0, 2.0])
+        self.assertEqual((kz.Pose(re=0.5)._list(), kz.Pose(im=0.5)._list()), ([0.5, 0.0, 0.0, 0.0], [1.0, 0.5, 0.0, 0.0]))
+        s = pendulum()
+        s.place("bob", 1.0, 2.0, angle=0.3)
+        self.assertEqual(list(kz.flat(s.bodies)[:4]), turned + [1.0, 2.0])
+        for wrong in (
+            dict(mass=1.0, inverse_mass=1.0), dict(mass=1.0, inverse_masses=(1.0, 1.0)), dict(inverse_mass=1.0, inverse_masses=(1.0, 1.0)), dict(inertia=1.0, inverse_inertia=1.0),
+            dict(angle=0.0, rotation=(1.0, 0.0)),
+        ):
+            with self.assertRaisesRegex(ValueError, "^body 'bob': " + " and ".join(sorted(wrong, key=lambda w: ("rotation", "angle", "mass", "inverse_mass", "inverse_masses", "inertia", "inverse_inertia").index(w)))):
+                kz.Body("bob", **wrong)
+        for wrong in (dict(re=1.0, angle=0.0), dict(im=1.0, angle=0.0)):
+            with self.assertRaises(ValueError):
+                kz.Pose(**wrong)
+            with self.assertRaises(ValueError):
+                s.place("bob", 0.0, 0.0, **wrong)
+        with self.assertRaisesRegex(ValueError, "center and center_angle"):
+            kz.Joint("pin", "world", "bob", center=(1.0, 0.0), center_angle=0.0)
+
+    def test_lengths(self):
+        for field in ("position", "rotation", "inverse_masses", "velocity"):
+            for wrong in ((1.0,), (1.0, 2.0, 3.0)):
+                with self.assertRaisesRegex(ValueError, f"^body 'bob': {field}: 2 numbers are wanted, not {len(wrong)}"):
+                    kz.Body("bob", **{field: wrong})
+            with self.assertRaisesRegex(TypeError, f"^body 'bob': {field}: 2 numbers"):
+                kz.Body("bob", **{field: 1.0})
+        for field in ("mass", "inertia", "angle", "angular_velocity", "inverse_inertia"):
+            with self.assertRaisesRegex(TypeError, f"^body 'bob': {field} is no number: 'one'"):
+                kz.Body("bob", **{field: "one"})
+        for wrong in (dict(impulses=(0.0, 0.0)), dict(center=(1.0,))):
+            with self.assertRaisesRegex(ValueError, "^joint 'pin': "):
+                kz.Joint("pin", "world", "bob", **wrong)
+        # a record that is changed afterwards is looked at where a study is made of it
+        body = kz.Body("bob")
+        body.position = (1.0, 2.0, 3.0)
+        with self.assertRaisesRegex(ValueError, "^body 'bob': position"):
+            kz.Study([body])
+
+    def test_axes(self):
+        self.assertEqual([kz.mask(a) for a in ("", "x y", "angle", "x,y, angle", ["y", 2], 5, "x x", (), 9)], [0, 3, 4, 7, 6, 5, 1, 0, 9])
+        self.assertEqual([kz.axis_number(a) for a in ("x", "y", "angle", 0, 2)], [0, 1, 2, 0, 2])
+        for wrong in ("z", ["rx"], [3], [-1]):
+            with self.assertRaises(ValueError):
+                kz.mask(wrong)
+        with self.assertRaisesRegex(ValueError, "^joint 'pin', locked_axes: 'angel' is no axis: did you mean 'angle'"):
+            kz.Joint("pin", "world", "bob", locked_axes="x angel")
+        masks = lambda **given: list(kz.flat(kz.Study([kz.Body()], [kz.Joint("j", kz.WORLD, 0, **given)]).words))[2:6]
+        self.assertEqual(masks(locked_axes="x y", coupled_axes="angle"), [3, 0, 0, 4])
+        # an axis that limits or motors name is limited or driven, unless the mask says otherwise
+        self.assertEqual(masks(limits={"angle": kz.Limits(0.0, 1.0)}, motors={"x": kz.Motor(), 1: kz.Motor()}), [0, 4, 3, 0])
+        self.assertEqual(masks(limits={"angle": kz.Limits(0.0, 1.0)}, limit_axes=0, motors=[kz.Motor()] * 3, motor_axes="y"), [0, 0, 2, 0])
+        for wrong, error in ((dict(limits={"z": kz.Limits()}), ValueError), (dict(limits={"x": kz.Motor()}), TypeError), (dict(motors=[kz.Motor()] * 4), ValueError), (dict(limits={"x": kz.Limits(), 0: kz.Limits()}), ValueError)):
+            with self.assertRaisesRegex(error, "^joint 'pin', "):
+                kz.Joint("pin", "world", "bob", **wrong)
+        s = pendulum()
+        s.set_masks("pin", locked_axes="x", limit_axes="", motor_axes="y angle")
+        self.assertEqual(list(kz.flat(s.words)[2:6]), [1, 0, 6, 0])
+
+    def test_names(self):
+        for make, words in (
+            (lambda: kz.Body(angular_velocty=1.0), "^Body has no 'angular_velocty': did you mean 'angular_velocity'"),
+            (lambda: kz.Joint("j", 0, 1, lock_axes="x"), "^Joint has no 'lock_axes': did you mean 'locked_axes'"),
+            (lambda: kz.Motor(target_velocity=1.0), "^Motor has no 'target_velocity': did you mean 'target_vel'"),
+            (lambda: kz.Limits(minimum=1.0), "^Limits has no 'minimum'"),
+            (lambda: kz.Pose(angel=1.0), "^Pose has no 'angel': did you mean 'angle'"),
+            (lambda: kz.Study(joint=[]), "^Study has no 'joint': did you mean 'joints'"),
+            (lambda: pendulum().build(warn=1.0), "did you mean 'warm'"),
+            (lambda: pendulum().frame(sweep=1), "did you mean 'sweeps'"),
+            (lambda: pendulum().set_masks(0, lock="x"), "^Study.set_masks has no 'lock'"),
+        ):
+            with self.assertRaisesRegex(TypeError, words):
+                make()
+        for record, name in ((kz.Body(), "angularvelocity"), (kz.Joint("j", 0, 1), "limit_axis"), (kz.Motor(), "maxforce"), (kz.Limits(), "mim"), (kz.Pose(), "z")):
+            with self.assertRaisesRegex(AttributeError, f"^{type(record).__name__} has no '{name}'"):
+                setattr(record, name, 1.0)
+        s = pendulum()
+        for call, words in (
+            (lambda: s.read_velocity("bop"), "^no body is named 'bop': did you mean 'bob'"), (lambda: s.read_rows("pim"), "^no joint is named 'pim': did you mean 'pin'"),
+            (lambda: kz.Study([kz.Body("thigh"), kz.Body("shank")], [kz.Joint("knee", "thigh", "shnk")]), "^no body is named 'shnk': did you mean 'shank'"),
+            (lambda: kz.Study([kz.Body("a"), kz.Body("a")]).read_velocity("a"), "^more than one body is named 'a'"),
+        ):
+            with self.assertRaisesRegex(ValueError, words):
+                call()
+        self.assertEqual((s.body_number("world"), s.body_number("bob"), s.body_number(0), s.joint_number("pin")), (kz.WORLD, 0, 0, 0))
+
+    def test_copy(self):
+        s = pendulum()
+        for other in (s.copy(), copy.copy(s), copy.deepcopy(s), pickle.loads(pickle.dumps(s))):
+            self.assertEqual(held(other), held(s))
+            other.build()
+            self.assertNotEqual(held(other), held(s))
+        self.assertEqual(repr(s), "<katydidzinc.Study of 1 bodies and 1 joints, not built>")
+
+
 class Calls(unittest.TestCase):
+    def test_empty(self):
+        s = kz.Study()
+        s.load()
+        self.assertEqual((s.build(), s.sweep(4), s.table(), s.reactions(), s.residuals(), s.frame()), (0, [], [], [], [], []))
+        self.assertEqual((len(str(s.table()).splitlines()), len(s.table().csv().splitlines()), len(kz.flat(s.bodies))), (1, 1, 0))
+        self.assertEqual(len(s.simulate(3)), 4)
+        with self.assertRaises(kz.Refused):
+            s.set_masks(0, "x")
+        loose = kz.Study([kz.Body("stone")])
+        loose.load()
+        self.assertEqual((loose.build(), loose.table()), (0, []))
+
+    def test_pandas(self):
+        s = pendulum()
+        s.load()
+        s.build()
+        s.sweep(4)
+        try:
+            import pandas
+        except ImportError:
+            for call in (s.table().to_pandas, s.reactions().to_pandas, s.simulate(1).to_pandas):
+                with self.assertRaisesRegex(ImportError, "needs pandas, which is not installed"):
+                    call()
+            print("pandas: left out, because it is not installed")
+            return
+        rows, found = s.table().to_pandas(), s.table()
+        self.assertEqual(list(rows.columns), list(kz.TableRow._fields))
+        self.assertEqual([tuple(row) for row in rows.itertuples(index=False)], [tuple(row) for row in found])
+        reactions = s.reactions().to_pandas()
+        self.assertEqual(list(reactions.columns), ["joint", "body1 x", "body1 y", "body1 angular", "body2 x", "body2 y", "body2 angular", "along x", "along y", "moment"])
+        r = s.reactions()[0]
+        self.assertEqual(list(reactions.iloc[0]), ["pin", *r.body1, *r.body2, *r.along, r.moment])
+        empty = kz.Study()
+        empty.load()
+        empty.build()
+        self.assertEqual((list(empty.table().to_pandas().columns), len(empty.reactions().to_pandas())), (list(kz.TableRow._fields), 0))
+        self.assertIsInstance(rows, pandas.DataFrame)
+
     def test_a_step(self):
         s = pendulum()
         s.load()
@@ -320,9 +503,14 @@ class Calls(unittest.TestCase):
 
             matplotlib.use("Agg")
         except ImportError:
-            with self.assertRaises(ImportError):
-                pendulum().plot()
-            self.skipTest("matplotlib is not installed")
+            s = pendulum()
+            s.load()
+            s.build()
+            for call in (s.plot, s.simulate(1).plot, s.simulate(1).animate):
+                with self.assertRaisesRegex(ImportError, "needs matplotlib, which is not installed"):
+                    call()
+            print("plots: left out, because matplotlib is not installed")
+            return
         import tempfile
 
         s = pendulum()
@@ -332,6 +520,14 @@ class Calls(unittest.TestCase):
             path = pathlib.Path(folder) / "impulses.png"
             s.plot(path)
             self.assertTrue(path.stat().st_size > 1000)
+            motion = s.simulate(8, gravity=(0.0, -9.81))
+            motion.plot(pathlib.Path(folder) / "time.png")
+            motion.animate(pathlib.Path(folder) / "motion.gif", speed=0.5)
+            nothing = kz.Study().simulate(0)
+            nothing.plot(pathlib.Path(folder) / "nothing.png")
+            nothing.animate(pathlib.Path(folder) / "nothing.gif")
+            sizes = [file.stat().st_size > 1000 for file in sorted(pathlib.Path(folder).iterdir())]
+            self.assertEqual(sizes, [True] * 5)
 
 
 class Refusals(unittest.TestCase):
@@ -398,6 +594,74 @@ class Refusals(unittest.TestCase):
         s.rows = array.array("f", [0.0] * 71)
         self.refused(kz.SMALL_STORAGE, s, lambda: s.set_masks(1))
         s.set_masks(0, limit_axes=0)
+
+    def test_places(self):
+        def place(study, call=None, **changes):
+            for name, value in changes.items():
+                setattr(study, name, value)
+            with self.assertRaises(kz.Refused) as caught:
+                (call or study.load)()
+            refused = caught.exception
+            again = pickle.loads(pickle.dumps(refused))
+            self.assertEqual((again, repr(again), str(again), again.__dict__), (refused, repr(refused), str(refused), refused.__dict__))
+            self.assertEqual(eval(repr(refused), {"Refused": kz.Refused, "Place": kz.Place}), refused)
+            self.assertIn(f"rule {refused.number}: {refused.rule}", str(refused))
+            self.assertTrue(refused.place is None or str(refused).endswith(f"; here: {refused.place}"))
+            return refused.number, refused.place and tuple(refused.place)
+
+        def two(body={}, joint={}):
+            """Two bodies and two joints, the second of each as wanted."""
+            return kz.Study(
+                [kz.Body("one"), kz.Body("two", **body)], [kz.Joint("first", "world", "one"), kz.Joint("second", **{"body1": "one", "body2": "two", **joint})],
+            )
+
+        many = [kz.Body(f"b{i}") for i in range(130)]
+        self.assertEqual(place(kz.Study(many)), (1, ("body", "b128", 128, "")))
+        self.assertEqual(place(kz.Study(many[:2], [kz.Joint(f"j{i}", 0, 1) for i in range(129)])), (2, ("joint", "j128", 128, "")))
+        for k, name in enumerate(("locked_axes", "limit_axes", "motor_axes", "coupled_axes")):
+            self.assertEqual(place(two(joint={name: 8 + k})), (3, ("joint", "second", 1, f"{name} {8 + k}")))
+        self.assertEqual(place(two(joint=dict(body2=7))), (4, ("joint", "second", 1, "body2 7")))
+        self.assertEqual(place(two(joint=dict(body1=2))), (4, ("joint", "second", 1, "body1 2")))
+        self.assertEqual(place(two(joint=dict(body2="one"))), (5, ("joint", "second", 1, "both are one")))
+        self.assertEqual(place(two(joint=dict(body1="world", body2=kz.WORLD))), (5, ("joint", "second", 1, "both are world")))
+        for body, words in (
+            (dict(rotation=(math.nan, 0.0)), "rotation re nan"), (dict(rotation=(1.0, math.inf)), "rotation im inf"), (dict(position=(-math.inf, 0.0)), "position x -inf"),
+            (dict(position=(0.0, math.nan)), "position y nan"), (dict(inverse_inertia=math.inf), "inverse_inertia inf"), (dict(inverse_masses=(math.nan, 1.0)), "inverse_masses x nan"),
+            (dict(inverse_masses=(1.0, math.nan)), "inverse_masses y nan"), (dict(angle=math.inf), "rotation re nan"),
+        ):
+            self.assertEqual(place(two(body=body)), (6, ("body", "two", 1, words)))
+        for joint, words in (
+            (dict(frame1=kz.Pose(re=math.nan)), "frame1 re nan"), (dict(frame1=kz.Pose(y=math.inf)), "frame1 y inf"), (dict(frame2=kz.Pose(math.nan)), "frame2 x nan"),
+            (dict(limits={"y": kz.Limits(math.nan, math.inf)}), "limits y min nan"), (dict(limits={"angle": kz.Limits(0.0, math.nan)}), "limits angle max nan"),
+            (dict(motors={"x": kz.Motor(target_vel=math.inf)}), "motors x target_vel inf"), (dict(motors={"y": kz.Motor(damping=math.nan)}), "motors y damping nan"),
+            (dict(motors={"angle": kz.Motor(max_force=math.nan)}), "motors angle max_force nan"), (dict(natural_frequency=math.inf), "natural_frequency inf"),
+            (dict(damping_ratio=math.nan), "damping_ratio nan"), (dict(center=(math.nan, 0.0)), "center re nan"), (dict(center=(1.0, math.nan)), "center im nan"),
+            (dict(center_angle=math.inf), "center_angle inf"),
+        ):
+            self.assertEqual(place(two(joint=joint)), (6, ("joint", "second", 1, words)))
+        # what rule 6 does not ask for is passed over
+        fine = two(body=dict(velocity=(math.nan, math.inf), angular_velocity=math.nan), joint=dict(limits={"x": kz.Limits(-math.inf, math.inf, math.nan)}, motors={"x": kz.Motor(max_force=math.inf, impulse=math.nan)}, impulses=(math.nan,) * 3))
+        fine.load()
+        self.assertEqual(place(fine, dt=math.nan), (6, ("setting", "dt", None, "nan")))
+        self.assertEqual(place(two(), length_unit=1.0e39), (6, ("setting", "length_unit", None, "inf")))
+        self.assertEqual(place(two(joint=dict(center_angle=-1025.0))), (12, ("joint", "second", 1, "center_angle -1025.0")))
+        self.assertEqual(place(two(), dt=-1.0), (7, ("setting", "dt", None, "-1.0")))
+        s, own = pendulum(), ("call", "", None, "")
+        self.assertEqual(place(s, lambda: s.set_masks(0, 8)), (3, own))
+        self.assertEqual(place(s, lambda: s.build(math.nan)), (6, own))
+        self.assertEqual(place(s, lambda: s.place(0, math.inf, 0.0)), (6, own))
+        self.assertEqual(place(s, lambda: s.frame(warm=math.nan)), (6, own))
+        self.assertEqual(place(s, s.warm_start), (10, None))
+        s.build()
+        self.assertEqual(place(s, lambda: s.sweep(65)), (9, own))
+        self.assertEqual(place(s, lambda: s.frame(1, 17)), (16, own))
+        self.assertEqual(place(s, lambda: s.read_rows(3)), (11, ("joint", "", 3, "")))
+        self.assertEqual(place(s, lambda: s.read_velocity(4)), (11, ("body", "", 4, "")))
+        stone = kz.Study([kz.Body("stone", velocity=(kz.MAX, 0.0))], dt=4.0)
+        self.assertEqual(place(stone, stone.frame), (6, ("call", "", None, "the poses that it would give")))
+        self.assertEqual(str(kz.Refused("load", 3, kz.Place("joint", "knee", 1, "locked_axes 8"))), "load is refused by rule 3: a mask exceeds 7, in space 63; here: joint 'knee' (number 1), locked_axes 8")
+        self.assertEqual(str(kz.Refused("sweep", 10)), "sweep is refused by rule 10: the model is not built")
+        self.assertEqual(len({kz.Refused("sweep", 10), kz.Refused("sweep", 10), kz.Refused("sweep", 9)}), 2)
 
     def test_short(self):
         s = pendulum()
@@ -475,4 +739,5 @@ class Arrays(unittest.TestCase):
         self.assertEqual(struct.pack("f", kz.MAX), struct.pack("I", 0x7F7FFFFF))
 
 
-unittest.main(verbosity=0)
+if __name__ == "__main__":
+    unittest.main(verbosity=0)

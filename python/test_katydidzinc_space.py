@@ -4,6 +4,7 @@ import array
 import ctypes
 import math
 import pathlib
+import pickle
 import re
 import struct
 import unittest
@@ -28,7 +29,7 @@ def hand():
 
 
 def held(study):
-    return [bytes(memoryview(s).cast("B")) for s in (study.bodies, study.words, study.numbers, study.rows)] + [study.built]
+    return [memoryview(s).tobytes() for s in (study.bodies, study.words, study.numbers, study.rows)] + [study.built]
 
 
 def floats(s):
@@ -96,7 +97,69 @@ class Records(unittest.TestCase):
                 space.Study([space.Body(**wrong)])
 
 
+    def test_ways(self):
+        numbers = lambda **given: list(floats(space.Study([space.Body(**given)]).bodies))[7:16]
+        inverse = kz.inverse
+        self.assertEqual(numbers(mass=3.0, inertia=(2.0, 5.0, 7.0)), [inverse(2.0), 0.0, 0.0, inverse(5.0), 0.0, inverse(7.0), *[inverse(3.0)] * 3])
+        self.assertEqual(numbers(inverse_mass=0.25, inertia=(0, 0, 0)), [0.0] * 6 + [0.25] * 3)
+        for wrong in (dict(mass=1.0, inverse_masses=(1.0,) * 3), dict(mass=1.0, inverse_mass=1.0), dict(inertia=(1.0,) * 3, inverse_inertia=(1.0,) * 6)):
+            with self.assertRaisesRegex(ValueError, "^body 'hand': .* are ways of giving one thing"):
+                space.Body("hand", **wrong)
+        with self.assertRaisesRegex(ValueError, "^body 'hand': inertia: 3 numbers are wanted, not 6"):
+            space.Body("hand", inertia=(1.0,) * 6)
+
+    def test_names(self):
+        for make, words in (
+            (lambda: space.Body(angular_velocty=(0.0,) * 3), "^Body has no 'angular_velocty': did you mean 'angular_velocity'"),
+            (lambda: space.Joint("j", 0, 1, lock_axes="x"), "^Joint has no 'lock_axes': did you mean 'locked_axes'"), (lambda: space.Pose(rotations=1), "did you mean 'rotation'"),
+            (lambda: hand().place("hand", 0.0, 0.0, 0.0, rotaton=(0.0,) * 4), "did you mean 'rotation'"),
+        ):
+            with self.assertRaisesRegex(TypeError, words):
+                make()
+        with self.assertRaisesRegex(ValueError, "^joint 'j', locked_axes: 'rxx' is no axis: did you mean 'rx'"):
+            space.Joint("j", 0, 1, "x rxx")
+        with self.assertRaisesRegex(ValueError, "^no body is named 'hamd': did you mean 'hand'"):
+            hand().read_velocity("hamd")
+        with self.assertRaises(AttributeError):
+            space.Body().mass = 1.0
+
+
 class Calls(unittest.TestCase):
+    def test_empty(self):
+        s = space.Study()
+        s.load()
+        self.assertEqual((s.build(), s.sweep(4), s.table(), s.reactions()), (0, [], [], []))
+
+    def test_pandas(self):
+        s = hand()
+        s.load()
+        s.build()
+        s.sweep(4)
+        try:
+            import pandas  # noqa: F401
+        except ImportError:
+            print("pandas: left out, because it is not installed")
+            return
+        self.assertEqual([tuple(row) for row in s.table().to_pandas().itertuples(index=False)], [tuple(row) for row in s.table()])
+        reactions, [r] = s.reactions().to_pandas(), s.reactions()
+        names = [f"{body} {part} {axis}" for body in ("body1", "body2") for part in ("force", "moment") for axis in "xyz"]
+        self.assertEqual((list(reactions.columns), list(reactions.iloc[0])), (["joint", *names], ["wrist", *r.body1.force, *r.body1.moment, *r.body2.force, *r.body2.moment]))
+
+    def test_many(self):
+        """Studies in space, by a pool of processes."""
+        calls = kz.Calls("load", "build", ("sweep", 4), "reactions")
+        studies = [hand() for _ in range(20)]
+        for k, study in enumerate(studies):
+            study.dt = (k - 3) / 64
+        wanted = []
+        for study in studies:
+            try:
+                wanted.append(calls(study.copy()))
+            except kz.Refused as refused:
+                wanted.append(refused)
+        found = kz.run_many(studies, calls)
+        self.assertEqual((found, repr(found), [type(one).__name__ for one in found[2:4]]), (wanted, repr(wanted), ["Refused", "Reactions"]))
+
     def test_a_step(self):
         s = hand()
         s.load()
@@ -257,6 +320,34 @@ class Refusals(unittest.TestCase):
         for call in (lambda: s.read_rows(1), lambda: s.read_velocity(1), lambda: s.read_velocity(kz.WORLD), lambda: s.place(7, 0.0, 0.0, 0.0)):
             self.refused(kz.ABSENT, s, call)
 
+    def test_places(self):
+        def place(body={}, joint={}, **settings):
+            s = space.Study([space.Body("one"), space.Body("two", **body)], [space.Joint("first", "world", "one"), space.Joint("second", **{"body1": "one", "body2": "two", **joint})], **settings)
+            with self.assertRaises(kz.Refused) as caught:
+                s.load()
+            self.assertEqual(pickle.loads(pickle.dumps(caught.exception)), caught.exception)
+            return caught.exception.number, tuple(caught.exception.place)
+
+        second = lambda words: ("joint", "second", 1, words)
+        self.assertEqual(place(joint=dict(locked_axes=64)), (3, second("locked_axes 64")))
+        self.assertEqual(place(joint=dict(limit_axes=8)), (17, second("limit_axes 8")))
+        self.assertEqual(place(joint=dict(motor_axes="rx")), (17, second("motor_axes 8")))
+        self.assertEqual(place(joint=dict(coupled_axes="x")), (17, second("coupled_axes 1")))
+        self.assertEqual(place(joint=dict(body2=9)), (4, second("body2 9")))
+        self.assertEqual(place(joint=dict(body2="one")), (5, second("both are one")))
+        for body, words in (
+            (dict(rotation=(0.0, math.nan, 0.0, 1.0)), "rotation qy nan"), (dict(position=(0.0, 0.0, math.inf)), "position z inf"),
+            (dict(inverse_inertia=(1.0, 0.0, 0.0, 1.0, math.nan, 1.0)), "inverse_inertia m23 nan"), (dict(inverse_masses=(1.0, 1.0, math.inf)), "inverse_masses z inf"),
+        ):
+            self.assertEqual(place(body=body), (6, ("body", "two", 1, words)))
+        for joint, words in (
+            (dict(frame1=space.Pose(rotation=(0.0, 0.0, 0.0, math.nan))), "frame1 qw nan"), (dict(frame2=space.Pose(z=math.inf)), "frame2 z inf"), (dict(limits={"z": kz.Limits(math.nan, 0.0)}), "limits z min nan"),
+            (dict(motors={"y": kz.Motor(stiffness=math.inf)}), "motors y stiffness inf"), (dict(damping_ratio=math.nan), "damping_ratio nan"),
+        ):
+            self.assertEqual(place(joint=joint), (6, second(words)))
+        self.assertEqual(place(dt=math.nan), (6, ("setting", "dt", None, "nan")))
+        self.assertEqual(place(dt=-1.0), (7, ("setting", "dt", None, "-1.0")))
+
     def test_infinite_ends(self):
         s = space.Study([space.Body("b")], [space.Joint("j", "world", "b", limits={"z": kz.Limits(-math.inf, math.inf)}, motors={"z": kz.Motor(max_force=math.inf)})])
         s.load()
@@ -284,4 +375,5 @@ class Refusals(unittest.TestCase):
         self.assertEqual(list(out), [7.0] * 5)
 
 
-unittest.main(verbosity=0)
+if __name__ == "__main__":
+    unittest.main(verbosity=0)
