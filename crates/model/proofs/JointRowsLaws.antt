@@ -1,11 +1,10 @@
 -- Arrays of six that hold a joint's rows and ids: how many they hold, and which. What is read of them in turn is multibody's.
 use Prim.Native.Nat.{ℕ, _<_}
-use mathlib.Core.Path.{_≡_, refl, ap, _∙_}
+use mathlib.Core.Path.{_≡_, ap, _∙_}
 use mathlib.Core.Bool.{true}
 use mathlib.Core.List.{List}
 use lib.ListN.{length, getD}
 use lib.Ieee.{Float}
-use Rattle.floats.specs.Operators.{bits}
 use Rattle.rows.specs.GenericJoint.{isEnabled}
 use Rattle.rows.specs.RowIds.{filled, rowIdsArray}
 use Rattle.rows.specs.Update.{rowsArray, blankRow}
@@ -20,7 +19,7 @@ use Rattle.rows.specs.declared.joint_velocity_constraint.Rows.{Rows}
 use Rattle.rows.specs.declared.row_ids.RowId.{RowId}
 use Rattle.rows.specs.declared.row_ids.RowIds.{RowIds}
 use Rattle.rows.proofs.RowArrays.{rowsArray-len, rowsArray-rows, rowsArray-filled, rowIdsArray-len, rowIdsArray-id}
-use Rattle.multibody.specs.JointRows.{jointIds, rowCount, impulsesAt, rowMasksAt}
+use Rattle.multibody.specs.JointRows.{jointIds, rowCount, rowMasksAt}
 use Rattle.multibody.specs.Calls.{rowsFrom}
 use Rattle.multibody.proofs.JointRowsLaws.{few-rows, count-built}
 use Rattle.multibody.proofs.StoredRows.{rowsFrom-length}
@@ -31,11 +30,10 @@ use Rattle.model.proofs.PlanarLaws.{planar-laws}
 
 -- the array of the rows that are made: their number, and the rows themselves
 module _ (params : IntegrationParameters) (substep : ℕ) (warm : Warmstart) (body1 body2 : SolverPose) (words : List ℕ) (numbers : List Float) (j : ℕ)
-    (rows : List Float) (first n : ℕ) {joint : ImpulseJoint} {prevs : List Float} {made : Rows}
-    (on : isEnabled (enabledAt words j) ≡ true) (e : joint ≡ jointAt words numbers j) (p : prevs ≡ filled 6 (bits 0) (impulsesAt plane rows first n))
+    {joint : ImpulseJoint} (prevs : List Float) {made : Rows} (on : isEnabled (enabledAt words j) ≡ true) (e : joint ≡ jointAt words numbers j)
     (m : made ≡ rowsArray (builderUpdateOf params substep warm body1 body2 joint prevs)) where
   count : length (builderUpdateOf params substep warm body1 body2 joint prevs) ≡ rowCount plane words j
-  count = count-built planar-laws params substep warm body1 body2 words numbers j rows first n on e p
+  count = count-built planar-laws params substep warm body1 body2 words numbers j prevs on e
 
   pub built-len : made .len ≡ rowCount plane words j
   built-len = ap (λ m. m .len) m ∙ rowsArray-len (builderUpdateOf params substep warm body1 body2 joint prevs) ∙ count

@@ -30,12 +30,12 @@ use Rattle.model.specs.Store.{putTarget, jointAt, jointOf, dataOf}
 use Rattle.model.specs.MotorTargets.{setRecord, setRecords, setTable}
 use Rattle.multibody.proofs.Tests.{by-cases}
 use Rattle.multibody.proofs.Footprints.{SameBut, same-self, same-then}
-use Rattle.model.proofs.Keeps.{Stored, putTarget-same}
+use Rattle.model.proofs.Keeps.{PlanarStored, putTarget-same}
 use Rattle.model.proofs.StoreLaws.{length-putTarget, num-putTarget, num-putTarget-kept, num-putTarget-other, jointAt-putTarget, jointAt-putTarget-other}
 
 -- ---- numbers
 
-records-same : (joints : ℕ) (es : List Entry) (s : List Float) → AllFit joints es → SameBut numbersWidth Stored s (setRecords s es)
+records-same : (joints : ℕ) (es : List Entry) (s : List Float) → AllFit joints es → SameBut numbersWidth PlanarStored s (setRecords s es)
 unfolding setRecords
 records-same joints [] s a = same-self s
 records-same joints (e ∷ es) s a =
@@ -43,14 +43,14 @@ records-same joints (e ∷ es) s a =
     (records-same joints es (setRecord s e) (a .1))
 
 -- a table stores what may be stored, and one that is refused nothing
-granted-same : (joints : ℕ) (s : List Float) (t : Table) → (tableRefusal t ≡ 0 → Granted joints t) → SameBut numbersWidth Stored s (setTable s t)
+granted-same : (joints : ℕ) (s : List Float) (t : Table) → (tableRefusal t ≡ 0 → Granted joints t) → SameBut numbersWidth PlanarStored s (setTable s t)
 unfolding setTable tableRefusal
 granted-same joints s (granted es) g =
     let r = g refl in
-    subst (λ t. SameBut numbersWidth Stored s (setTable s t)) (sym (r .holds)) (records-same joints (r .records) s (r .fit))
+    subst (λ t. SameBut numbersWidth PlanarStored s (setTable s t)) (sym (r .holds)) (records-same joints (r .records) s (r .fit))
 granted-same joints s (refused k) g = same-self s
 
-pub table-same : (joints : ℕ) (bytes : List ℕ) (s : List Float) → SameBut numbersWidth Stored s (setTable s (readTable joints bytes))
+pub table-same : (joints : ℕ) (bytes : List ℕ) (s : List Float) → SameBut numbersWidth PlanarStored s (setTable s (readTable joints bytes))
 table-same joints bytes s = granted-same joints s (readTable joints bytes) (granted-fit joints mostRecords bytes)
 
 -- ---- a walk over the bytes of a table that is granted

@@ -36,8 +36,7 @@ use Rattle.multibody.proofs.Strided.{record-past}
 use Rattle.multibody.proofs.Laws.{SameJoint, Given, BodyRoom, JointRoom, Laws}
 use Rattle.multibody.proofs.CountLaws as AnyCounts
 use Rattle.multibody.proofs.TwoStudies as AnyStudies
-use Rattle.model.specs.Layout.{rowWidth, wordsWidth, centerChoicePlace}
-use Rattle.model.specs.Records.{word}
+use Rattle.model.specs.Layout.{rowWidth}
 use Rattle.model.specs.Store.{rowAt, putRow, rowNumbers, jointAt, masksAt, enabledAt, putSeed, solverPoseAt, putPose}
 use Rattle.model.specs.MotorTargets.{setRecords, setTable}
 use Rattle.model.specs.Planar.{tableRules, plane, planar}
@@ -48,7 +47,7 @@ use Rattle.model.proofs.WritebackLaws.{jointAt-putSeed-writeback}
 use Rattle.model.proofs.MotorTargetLaws.{table-same, records-named}
 use Rattle.model.proofs.NewMasks.{put-reworded, masksAt-apart, jointAt-apart, named-put, rule-put, unfit-rule}
 use Rattle.model.proofs.FirstRows.{first-reworded, masksAt-first, jointAt-first, maskRules-first}
-use Rattle.model.proofs.Keeps.{putVel-same, solverPoseAt-same, putPose-same, Stored, contentRules-same, putSeed-same}
+use Rattle.model.proofs.Keeps.{putVel-same, solverPoseAt-same, putPose-same, centerRead, contentRules-same, putSeed-same}
 
 -- ---- joints
 
@@ -96,9 +95,9 @@ unfolding rowAt
 impulse-read s k = rw add-zero
 
 update-length : (params : IntegrationParameters) (substep : ℕ) (warm : Warmstart) (b1 b2 : SolverPose) (words : List ℕ) (n : List Float) (j : ℕ) (last : List Float)
-    → length last ≡ 6 → length (builderUpdateOf params substep warm b1 b2 (jointAt words n j) last) ≡ length (rowIds 2 1 (masksAt words j))
+    → length (builderUpdateOf params substep warm b1 b2 (jointAt words n j) last) ≡ length (rowIds 2 1 (masksAt words j))
 unfolding jointAt masksAt
-update-length params substep warm b1 b2 words n j last six = length-builderUpdateOf params substep warm b1 b2 (jointAt words n j) last six
+update-length params substep warm b1 b2 words n j last = length-builderUpdateOf params substep warm b1 b2 (jointAt words n j) last
 
 no-row-read : (params : IntegrationParameters) (substep : ℕ) (warm : Warmstart) (b1 b2 : SolverPose) (a : ImpulseJoint) (last last′ : List Float) → readsRows warm substep ≡ false
     → builderUpdateOf params substep warm b1 b2 a last ≡ builderUpdateOf params substep warm b1 b2 a last′
@@ -178,8 +177,7 @@ planar-laws = record {
   solverPoseAt-putPose = pose-placed;
   solverPoseAt-putPose-other = solverPoseAt-putPose-other;
   velAt-putPose = velAt-putPose;
-  Stored = Stored;
-  stored-passes = λ words j c x _ s. s .1 (word wordsWidth words j centerChoicePlace);
+  contentReads = centerRead;
   contentRules-same = λ words s. contentRules-same s words;
   putSeed-same = putSeed-same;
   jointAt-putSeed-other = jointAt-putSeed-other;

@@ -19,7 +19,7 @@ use Rattle.rows.specs.declared.generic_joint.Masks.{Masks}
 use Rattle.rows.specs.declared.generic_joint.JointEnabled.{JointEnabled}
 use Rattle.rows.specs.declared.joint_constraint_builder.Warmstart.{Warmstart}
 use Rattle.rows.specs.declared.joint_velocity_constraint.WritebackId.{WritebackId}
-use Rattle.rows.proofs.Filled.{set-filled, length-filled}
+use Rattle.rows.proofs.Filled.{set-filled}
 use Rattle.rows.proofs.RowIdsLaws.{no-ids}
 use Rattle.multibody.specs.Model.{Model}
 use Rattle.multibody.specs.Store.{Store, Stepped}
@@ -188,11 +188,11 @@ module _ {sys : System} (laws : Laws sys) where
 
   -- as many rows are made as the joint has ids
   pub length-builtRows : (params : IntegrationParameters) (substep : ℕ) (warm : Warmstart) (bodies : List Float) (words : List ℕ) (numbers : List Float) (j : ℕ) (last : List Float)
-      → length last ≡ mostRows → length (builtRows store params bodies words numbers j warm substep last) ≡ rowCount store words j
+      → length (builtRows store params bodies words numbers j warm substep last) ≡ rowCount store words j
   unfolding builtRows rowCount jointIds
-  length-builtRows params substep warm bodies words numbers j last most =
+  length-builtRows params substep warm bodies words numbers j last =
       by-cases (isEnabled (enabledAt words j))
-      (λ on. rw (on, masks-enabled words j on) (laws .length-update params substep warm (solverPoseAt bodies (body1At words j)) (solverPoseAt bodies (body2At words j)) words numbers j last most))
+      (λ on. rw (on, masks-enabled words j on) (laws .length-update params substep warm (solverPoseAt bodies (body1At words j)) (solverPoseAt bodies (body2At words j)) words numbers j last))
       (λ off. rw (off, ids-disabled words j off))
 
   -- and at most the most
@@ -201,14 +201,12 @@ module _ {sys : System} (laws : Laws sys) where
   few-rows words j e =
       rw e (by-cases (isEnabled (enabledAt words j)) (λ on. rw (masks-enabled words j on) (laws .few-ids words j)) (λ off. rw (ids-disabled words j off) (omega arith)))
 
-  -- the rows of an enabled joint, made from what is read in turn
+  -- the rows of an enabled joint
   pub count-built : (params : IntegrationParameters) (substep : ℕ) (warm : Warmstart) (body1 body2 : SolverPose) (words : List ℕ) (numbers : List Float) (j : ℕ)
-      (rows : List Float) (first n : ℕ) {joint : ImpulseJoint} {prevs : List Float}
-      → isEnabled (enabledAt words j) ≡ true → joint ≡ jointAt words numbers j → prevs ≡ filled mostRows (bits 0) (impulsesAt store rows first n)
-      → length (builderUpdateOf params substep warm body1 body2 joint prevs) ≡ rowCount store words j
+      {joint : ImpulseJoint} (prevs : List Float) → isEnabled (enabledAt words j) ≡ true → joint ≡ jointAt words numbers j → length (builderUpdateOf params substep warm body1 body2 joint prevs) ≡ rowCount store words j
   unfolding rowCount jointIds
-  count-built params substep warm body1 body2 words numbers j rows first n {prevs = prevs} on e p =
-      rw (e, masks-enabled words j on) (laws .length-update params substep warm body1 body2 words numbers j prevs (rw p (length-filled (bits 0) mostRows (impulsesAt store rows first n))))
+  count-built params substep warm body1 body2 words numbers j prevs on e =
+      rw (e, masks-enabled words j on) (laws .length-update params substep warm body1 body2 words numbers j prevs)
 
   -- one more impulse read
   pub impulse-turn : (s : List Float) (k i : ℕ) {out : List Float} → i < mostRows → out ≡ filled mostRows (bits 0) (impulsesAt store s k i)

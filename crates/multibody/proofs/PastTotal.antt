@@ -8,7 +8,6 @@ use lib.Ieee.{Float}
 use Rattle.floats.specs.Operators.{bits}
 use Rattle.rows.specs.RowIds.{filled}
 use Rattle.rows.specs.declared.joint_constraint_builder.Warmstart.{Warmstart}
-use Rattle.rows.proofs.Filled.{length-filled}
 use Rattle.multibody.specs.Store.{Store}
 use Rattle.multibody.specs.System.{System}
 use Rattle.multibody.specs.JointRows.{State, state, rowCount, putRows, impulsesAt, buildJoint, sweepRow, sweepJoint, removeBiasJoint, builtRows}
@@ -79,7 +78,7 @@ module _ {sys : System} (laws : Laws sys) where
         let last = impulsesAt store s (rowsBefore store (m .words) j) (rowCount store (m .words) j) in
         let prevs = filled mostRows (bits 0) last in
         rows-past total (builtRows store (m .params) (m .bodies) (m .words) (m .numbers) j warm substep prevs) s (rowsBefore store (m .words) j)
-        (rw (length-builtRows laws (m .params) substep warm (m .bodies) (m .words) (m .numbers) j prevs (length-filled (bits 0) mostRows last)) (ends j h))
+        (rw (length-builtRows laws (m .params) substep warm (m .bodies) (m .words) (m .numbers) j prevs) (ends j h))
 
     sweep-past : (j : ℕ) (st : State) → j < jointCount store (m .words) (m .numbers) → Past total (st .rows) (sweepOne store (m .words) j st .rows)
     unfolding sweepOne

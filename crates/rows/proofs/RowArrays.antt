@@ -94,14 +94,12 @@ module _ (k : Masks) where
 -- ---- the rows that the builder makes
 
 module _ (params : IntegrationParameters) (substep : ℕ) (warm : Warmstart) (body1 body2 : SolverPose) (joint : ImpulseJoint) where
-  pub length-builderUpdateOf : (prevs : List Float) → length prevs ≡ 6
-      → length (builderUpdateOf params substep warm body1 body2 joint prevs) ≡ length (rowIds 2 1 (joint .«data» .masks))
+  pub length-builderUpdateOf : (prevs : List Float) → length (builderUpdateOf params substep warm body1 body2 joint prevs) ≡ length (rowIds 2 1 (joint .«data» .masks))
   unfolding builderUpdateOf
-  length-builderUpdateOf prevs six =
+  length-builderUpdateOf prevs =
       let cx : RowContext = jointContextOf params body1 body2 joint in
       length-warmedAll withImpulse warm substep (seedOf joint) (rowIds 2 1 (joint .«data» .masks)) prevs (updateOf cx) (length-updateOf cx ∙ rw context-joint)
 
-  pub reads-no-row : (warm ≡ Cold) ⊎ (substep ≡ 0) → (ps qs : List Float) → length ps ≡ 6 → length qs ≡ 6
-      → builderUpdateOf params substep warm body1 body2 joint ps ≡ builderUpdateOf params substep warm body1 body2 joint qs
-  reads-no-row (inl e) ps qs p q = rw e (cold params body1 body2 substep joint ps ∙ sym (cold params body1 body2 substep joint qs))
-  reads-no-row (inr e) ps qs p q = rw e (first-reads-no-row params body1 body2 warm joint ps qs)
+  pub reads-no-row : (warm ≡ Cold) ⊎ (substep ≡ 0) → (ps qs : List Float) → builderUpdateOf params substep warm body1 body2 joint ps ≡ builderUpdateOf params substep warm body1 body2 joint qs
+  reads-no-row (inl e) ps qs = rw e (cold params body1 body2 substep joint ps ∙ sym (cold params body1 body2 substep joint qs))
+  reads-no-row (inr e) ps qs = rw e (first-reads-no-row params body1 body2 warm joint ps qs)

@@ -20,11 +20,13 @@ use Rattle.multibody.specs.JointRecords.{axisOf}
 use Rattle.multibody.specs.Finite.{passes}
 use Rattle.multibody.specs.Finite.Asks.{free}
 use Rattle.multibody.proofs.RuleLaws.{both, all-below}
-use Rattle.multibody.proofs.AskLaws.{isFree, front-finite}
+use Rattle.multibody.proofs.AskLaws.{isFree, free-passes, front-finite}
 use Rattle.multibody.proofs.Footprints.{SameBut, Free, Passing, same-self, set-same, puts-same, kept}
 use Rattle.spatial_model.specs.Layout.{bodyWidth, posePlace, velocityPlace, numbersWidth}
 use Rattle.spatial_model.specs.Store.{solverPoseAt, velNumbers, putVel, poseNumbers, putPose, putSeed, seedIndex, seedAxes}
 use Rattle.spatial_model.specs.Refusals.{bodyAsks, jointAsks, finiteVector, finiteRotation, finitePose}
+use Rattle.multibody.proofs.Laws.{Stored}
+use Rattle.spatial_model.specs.Spatial.{spatial}
 use Rattle.spatial_model.proofs.StoreLaws.{seed-index-below, solverPoseAt-cong}
 
 -- ---- bodies
@@ -63,12 +65,12 @@ seed-free (Dof i) h = all-below (λ i. isFree (getD jointAsks (seedIndex (Dof i)
 seed-free (Limit i) h = all-below (λ i. isFree (getD jointAsks (seedIndex (Limit i)) free)) 3 refl i h
 seed-free (Motor i) h = all-below (λ i. isFree (getD jointAsks (seedIndex (Motor i)) free)) 3 refl i h
 
-pub putSeed-same : (n : List Float) (j : ℕ) (id : WritebackId) (p : Float) → SameBut numbersWidth (Free jointAsks) n (putSeed n j id p)
+pub putSeed-same : (n : List Float) (j : ℕ) (id : WritebackId) (p : Float) → SameBut numbersWidth (Stored spatial (λ c. false)) n (putSeed n j id p)
 unfolding putSeed
 putSeed-same n j id p = go (ltb (axisOf id) (seedAxes id)) refl
   where
-    go : (t : Bool) → ltb (axisOf id) (seedAxes id) ≡ t → SameBut numbersWidth (Free jointAsks) n (cond t (set n (j * numbersWidth + seedIndex id) p) n)
+    go : (t : Bool) → ltb (axisOf id) (seedAxes id) ≡ t → SameBut numbersWidth (Stored spatial (λ c. false)) n (cond t (set n (j * numbersWidth + seedIndex id) p) n)
     go true e =
         let h = ltb-true (axisOf id) (seedAxes id) e in
-        set-same n j (seedIndex id) p (seed-index-below id h) (seed-free id h)
+        set-same n j (seedIndex id) p (seed-index-below id h) (refl, λ words j′. free-passes _ p (seed-free id h))
     go false e = same-self n

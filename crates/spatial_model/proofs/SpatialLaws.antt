@@ -33,12 +33,10 @@ use Rattle.multibody.specs.Calls.Answer.{refused}
 use Rattle.multibody.specs.Studies.{TwoStudies}
 use Rattle.multibody.proofs.Laws.{SameJoint, Given, BodyRoom, JointRoom, Reworded, Laws}
 use Rattle.multibody.proofs.RuleLaws.{First}
-use Rattle.multibody.proofs.Footprints.{Free, free-passing}
 use Rattle.multibody.proofs.RefusedExactly.{refused-exactly}
 use Rattle.multibody.proofs.TwoStudies as AnyStudies
 use Rattle.spatial_model.specs.Layout.{wordsWidth, masksPlace}
 use Rattle.spatial_model.specs.Store.{jointAt, masksAt, enabledAt, putSeed, solverPoseAt, putPose}
-use Rattle.spatial_model.specs.Refusals.{jointAsks}
 use Rattle.spatial_model.specs.Spatial.{space, spatial}
 use Rattle.spatial_model.specs.Studies.{spatialCalls}
 use Rattle.spatial_model.proofs.StoreLaws.{withPose, impulse-first, length-putRow, rowAt-putRow, rowAt-putRow-other, putRow-past, velAt-world, solverPoseAt-world, velAt-putVel, velAt-putVel-other, length-putPose, solverPoseAt-putPose, solverPoseAt-putPose-other, velAt-putPose, jointAt-putSeed-other}
@@ -79,9 +77,9 @@ unfolding masksAt
 few words j = at-most-nine (masksOf (word wordsWidth words j) masksPlace)
 
 update-length : (params : IntegrationParameters) (substep : ℕ) (warm : Warmstart) (b1 b2 : SolverPose) (words : List ℕ) (n : List Float) (j : ℕ) (last : List Float)
-    → length last ≡ 9 → length (builderUpdateOf params substep warm b1 b2 (jointAt words n j) last) ≡ length (rowIds 3 3 (masksAt words j))
+    → length (builderUpdateOf params substep warm b1 b2 (jointAt words n j) last) ≡ length (rowIds 3 3 (masksAt words j))
 unfolding jointAt masksAt
-update-length params substep warm b1 b2 words n j last nine = length-builderUpdateOf params substep warm b1 b2 (jointAt words n j) last ∙ ap (λ k. length (rowIds 3 3 k)) (masksAt-spatial words j)
+update-length params substep warm b1 b2 words n j last = length-builderUpdateOf params substep warm b1 b2 (jointAt words n j) last ∙ ap (λ k. length (rowIds 3 3 k)) (masksAt-spatial words j)
 
 no-row-read : (params : IntegrationParameters) (substep : ℕ) (warm : Warmstart) (b1 b2 : SolverPose) (a : ImpulseJoint) (last last′ : List Float) → readsRows warm substep ≡ false
     → builderUpdateOf params substep warm b1 b2 a last ≡ builderUpdateOf params substep warm b1 b2 a last′
@@ -138,8 +136,7 @@ spatial-laws = record {
   solverPoseAt-putPose = pose-placed;
   solverPoseAt-putPose-other = solverPoseAt-putPose-other;
   velAt-putPose = velAt-putPose;
-  Stored = Free jointAsks;
-  stored-passes = λ words j c x _ f. free-passing jointAsks c x f;
+  contentReads = λ c. false;
   contentRules-same = λ words s joints. refl;
   putSeed-same = putSeed-same;
   jointAt-putSeed-other = jointAt-putSeed-other;

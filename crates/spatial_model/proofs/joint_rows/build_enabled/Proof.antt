@@ -30,7 +30,7 @@ put-rows-requires c κs =
     let ja = up .before .before .before .before .before in
     let ia = ja .before in
     let on = ia .before .before .before .before .before .before .before .pre .1 .1 .1 .1 .1 in
-    let e = built-len _ _ _ _ _ _ _ _ _ _ _ on (ja .joint-at .ensures) refl (up .update .ensures ∙ ap rowsArray (ia .last-impulses .ensures _ _ _ _)) in
+    let e = built-len _ _ _ _ _ _ _ _ _ on (ja .joint-at .ensures) (up .update .ensures ∙ ap rowsArray (ia .last-impulses .ensures _ _ _ _)) in
     (few-rows spatial-laws _ _ e, omega (arith, e, ia .before .before .before .before .before .before .before .pre .1 .1 .1 .1 .0))
 
 returns : tie.Need-returns
@@ -45,7 +45,7 @@ returns c =
     let ia = ja .before in
     let ca = ia .before .before in
     let on = ca .before .before .before .before .before .pre .1 .1 .1 .1 .1 in
-    let made = built-rows _ _ _ _ _ _ _ _ _ _ _ on (ja .joint-at .ensures) refl (up .update .ensures ∙ ap rowsArray (ia .last-impulses .ensures _ _ _ _)) in (
+    let made = built-rows _ _ _ _ _ _ _ _ _ on (ja .joint-at .ensures) (up .update .ensures ∙ ap rowsArray (ia .last-impulses .ensures _ _ _ _)) in (
       ca .count-at .ensures,
       build-steps space _ _ _ _ _ _ _ _ _ on (ca .count-at .ensures) refl (ja .joint-at .ensures) (b1 .body1-at .ensures) (sp1 .solver-pose-at .ensures) (b2 .body2-at .ensures) (sp2 .solver-pose-at2 .ensures) made
           (pr .put-rows .ensures),
