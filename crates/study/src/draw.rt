@@ -1,13 +1,23 @@
-// A picture of a study as it was read, in SVG: bodies as discs, joints as squares at their first frame, tied to their bodies, with names and row
-// ids. Coordinates are millionths of a metre, y upward.
+// A picture of a study as it was read, in SVG: bodies as discs, a joint's first frame as a square and its second as a ring, tied to their bodies and to
+// each other, the world as ground, stops as arcs and bars, velocities as arrows, a bar for the scale. The labels stand in a column, each at the end of
+// a line from what it names. The larger side of what is drawn is 8000 units; numbers are written as millionths, so that a unit is a millionth.
 use crate::out::out;
 use crate::out::out_millionths;
 use crate::out::out_part;
+use crate::scale::out_scale;
 use crate::table::out_id;
+use crate::warnings::body_at;
+use crate::warnings::frame_at;
+use crate::warnings::frame_rotation;
+use crate::xml::out_escaped;
+use decimals::spelled::spelled;
 use floats::rotation_ops::Rotation;
+use floats::scalar::is_finite;
+use floats::sin_cos::rotation_from_angle;
 use floats::vector::Vector;
 use model::layout::WORLD;
 use rows::generic_joint::Masks;
+use rows::generic_joint::has_axis;
 use rows::row_ids::RowIds;
 use rows::row_ids::row_ids;
 use study_reader::names::body_name;
@@ -20,21 +30,15 @@ use study_reader::storage::word_at;
 use study_reader::storage::words_base;
 use study_reader::words::Word;
 
-// The part of the plane that is drawn.
-pub struct Frame {
-    pub left: f32,
-    pub right: f32,
-    pub low: f32,
-    pub high: f32,
-}
+// ---- the part of the plane that is drawn
 
-fn widened(f: Frame, p: Vector) -> Frame {
-    Frame {
-        left: least(f.left, p.x),
-        right: most(f.right, p.x),
-        low: least(f.low, p.y),
-        high: most(f.high, p.y),
-    }
+// A rectangle that may hold no point yet.
+struct Frame {
+    some: bool,
+    left: f32,
+    right: f32,
+    low: f32,
+    high: f32,
 }
 
 fn least(a: f32, b: f32) -> f32 {
@@ -51,74 +55,116 @@ fn most(a: f32, b: f32) -> f32 {
     a
 }
 
-// Where body i is; the world's is the origin.
-fn body_at(draft: &[f32], i: u32) -> Vector {
-    let base = body_base(i);
-    if NUMBERS <= base {
-        return Vector { x: 0.0, y: 0.0 };
-    }
-    Vector {
-        x: number_at(draft, base + 2),
-        y: number_at(draft, base + 3),
-    }
-}
-
-fn rotation_at(draft: &[f32], i: u32) -> Rotation {
-    let base = body_base(i);
-    if NUMBERS <= base {
-        return Rotation { re: 1.0, im: 0.0 };
-    }
-    Rotation {
-        re: number_at(draft, base),
-        im: number_at(draft, base + 1),
-    }
-}
-
-// A joint's frame on body i, from its place in the joint's numbers.
-fn frame_at(draft: &[f32], j: u32, place: usize, i: u32) -> Vector {
-    let base = joint_base(j);
-    if NUMBERS <= base {
-        return Vector { x: 0.0, y: 0.0 };
-    }
-    if 64 < place {
-        return Vector { x: 0.0, y: 0.0 };
-    }
-    let rotation = rotation_at(draft, i);
-    let turned = rotation.rotate(Vector {
-        x: number_at(draft, base + place),
-        y: number_at(draft, base + place + 1),
-    });
-    turned.add(body_at(draft, i))
-}
-
-fn all_bodies(draft: &[f32], bodies: u32, f: Frame) -> Frame {
-    let mut g = f;
-    let mut i: u32 = 0;
-    while i < bodies {
-        g = widened(g, body_at(draft, i));
-        i += 1;
-    }
-    g
-}
-
-fn with_joint(draft: &[f32], words: &[u32], j: u32, f: Frame) -> Frame {
-    let o = words_base(j);
-    if NUMBERS <= o {
+// A point that is not finite is not drawn in its place, and widens nothing.
+fn widened(f: Frame, p: Vector) -> Frame {
+    if !is_finite(p.x) {
         return f;
     }
-    let one = frame_at(draft, j, 2, word_at(words, o));
-    let two = frame_at(draft, j, 6, word_at(words, o + 1));
-    widened(widened(f, one), two)
+    if !is_finite(p.y) {
+        return f;
+    }
+    if f.some {
+        return Frame {
+            some: true,
+            left: least(f.left, p.x),
+            right: most(f.right, p.x),
+            low: least(f.low, p.y),
+            high: most(f.high, p.y),
+        };
+    }
+    Frame {
+        some: true,
+        left: p.x,
+        right: p.x,
+        low: p.y,
+        high: p.y,
+    }
 }
 
-fn all_joints(draft: &[f32], words: &[u32], joints: u32, f: Frame) -> Frame {
-    let mut g = f;
+fn all_bodies(draft: &[f32], bodies: u32) -> Frame {
+    let mut f = Frame {
+        some: false,
+        left: 0.0,
+        right: 0.0,
+        low: 0.0,
+        high: 0.0,
+    };
+    let mut i: u32 = 0;
+    while i < bodies {
+        f = widened(f, body_at(draft, i));
+        i += 1;
+    }
+    f
+}
+
+fn frame1_at(draft: &[f32], words: &[u32], j: u32) -> Vector {
+    let o = words_base(j);
+    if NUMBERS <= o {
+        return Vector { x: 0.0, y: 0.0 };
+    }
+    frame_at(draft, j, 2, word_at(words, o))
+}
+
+fn frame2_at(draft: &[f32], words: &[u32], j: u32) -> Vector {
+    let o = words_base(j);
+    if NUMBERS <= o {
+        return Vector { x: 0.0, y: 0.0 };
+    }
+    frame_at(draft, j, 6, word_at(words, o + 1))
+}
+
+fn all_joints(draft: &[f32], words: &[u32], joints: u32, from: Frame) -> Frame {
+    let mut f = from;
     let mut j: u32 = 0;
     while j < joints {
-        g = with_joint(draft, words, j, g);
+        f = widened(
+            widened(f, frame1_at(draft, words, j)),
+            frame2_at(draft, words, j),
+        );
         j += 1;
     }
-    g
+    f
+}
+
+// ---- the picture
+
+// Where the plane's points stand in the picture; how many labels there are, and how far one is below the other; the length of an arrow for 1 m/s.
+struct Picture {
+    left: f32,
+    high: f32,
+    scale: f32,
+    width: f32,
+    height: f32,
+    labels: u32,
+    pitch: f32,
+    arrow: f32,
+}
+
+// So many units.
+fn units(n: f32) -> f32 {
+    n * 0.000001
+}
+
+// A number of the picture, which is finite and not far outside.
+fn inside(x: f32) -> f32 {
+    if !is_finite(x) {
+        return 0.0;
+    }
+    least(most(x, -0.1), 0.1)
+}
+
+fn at(pic: Picture, p: Vector) -> Vector {
+    Vector {
+        x: inside((p.x - pic.left) * pic.scale),
+        y: inside((pic.high - p.y) * pic.scale),
+    }
+}
+
+fn beside(p: Vector, x: f32, y: f32) -> Vector {
+    Vector {
+        x: p.x + units(x),
+        y: p.y + units(y),
+    }
 }
 
 // ---- elements
@@ -126,71 +172,428 @@ fn all_joints(draft: &[f32], words: &[u32], joints: u32, f: Frame) -> Frame {
 fn attribute(name: &[u8], x: f32) {
     out(name);
     out(b"=\"");
-    out_millionths(x);
+    out_millionths(inside(x));
     out(b"\" ");
 }
 
-// A label beside a point, so many units below it.
-fn label(text: &[u8], w: Word, p: Vector, unit: f32, below: f32) {
-    out(b"<text ");
-    attribute(b"x", p.x + unit * 1.5);
-    attribute(b"y", -p.y + unit * below);
-    attribute(b"font-size", unit * 2.0);
-    out(b"font-family=\"sans-serif\">");
-    escaped(text, w.start, w.end);
+fn out_point(p: Vector) {
+    out_millionths(inside(p.x));
+    out(b" ");
+    out_millionths(inside(p.y));
+    out(b" ");
 }
 
-fn escaped_byte(b: u8, text: &[u8], at: usize) {
-    if b == b'<' {
-        out(b"&lt;");
-        return;
-    }
-    if b == b'&' {
-        out(b"&amp;");
-        return;
-    }
-    if at < text.len() {
-        out_part(text, at, at + 1);
-    }
-}
-
-// A name, with what SVG reserves written otherwise.
-fn escaped(text: &[u8], start: usize, end: usize) {
-    let mut at = start;
-    while at < end {
-        if text.len() <= at {
-            return;
-        }
-        escaped_byte(text[at], text, at);
-        at += 1;
-    }
-}
-
-fn tie(from: Vector, to: Vector, unit: f32) {
+fn line(from: Vector, to: Vector, class: &[u8]) {
     out(b"<line ");
     attribute(b"x1", from.x);
-    attribute(b"y1", -from.y);
+    attribute(b"y1", from.y);
     attribute(b"x2", to.x);
-    attribute(b"y2", -to.y);
-    attribute(b"stroke-width", unit * 0.25);
-    out(b"stroke=\"#888\"/>\n");
+    attribute(b"y2", to.y);
+    out(b"class=\"");
+    out(class);
+    out(b"\"/>\n");
 }
 
-fn square(p: Vector, unit: f32) {
-    out(b"<rect ");
-    attribute(b"x", p.x - unit * 0.5);
-    attribute(b"y", -p.y - unit * 0.5);
-    attribute(b"width", unit);
-    attribute(b"height", unit);
-    out(b"fill=\"#c33\"/>\n");
-}
-
-fn disc(p: Vector, unit: f32) {
+fn circle(p: Vector, r: f32, class: &[u8]) {
     out(b"<circle ");
     attribute(b"cx", p.x);
-    attribute(b"cy", -p.y);
-    attribute(b"r", unit);
-    out(b"fill=\"#369\"/>\n");
+    attribute(b"cy", p.y);
+    attribute(b"r", r);
+    out(b"class=\"");
+    out(class);
+    out(b"\"/>\n");
+}
+
+fn square(p: Vector) {
+    out(b"<rect ");
+    attribute(b"x", p.x - units(70.0));
+    attribute(b"y", p.y - units(70.0));
+    attribute(b"width", units(140.0));
+    attribute(b"height", units(140.0));
+    out(b"class=\"joint\"/>\n");
+}
+
+// A part of a circle: its ends, its radius, whether it is more than half of it, and whether it goes counterclockwise.
+fn arc(from: Vector, to: Vector, r: f32, large: bool, counter: bool, class: &[u8]) {
+    out(b"<path d=\"M ");
+    out_point(from);
+    out(b"A ");
+    out_point(Vector { x: r, y: r });
+    if large {
+        out(b"0 1 ");
+    } else {
+        out(b"0 0 ");
+    }
+    if counter {
+        out(b"0 ");
+    } else {
+        out(b"1 ");
+    }
+    out_point(to);
+    out(b"\" class=\"");
+    out(class);
+    out(b"\"/>\n");
+}
+
+// A line with strokes below it.
+fn ground(p: Vector) {
+    line(beside(p, -220.0, 70.0), beside(p, 220.0, 70.0), b"ground");
+    line(beside(p, -220.0, 190.0), beside(p, -130.0, 70.0), b"ground");
+    line(beside(p, -90.0, 190.0), beside(p, 0.0, 70.0), b"ground");
+    line(beside(p, 40.0, 190.0), beside(p, 130.0, 70.0), b"ground");
+}
+
+// ---- a joint's stops
+
+// The point so far from another in the direction of a rotation.
+fn away(p: Vector, turn: Rotation, r: f32) -> Vector {
+    Vector {
+        x: p.x + turn.re * r,
+        y: p.y - turn.im * r,
+    }
+}
+
+// The angular stop: an arc from its lower to its upper end about frame 1, and a needle along frame 2.
+fn angular_stop(p: Vector, turn1: Rotation, turn2: Rotation, low: f32, high: f32) {
+    let r = units(420.0);
+    line(p, away(p, turn2, r), b"needle");
+    if high - low < 6.2831 {
+        let from = turn1.mul(rotation_from_angle(low));
+        let to = turn1.mul(rotation_from_angle(high));
+        arc(
+            away(p, from, r),
+            away(p, to, r),
+            r,
+            high - low > 3.1415927,
+            true,
+            b"stop",
+        );
+        line(
+            away(p, from, units(340.0)),
+            away(p, from, units(500.0)),
+            b"stop",
+        );
+        line(
+            away(p, to, units(340.0)),
+            away(p, to, units(500.0)),
+            b"stop",
+        );
+        return;
+    }
+    circle(p, r, b"stop");
+}
+
+// As far as the labels: a stop that is farther away is cut, and has no stroke at its end.
+fn near(x: f32) -> f32 {
+    least(most(x, units(-1500.0)), units(1500.0))
+}
+
+fn end_stroke(p: Vector, along: Rotation, across: Rotation, x: f32) {
+    if size(x) < units(1500.0) {
+        let end = away(p, along, x);
+        line(
+            away(end, across, units(-90.0)),
+            away(end, across, units(90.0)),
+            b"stop",
+        );
+    }
+}
+
+// A linear stop: a bar along an axis of frame 1, with a stroke at each end.
+fn linear_stop(p: Vector, along: Rotation, across: Rotation, low: f32, high: f32) {
+    line(
+        away(p, along, near(low)),
+        away(p, along, near(high)),
+        b"stop",
+    );
+    end_stroke(p, along, across, low);
+    end_stroke(p, along, across, high);
+}
+
+// A coupled limit keeps the distance of the frames below the upper end of the first coupled axis.
+fn coupled_stop(pic: Picture, p: Vector, high: f32) {
+    circle(p, near(high * pic.scale), b"stop");
+}
+
+fn quarter(turn: Rotation) -> Rotation {
+    Rotation {
+        re: -turn.im,
+        im: turn.re,
+    }
+}
+
+fn limits_low(draft: &[f32], j: u32, axis: usize) -> f32 {
+    let base = joint_base(j);
+    if NUMBERS <= base {
+        return 0.0;
+    }
+    if 2 < axis {
+        return 0.0;
+    }
+    number_at(draft, base + 8 + 3 * axis)
+}
+
+fn limits_high(draft: &[f32], j: u32, axis: usize) -> f32 {
+    let base = joint_base(j);
+    if NUMBERS <= base {
+        return 0.0;
+    }
+    if 2 < axis {
+        return 0.0;
+    }
+    number_at(draft, base + 9 + 3 * axis)
+}
+
+fn is_drawn(m: Masks, axis: usize) -> bool {
+    if m.is_coupled(axis) {
+        return false;
+    }
+    m.is_limit(axis)
+}
+
+fn first_coupled(m: Masks) -> usize {
+    if m.is_coupled(0) {
+        return 0;
+    }
+    1
+}
+
+fn linear_stops(pic: Picture, draft: &[f32], j: u32, m: Masks, p: Vector, turn: Rotation) {
+    let side = quarter(turn);
+    if is_drawn(m, 0) {
+        linear_stop(
+            p,
+            turn,
+            side,
+            limits_low(draft, j, 0) * pic.scale,
+            limits_high(draft, j, 0) * pic.scale,
+        );
+    }
+    if is_drawn(m, 1) {
+        linear_stop(
+            p,
+            side,
+            turn,
+            limits_low(draft, j, 1) * pic.scale,
+            limits_high(draft, j, 1) * pic.scale,
+        );
+    }
+    let f = first_coupled(m);
+    if m.is_coupled(f) {
+        if m.is_limit(f) {
+            coupled_stop(pic, p, limits_high(draft, j, f));
+        }
+    }
+}
+
+fn masks_of(words: &[u32], j: u32) -> Masks {
+    let o = words_base(j);
+    if NUMBERS <= o {
+        return Masks {
+            locked_axes: 0,
+            limit_axes: 0,
+            motor_axes: 0,
+            coupled_axes: 0,
+        };
+    }
+    Masks {
+        locked_axes: word_at(words, o + 2),
+        limit_axes: word_at(words, o + 3),
+        motor_axes: word_at(words, o + 4),
+        coupled_axes: word_at(words, o + 5),
+    }
+}
+
+fn stops(pic: Picture, draft: &[f32], words: &[u32], j: u32, p: Vector) {
+    let o = words_base(j);
+    if NUMBERS <= o {
+        return;
+    }
+    let m = masks_of(words, j);
+    let turn1 = frame_rotation(draft, j, 0, word_at(words, o));
+    let turn2 = frame_rotation(draft, j, 4, word_at(words, o + 1));
+    linear_stops(pic, draft, j, m, p, turn1);
+    if m.is_limit(2) {
+        angular_stop(
+            p,
+            turn1,
+            turn2,
+            limits_low(draft, j, 2),
+            limits_high(draft, j, 2),
+        );
+    }
+}
+
+// ---- joints and bodies
+
+// A frame is tied to its body, or stands on the ground.
+fn tie(pic: Picture, draft: &[f32], i: u32, p: Vector) {
+    if i == WORLD {
+        ground(p);
+        return;
+    }
+    line(at(pic, body_at(draft, i)), p, b"tie");
+}
+
+fn draw_joint(pic: Picture, draft: &[f32], words: &[u32], j: u32) {
+    let o = words_base(j);
+    if NUMBERS <= o {
+        return;
+    }
+    let one = at(pic, frame1_at(draft, words, j));
+    let two = at(pic, frame2_at(draft, words, j));
+    tie(pic, draft, word_at(words, o), one);
+    tie(pic, draft, word_at(words, o + 1), two);
+    line(one, two, b"between");
+    stops(pic, draft, words, j, one);
+    square(one);
+    circle(two, units(110.0), b"ring");
+}
+
+fn draw_joints(pic: Picture, draft: &[f32], words: &[u32], joints: u32) {
+    let mut j: u32 = 0;
+    while j < joints {
+        draw_joint(pic, draft, words, j);
+        j += 1;
+    }
+}
+
+// A body's velocity, by its place in the body's numbers.
+fn velocity_at(draft: &[f32], i: u32) -> Vector {
+    let base = body_base(i);
+    if NUMBERS <= base {
+        return Vector { x: 0.0, y: 0.0 };
+    }
+    Vector {
+        x: number_at(draft, base + 7),
+        y: number_at(draft, base + 8),
+    }
+}
+
+fn turning_at(draft: &[f32], i: u32) -> f32 {
+    let base = body_base(i);
+    if NUMBERS <= base {
+        return 0.0;
+    }
+    number_at(draft, base + 9)
+}
+
+fn size(x: f32) -> f32 {
+    if x < 0.0 {
+        return -x;
+    }
+    x
+}
+
+// The larger component's size, where it is a number that can be drawn.
+fn speed(v: Vector) -> f32 {
+    let s = most(size(v.x), size(v.y));
+    if is_finite(s) {
+        return s;
+    }
+    0.0
+}
+
+fn fastest(draft: &[f32], bodies: u32) -> f32 {
+    let mut s: f32 = 0.0;
+    let mut i: u32 = 0;
+    while i < bodies {
+        s = most(s, speed(velocity_at(draft, i)));
+        i += 1;
+    }
+    s
+}
+
+fn draw_velocity(pic: Picture, draft: &[f32], i: u32, p: Vector) {
+    let v = velocity_at(draft, i);
+    if speed(v) > 0.0 {
+        let to = Vector {
+            x: p.x + v.x * pic.arrow,
+            y: p.y - v.y * pic.arrow,
+        };
+        line(p, to, b"velocity");
+    }
+}
+
+fn draw_turning(draft: &[f32], i: u32, p: Vector) {
+    let w = turning_at(draft, i);
+    let right = beside(p, 250.0, 0.0);
+    let left = beside(p, -250.0, 0.0);
+    if w > 0.0 {
+        arc(right, left, units(250.0), false, true, b"velocity");
+    }
+    if w < 0.0 {
+        arc(left, right, units(250.0), false, false, b"velocity");
+    }
+}
+
+fn draw_bodies(pic: Picture, draft: &[f32], bodies: u32) {
+    let mut i: u32 = 0;
+    while i < bodies {
+        let p = at(pic, body_at(draft, i));
+        circle(p, units(130.0), b"body");
+        draw_velocity(pic, draft, i, p);
+        draw_turning(draft, i, p);
+        i += 1;
+    }
+}
+
+// ---- labels
+
+// Label k names body k, and after the bodies the joints.
+fn labelled(draft: &[f32], words: &[u32], bodies: u32, k: u32) -> Vector {
+    if k < bodies {
+        return body_at(draft, k);
+    }
+    frame1_at(draft, words, k - bodies)
+}
+
+fn is_before(a: f32, b: f32, earlier: bool) -> bool {
+    if a > b {
+        return true;
+    }
+    if a < b {
+        return false;
+    }
+    earlier
+}
+
+// How many labels stand above label k: those of higher points.
+fn rank_of(draft: &[f32], words: &[u32], bodies: u32, count: u32, k: u32) -> u32 {
+    let own = labelled(draft, words, bodies, k);
+    let mut above: u32 = 0;
+    let mut i: u32 = 0;
+    while i < count {
+        let other = labelled(draft, words, bodies, i);
+        if is_before(other.y, own.y, i < k) {
+            if above < 300 {
+                above += 1;
+            }
+        }
+        i += 1;
+    }
+    above
+}
+
+fn small(n: u32) -> f32 {
+    std::num::nearest_u32_to_f32(n)
+}
+
+// A leader from the point, and the text, which is open.
+fn begin_label(pic: Picture, p: Vector, rank: u32) {
+    let y = small(rank) * pic.pitch;
+    line(
+        p,
+        Vector {
+            x: pic.width + units(1600.0),
+            y,
+        },
+        b"leader",
+    );
+    out(b"<text ");
+    attribute(b"x", pic.width + units(1660.0));
+    attribute(b"y", y + units(70.0));
+    out(b">");
 }
 
 fn out_ids(made: RowIds) {
@@ -215,84 +618,190 @@ fn joint_ids(words: &[u32], j: u32) {
         out(b" (disabled)");
         return;
     }
-    out_ids(row_ids(Masks {
-        locked_axes: word_at(words, o + 2),
-        limit_axes: word_at(words, o + 3),
-        motor_axes: word_at(words, o + 4),
-        coupled_axes: word_at(words, o + 5),
-    }));
+    out_ids(row_ids(masks_of(words, j)));
 }
 
-fn draw_tie(draft: &[f32], i: u32, p: Vector, unit: f32) {
-    if i == WORLD {
-        return;
-    }
-    tie(body_at(draft, i), p, unit);
+fn out_name(text: &[u8], w: Word) {
+    out_escaped(text, w.start, w.end);
 }
 
-fn draw_joint(text: &[u8], draft: &[f32], words: &[u32], names: &[u32], j: u32, unit: f32) {
-    let o = words_base(j);
-    if NUMBERS <= o {
-        return;
+fn draw_label(
+    pic: Picture,
+    text: &[u8],
+    draft: &[f32],
+    words: &[u32],
+    names: &[u32],
+    bodies: u32,
+    k: u32,
+) {
+    let rank = rank_of(draft, words, bodies, pic.labels, k);
+    begin_label(pic, at(pic, labelled(draft, words, bodies, k)), rank);
+    if k < bodies {
+        out_name(text, body_name(names, k));
+    } else {
+        out_name(text, joint_name(names, k - bodies));
+        joint_ids(words, k - bodies);
     }
-    let one = frame_at(draft, j, 2, word_at(words, o));
-    let two = frame_at(draft, j, 6, word_at(words, o + 1));
-    draw_tie(draft, word_at(words, o), one, unit);
-    draw_tie(draft, word_at(words, o + 1), two, unit);
-    square(one, unit);
-    label(text, joint_name(names, j), one, unit, 2.5);
-    joint_ids(words, j);
     out(b"</text>\n");
 }
 
-fn draw_body(text: &[u8], draft: &[f32], names: &[u32], i: u32, unit: f32) {
-    let p = body_at(draft, i);
-    disc(p, unit);
-    label(text, body_name(names, i), p, unit, -1.0);
-    out(b"</text>\n");
-}
-
-fn draw_joints(text: &[u8], draft: &[f32], words: &[u32], names: &[u32], joints: u32, unit: f32) {
-    let mut j: u32 = 0;
-    while j < joints {
-        draw_joint(text, draft, words, names, j, unit);
-        j += 1;
+fn draw_labels(
+    pic: Picture,
+    text: &[u8],
+    draft: &[f32],
+    words: &[u32],
+    names: &[u32],
+    bodies: u32,
+) {
+    let mut k: u32 = 0;
+    while k < pic.labels {
+        draw_label(pic, text, draft, words, names, bodies, k);
+        k += 1;
     }
 }
 
-fn draw_bodies(text: &[u8], draft: &[f32], names: &[u32], bodies: u32, unit: f32) {
-    let mut i: u32 = 0;
-    while i < bodies {
-        draw_body(text, draft, names, i, unit);
-        i += 1;
+// ---- the whole
+
+fn count_of(bodies: u32, joints: u32) -> u32 {
+    if 129 < bodies {
+        return 0;
+    }
+    if 129 < joints {
+        return 0;
+    }
+    bodies + joints
+}
+
+// Labels fill the picture's height, and are at least 270 units apart.
+fn pitch_of(height: f32, labels: u32) -> f32 {
+    if labels < 2 {
+        return units(270.0);
+    }
+    most(units(270.0), height / small(labels - 1))
+}
+
+// The longest arrow is 1200 units.
+fn arrow_of(fastest: f32) -> f32 {
+    if fastest > 0.0 {
+        return inside(units(1200.0) / fastest);
+    }
+    0.0
+}
+
+// A single point is drawn as if its picture were a metre wide.
+fn span_of(f: Frame) -> f32 {
+    let s = most(f.right - f.left, f.high - f.low);
+    if s > 0.0 {
+        if is_finite(s) {
+            return s;
+        }
+    }
+    1.0
+}
+
+fn picture_of(f: Frame, labels: u32, fastest: f32) -> Picture {
+    let scale = 0.008 / span_of(f);
+    let height = inside((f.high - f.low) * scale);
+    Picture {
+        left: f.left,
+        high: f.high,
+        scale,
+        width: inside((f.right - f.left) * scale),
+        height,
+        labels,
+        pitch: pitch_of(height, labels),
+        arrow: arrow_of(fastest),
     }
 }
 
-fn begin(f: Frame, unit: f32) {
-    out(b"<svg xmlns=\"http://www.w3.org/2000/svg\" viewBox=\"");
-    out_millionths(f.left - unit * 4.0);
-    out(b" ");
-    out_millionths(-f.high - unit * 4.0);
-    out(b" ");
-    out_millionths(f.right - f.left + unit * 40.0);
-    out(b" ");
-    out_millionths(f.high - f.low + unit * 8.0);
-    out(b"\">\n");
+// The height with all labels.
+fn full_height(pic: Picture) -> f32 {
+    most(pic.height, pic.pitch * small(pic.labels))
 }
 
-// The whole picture. Numbers past 2147 m are over, and draw nothing that can be seen.
+fn begin(pic: Picture) {
+    out(b"<svg xmlns=\"http://www.w3.org/2000/svg\" viewBox=\"-1500 -1500 ");
+    out_millionths(pic.width + units(9200.0));
+    out(b" ");
+    out_millionths(full_height(pic) + units(3700.0));
+    out(
+        b"\" font-family=\"sans-serif\" font-size=\"200\">
+<style>
+line, path, circle { fill: none; stroke-width: 24 }
+.tie { stroke: #888; stroke-width: 50 }
+.between { stroke: #c33; stroke-dasharray: 60 40 }
+.leader { stroke: #ccc; stroke-width: 10 }
+.ground, .scale { stroke: #333 }
+.needle { stroke: #c33 }
+.stop { stroke: #e80 }
+.velocity { stroke: #283; marker-end: url(#head) }
+.ring { stroke: #c33 }
+.joint { fill: #c33 }
+.body { fill: #369; stroke: none }
+</style>
+<marker id=\"head\" viewBox=\"0 0 10 10\" refX=\"8\" refY=\"5\" markerWidth=\"6\" markerHeight=\"6\" orient=\"auto\"><path d=\"M 0 0 L 10 5 L 0 10 z\" style=\"fill: #283\"/></marker>
+<rect x=\"-1500\" y=\"-1500\" width=\"100%\" height=\"100%\" fill=\"white\"/>
+",
+    );
+}
+
+fn out_spelled(x: f32) {
+    let word = spelled(x);
+    let bytes = word.bytes;
+    out_part(&bytes, 0, word.len);
+}
+
+// What the longest arrow stands for.
+fn out_arrow(fastest: f32, y: f32) {
+    if fastest > 0.0 {
+        out(b"<text ");
+        attribute(b"x", 0.0);
+        attribute(b"y", y);
+        out(b">longest arrow: ");
+        out_spelled(fastest);
+        out(b" m/s along x or y</text>\n");
+    }
+}
+
+// The bar is a number of metres that a picture of this scale shows as 1000 to 2500 units.
+fn out_foot(pic: Picture, fastest: f32) {
+    let y = full_height(pic) + units(1200.0);
+    let length = inside(out_scale(pic.scale, y));
+    line(Vector { x: 0.0, y }, Vector { x: length, y }, b"scale");
+    line(
+        Vector {
+            x: 0.0,
+            y: y - units(80.0),
+        },
+        Vector {
+            x: 0.0,
+            y: y + units(80.0),
+        },
+        b"scale",
+    );
+    line(
+        Vector {
+            x: length,
+            y: y - units(80.0),
+        },
+        Vector {
+            x: length,
+            y: y + units(80.0),
+        },
+        b"scale",
+    );
+    out_arrow(fastest, y + units(600.0));
+}
+
+// The whole picture.
 pub fn draw(text: &[u8], draft: &[f32], words: &[u32], names: &[u32], bodies: u32, joints: u32) {
-    let first = body_at(draft, 0);
-    let point = Frame {
-        left: first.x,
-        right: first.x,
-        low: first.y,
-        high: first.y,
-    };
-    let f = all_joints(draft, words, joints, all_bodies(draft, bodies, point));
-    let unit = most(most(f.right - f.left, f.high - f.low), 0.001) * 0.02;
-    begin(f, unit);
-    draw_joints(text, draft, words, names, joints, unit);
-    draw_bodies(text, draft, names, bodies, unit);
+    let f = all_joints(draft, words, joints, all_bodies(draft, bodies));
+    let speed = fastest(draft, bodies);
+    let pic = picture_of(f, count_of(bodies, joints), speed);
+    begin(pic);
+    draw_labels(pic, text, draft, words, names, bodies);
+    draw_joints(pic, draft, words, joints);
+    draw_bodies(pic, draft, bodies);
+    out_foot(pic, speed);
     out(b"</svg>\n");
 }

@@ -1,8 +1,25 @@
-// What is wrong with a text that cannot be read, in words.
+// What is wrong with a text that cannot be read, in words, and the word that may have been meant.
+use crate::near::suggest;
+use crate::near::suggest_name;
+use crate::out::err;
 use crate::out::err_line;
+use crate::place::say_place;
+use crate::place::show_line;
+use study_reader::draft::State;
+use study_reader::faults::AXIS;
+use study_reader::faults::CSV;
+use study_reader::faults::MASK;
+use study_reader::faults::MODEL;
+use study_reader::faults::NO_BODY;
+use study_reader::faults::NO_JOINT;
+use study_reader::faults::SUBSTEPS;
+use study_reader::faults::UNKNOWN;
+use study_reader::faults::WARM;
+use study_reader::words::Word;
+use study_reader::words::next_word;
 
 // What was expected, to standard error: the line of a fault's number.
-pub fn say(fault: u32) {
+fn say(fault: u32) {
     err_line(
         b"\
         \n\
@@ -35,4 +52,101 @@ pub fn say(fault: u32) {
         ",
         fault,
     );
+}
+
+// The words that start a line, each with the item in which it is legal: 1 to 3 as study_reader's fields have them, 5 where no call stands yet, and
+// calls anywhere.
+fn suggest_line(kind: u32, text: &[u8], w: Word) {
+    suggest(
+        b"\
+        dt 1\n\
+        length_unit 1\n\
+        normalized_max_corrective_velocity 1\n\
+        position 2\n\
+        angle 2\n\
+        rotation 2\n\
+        mass 2\n\
+        inverse_mass 2\n\
+        inverse_masses 2\n\
+        inertia 2\n\
+        inverse_inertia 2\n\
+        velocity 2\n\
+        angular_velocity 2\n\
+        lock 3\n\
+        limit 3\n\
+        motor 3\n\
+        couple 3\n\
+        limits 3\n\
+        frame1 3\n\
+        frame1_angle 3\n\
+        frame1_rotation 3\n\
+        frame2 3\n\
+        frame2_angle 3\n\
+        frame2_rotation 3\n\
+        center 3\n\
+        center_angle 3\n\
+        target_velocity 3\n\
+        target_position 3\n\
+        stiffness 3\n\
+        damping 3\n\
+        max_force 3\n\
+        motor_model 3\n\
+        natural_frequency 3\n\
+        damping_ratio 3\n\
+        impulse 3\n\
+        limit_impulse 3\n\
+        motor_impulse 3\n\
+        enabled 3\n\
+        disabled 3\n\
+        disabled_by_attached_body 3\n\
+        settings 5\n\
+        body 5\n\
+        joint 5\n\
+        load\n\
+        place\n\
+        build\n\
+        warm_start\n\
+        sweep\n\
+        settle\n\
+        remove_bias\n\
+        write_back\n\
+        frame\n\
+        read_rows\n\
+        read_velocity\n\
+        set_targets\n\
+        masks\n\
+        table\n\
+        repeat\n\
+        end\n\
+        ",
+        kind,
+        text,
+        w,
+    );
+}
+
+// What may have been meant by the word at which the text cannot be read.
+fn suggest_for(text: &[u8], names: &[u32], st: State, w: Word) {
+    let fault = st.fault;
+    match fault {
+        UNKNOWN => suggest_line(st.kind, text, w),
+        NO_BODY => suggest_name(text, names, false, st.bodies, w),
+        NO_JOINT => suggest_name(text, names, true, st.joints, w),
+        AXIS => suggest(b"x\ny\nangle\n", 0, text, w),
+        MODEL => suggest(b"acceleration\nforce\n", 0, text, w),
+        WARM => suggest(b"warm\nsubstep\n", 0, text, w),
+        CSV => suggest(b"csv\n", 0, text, w),
+        MASK => suggest(b"lock\nlimit\nmotor\ncouple\nangle\n", 0, text, w),
+        SUBSTEPS => suggest(b"warm\nsweeps\nsubsteps\n", 0, text, w),
+        _ => (),
+    }
+}
+
+// The place of the fault, what was expected, the word that may have been meant, and the line.
+pub fn say_fault(name: &[u8], text: &[u8], names: &[u32], st: State) {
+    say_place(name, text, st.fault_at);
+    say(st.fault);
+    suggest_for(text, names, st, next_word(text, st.fault_at));
+    err(b"\n");
+    show_line(text, st.fault_at);
 }

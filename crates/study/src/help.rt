@@ -6,15 +6,19 @@ pub fn help() {
         b"study: joint rows of rapier2d 0.36.1, planar, scalar, f32, in which every impulse names its rule
 
   study                reads a study from standard input, runs it and prints its tables
-  study FILE...        the same for each file
-  study check FILE...  reads and loads, runs nothing
-  study draw FILE      prints a picture of bodies, joints and row ids, in SVG
+  study FILE...        the same for each file; - is standard input
+  study check FILE...  reads and loads, runs nothing, and says what a run would refuse as far as that can be seen
+  study csv FILE...    prints the rows of all tables as comma-separated values under one heading
+                       (csv --reactions and csv --velocities: the joints' reactions, the bodies' velocities)
+  study draw FILE      prints a picture in SVG: bodies, joints, stops, velocities, row ids
+                       (draw FILE... --to DIR: one file a picture)
   study report FILE    prints a page for a supplement, in HTML: tables and picture, with each impulse's rule, definition and contract
   study print FILE     prints the model as a study, every number as its bits
   study seeded SEED    prints the study that a seed from 0 to 4294967295 draws, a load that others can repeat
   study example NAME   prints an example: knee, finger, finger_cut, wing, pendulum, leg, gait
-  study --help, study --version
+  study help (--help, -h), study --version
 
+Before the files, --strict makes a warning end with 2.
 Ends with 0 where all calls are granted, 1 where one is refused, 2 where something cannot be read or written.
 
 A study is plain text: a line an item, # starts a comment.
@@ -34,7 +38,7 @@ Then the calls, in order:
 
   load; place BODY X Y ANGLE (or COS SIN); build [warm C] [substep N]; warm_start; sweep N;
   settle TOLERANCE [ROUNDS]; remove_bias; write_back; read_rows JOINT; read_velocity BODY;
-  frame [warm C] sweeps N substeps N (moves the bodies by dt); set_targets FILE (motor targets, RFC 4180); masks JOINT [lock AXES] [limit AXES] [motor AXES] [couple AXES];
+  frame [warm C] sweeps N substeps N (moves the bodies by dt); set_targets FILE (motor targets, RFC 4180, beside the study); masks JOINT [lock AXES] [limit AXES] [motor AXES] [couple AXES];
   table; table csv; repeat N .. end
 
 What is left out has the Rust's default. Numbers are decimals, f32 bits as 0x3F800000, inf and -inf.

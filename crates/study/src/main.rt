@@ -1,22 +1,36 @@
 // Runs studies that are written as text. docs/STUDY.md describes them.
 mod counts;
+mod csv;
 mod draw;
 mod faults;
 mod help;
 mod input;
+mod near;
 mod out;
+mod place;
+mod plan;
 mod refusals;
+mod repeated;
 mod residual;
 mod run;
+mod scale;
 mod seeds;
 mod table;
+mod targets;
 mod warnings;
+mod xml;
 
+use csv::ALL;
+use csv::REACTIONS;
+use csv::ROWS;
+use csv::VELOCITIES;
+use csv::out_csv_heading;
 use draw::draw;
-use faults::say;
+use faults::say_fault;
 use help::help;
 use help::version;
 use input::read_all;
+use libc::ENOENT;
 use libc::STDERR_FILENO;
 use libc::STDIN_FILENO;
 use libc::STDOUT_FILENO;
@@ -25,12 +39,12 @@ use model::layout::BODY_WIDTH;
 use model::layout::NUMBERS_WIDTH;
 use model::layout::ROW_WIDTH;
 use model::layout::WORDS_WIDTH;
+use near::suggest;
 use out::err;
-use out::err_number;
-use out::err_part;
 use out::is_lost;
 use out::out;
 use out::out_part;
+use plan::check_calls;
 use rows::integration_parameters::IntegrationParameters;
 use run::NO_FILE;
 use run::check_study;
@@ -48,8 +62,6 @@ use study_reader::storage::WORDS;
 use study_reader::storage::number_at;
 use study_reader::tables::number_in;
 use study_reader::words::Word;
-use study_reader::words::column_of;
-use study_reader::words::line_of;
 use study_writer::study::write_study;
 use warnings::warnings;
 
@@ -60,23 +72,19 @@ const JOINT_NUMBERS: usize = MOST as usize * NUMBERS_WIDTH;
 
 const ROW_NUMBERS: usize = MOST as usize * 6 * ROW_WIDTH;
 
+// What is asked of a study: a command, what is printed of a run, and whether a warning counts.
+struct Mode {
+    command: u32,
+    kind: u32,
+    strict: bool,
+}
+
 // How a study ended: 0 granted, 1 refused, 2 not read.
 fn worse(a: u32, b: u32) -> u32 {
     if a < b {
         return b;
     }
     a
-}
-
-fn say_fault(name: &[u8], text: &[u8], st: State) {
-    err(name);
-    err(b":");
-    err_number(line_of(text, st.fault_at));
-    err(b":");
-    err_number(column_of(text, st.fault_at));
-    err(b": ");
-    say(st.fault);
-    err(b"\n");
 }
 
 fn number_from(from: &[f32], at: usize, i: usize) -> f32 {
@@ -115,7 +123,7 @@ fn print_model(header: Header, bodies: &[f32], words: &[u32], numbers: &[f32]) -
     let n = write_study(&mut text, header, bodies, words, numbers);
     if n == 0 {
         err(b"study: a model has at most 128 bodies and 128 joints\n");
-        return NO_FILE;
+        return 2;
     }
     out_part(&text, 0, n);
     0
@@ -123,6 +131,7 @@ fn print_model(header: Header, bodies: &[f32], words: &[u32], numbers: &[f32]) -
 
 // Runs the calls of a study on the storage that it was read into.
 fn run_calls(
+    name: &[u8],
     text: &[u8],
     draft: &[f32],
     origins: &[u32],
@@ -131,15 +140,16 @@ fn run_calls(
     bodies: &mut [f32],
     numbers: &mut [f32],
     st: State,
-    mode: u32,
+    mode: Mode,
 ) -> u32 {
     let header = header_of(draft);
-    if mode == PRINT {
+    if mode.command == PRINT {
         return print_model(header, bodies, words, numbers);
     }
     let mut rows = [0.0f32; ROW_NUMBERS];
-    if mode == CHECK {
-        return check_study(
+    if mode.command == CHECK {
+        let refused = check_study(
+            name,
             text,
             names,
             origins,
@@ -151,8 +161,10 @@ fn run_calls(
             &rows,
             st,
         );
+        return checked(name, text, names, st, refused);
     }
-    run_study(
+    let r = run_study(
+        name,
         text,
         names,
         origins,
@@ -163,11 +175,45 @@ fn run_calls(
         numbers,
         &mut rows,
         st,
-    )
+        mode.kind,
+    );
+    strict_status(mode, r.warned, status_of(r.refused))
+}
+
+// After a load that is granted, what can be said of the calls without a run.
+fn checked(name: &[u8], text: &[u8], names: &[u32], st: State, refused: u32) -> u32 {
+    if refused != 0 {
+        return status_of(refused);
+    }
+    status_of(check_calls(name, text, names, st))
+}
+
+// With --strict a warning is as bad as a text that cannot be read.
+fn strict_status(mode: Mode, warned: bool, status: u32) -> u32 {
+    if mode.strict {
+        if warned {
+            return 2;
+        }
+    }
+    status
+}
+
+// Of a study that was checked, that nothing was found.
+fn say_checked(name: &[u8], status: u32, warned: bool) {
+    if status != 0 {
+        return;
+    }
+    out(name);
+    if warned {
+        out(b": fine, with warnings\n");
+        return;
+    }
+    out(b": fine\n");
 }
 
 // The words of as many joints as there are.
 fn run_words(
+    name: &[u8],
     text: &[u8],
     draft: &[f32],
     origins: &[u32],
@@ -176,17 +222,18 @@ fn run_words(
     bodies: &mut [f32],
     numbers: &mut [f32],
     st: State,
-    mode: u32,
+    mode: Mode,
 ) -> u32 {
     let j = st.joints;
     if MOST < j {
-        return NO_FILE;
+        return 2;
     }
     let w = WORDS_WIDTH * j as usize;
     if words.len() < w {
-        return NO_FILE;
+        return 2;
     }
     run_calls(
+        name,
         text,
         draft,
         origins,
@@ -201,6 +248,7 @@ fn run_words(
 
 // Their numbers.
 fn run_numbers(
+    name: &[u8],
     text: &[u8],
     draft: &[f32],
     origins: &[u32],
@@ -209,18 +257,19 @@ fn run_numbers(
     bodies: &mut [f32],
     numbers: &mut [f32],
     st: State,
-    mode: u32,
+    mode: Mode,
 ) -> u32 {
     let j = st.joints;
     if MOST < j {
-        return NO_FILE;
+        return 2;
     }
     let n = NUMBERS_WIDTH * j as usize;
     if numbers.len() < n {
-        return NO_FILE;
+        return 2;
     }
     copy(draft, JOINTS, numbers);
     run_words(
+        name,
         text,
         draft,
         origins,
@@ -235,6 +284,7 @@ fn run_numbers(
 
 // As many bodies as there are.
 fn run_bodies(
+    name: &[u8],
     text: &[u8],
     draft: &[f32],
     origins: &[u32],
@@ -243,18 +293,19 @@ fn run_bodies(
     bodies: &mut [f32],
     numbers: &mut [f32],
     st: State,
-    mode: u32,
+    mode: Mode,
 ) -> u32 {
     let i = st.bodies;
     if MOST < i {
-        return NO_FILE;
+        return 2;
     }
     let b = BODY_WIDTH * i as usize;
     if bodies.len() < b {
-        return NO_FILE;
+        return 2;
     }
     copy(draft, BODIES, bodies);
     run_numbers(
+        name,
         text,
         draft,
         origins,
@@ -269,17 +320,19 @@ fn run_bodies(
 
 // The storage of a study's bodies and joints.
 fn run_read(
+    name: &[u8],
     text: &[u8],
     draft: &[f32],
     origins: &[u32],
     words: &mut [u32],
     names: &[u32],
     st: State,
-    mode: u32,
+    mode: Mode,
 ) -> u32 {
     let mut bodies = [0.0f32; BODY_NUMBERS];
     let mut numbers = [0.0f32; JOINT_NUMBERS];
     run_bodies(
+        name,
         text,
         draft,
         origins,
@@ -304,33 +357,96 @@ fn status_of(refused: u32) -> u32 {
 }
 
 // A study's text: read, run, and its end told.
-fn study(name: &[u8], text: &[u8], mode: u32) -> u32 {
+fn study(name: &[u8], text: &[u8], mode: Mode) -> u32 {
     let mut draft = [0.0f32; NUMBERS];
     let mut origins = [0u32; ORIGINS];
     let mut words = [0u32; WORDS];
     let mut names = [0u32; NAMES];
     let st = read_study(text, &mut draft, &mut origins, &mut words, &mut names);
     if st.fault != 0 {
-        say_fault(name, text, st);
+        say_fault(name, text, &names, st);
         return 2;
     }
-    warnings(text, &draft, &origins, &words, &names, st.bodies, st.joints);
-    if mode == DRAW {
+    let runs = mode.command == FILE;
+    let warned = warnings(name, text, &draft, &origins, &words, &names, st, runs);
+    if mode.command == DRAW {
         draw(text, &draft, &words, &names, st.bodies, st.joints);
-        return 0;
+        return strict_status(mode, warned, 0);
     }
-    status_of(run_read(text, &draft, &origins, &mut words, &names, st, mode))
+    let status = run_read(name, text, &draft, &origins, &mut words, &names, st, mode);
+    if mode.command == CHECK {
+        say_checked(name, status, warned);
+    }
+    strict_status(mode, warned, status)
 }
 
 // ---- files and arguments
 
-fn say_too_long(name: &[u8]) {
+fn say_too_long(name: &[u8]) -> u32 {
     err(name);
-    err(b": a study has at most 262143 bytes\n");
+    err(b":1:1: a study has at most 262143 bytes\n");
+    2
+}
+
+// How a text starts: with UTF-8's byte order mark, with one of UTF-16, or with neither.
+const PLAIN: u32 = 0;
+
+const MARKED: u32 = 1;
+
+const WIDE: u32 = 2;
+
+fn byte_at(text: &[u8], i: usize) -> u8 {
+    if i < text.len() {
+        return text[i];
+    }
+    0
+}
+
+fn start_of(text: &[u8]) -> u32 {
+    let a = byte_at(text, 0);
+    let b = byte_at(text, 1);
+    if a == 0xEF {
+        if b == 0xBB {
+            if byte_at(text, 2) == 0xBF {
+                return MARKED;
+            }
+        }
+    }
+    if a == 0xFF {
+        if b == 0xFE {
+            return WIDE;
+        }
+    }
+    if a == 0xFE {
+        if b == 0xFF {
+            return WIDE;
+        }
+    }
+    PLAIN
+}
+
+fn say_wide(name: &[u8]) -> u32 {
+    err(name);
+    err(b":1:1: a text in UTF-16; a study is read in UTF-8 (or ASCII): save it so\n");
+    2
+}
+
+// A text without its byte order mark.
+fn study_of(name: &[u8], text: &[u8], mode: Mode) -> u32 {
+    let start = start_of(text);
+    if start == WIDE {
+        return say_wide(name);
+    }
+    if start == MARKED {
+        if 3 <= text.len() {
+            return study(name, &text[3..], mode);
+        }
+    }
+    study(name, text, mode)
 }
 
 // A study from a descriptor.
-fn study_from(name: &[u8], fd: i32, mode: u32) -> u32 {
+fn study_from(name: &[u8], fd: i32, mode: Mode) -> u32 {
     let mut text = [0u8; 262144];
     let input = read_all(fd, &mut text);
     if input.failed {
@@ -339,17 +455,15 @@ fn study_from(name: &[u8], fd: i32, mode: u32) -> u32 {
     }
     let n = input.len;
     if n == 262144 {
-        say_too_long(name);
-        return 2;
+        return say_too_long(name);
     }
-    study(name, &text[..n], mode)
+    study_of(name, &text[..n], mode)
 }
 
-fn study_file(name: &[u8], mode: u32) -> u32 {
+fn study_file(name: &[u8], mode: Mode, first: bool) -> u32 {
     let fd = os::open_read(name);
     if fd < 0 {
-        os::fail(name);
-        return 2;
+        return say_missing(name, first);
     }
     let status = study_from(name, fd, mode);
     libc::close(fd);
@@ -375,24 +489,88 @@ const PRINT: u32 = 8;
 
 const SEEDED: u32 = 9;
 
-fn option_of(arg: &[u8]) -> u32 {
+const STRICT: u32 = 10;
+
+const INPUT: u32 = 11;
+
+const OPTION: u32 = 12;
+
+const CSV: u32 = 13;
+
+const BY_REACTION: u32 = 14;
+
+const BY_VELOCITY: u32 = 15;
+
+fn word_of(arg: &[u8]) -> Word {
+    Word {
+        start: 0,
+        end: arg.len(),
+    }
+}
+
+fn known(arg: &[u8]) -> u32 {
     number_in(
         b"\
         check 1\n\
+        help 3\n\
+        -h 3\n\
         --help 3\n\
         --version 4\n\
         --status 5\n\
         draw 7\n\
         print 8\n\
         seeded 9\n\
+        --strict 10\n\
+        - 11\n\
+        csv 13\n\
+        --reactions 14\n\
+        --velocities 15\n\
         ",
         FILE,
         arg,
-        Word {
-            start: 0,
-            end: arg.len(),
-        },
+        word_of(arg),
     )
+}
+
+// A word that is not known is a file's name, and an option where it starts with a hyphen.
+fn option_of(arg: &[u8]) -> u32 {
+    let kind = known(arg);
+    if kind == FILE {
+        if byte_at(arg, 0) == b'-' {
+            return OPTION;
+        }
+    }
+    kind
+}
+
+// A file that cannot be opened. The first word of all may have been meant as a command.
+fn say_missing(name: &[u8], first: bool) -> u32 {
+    if first {
+        if os::errno() == ENOENT {
+            err(name);
+            err(b": no such file, and no command");
+            suggest_command(name);
+            say_commands();
+            return 2;
+        }
+    }
+    os::fail(name);
+    2
+}
+
+fn suggest_command(name: &[u8]) {
+    suggest(
+        b"check\ncsv\ndraw\nprint\nseeded\nexample\nhelp\n",
+        0,
+        name,
+        word_of(name),
+    );
+}
+
+fn say_commands() {
+    err(
+        b"\nstudy: the commands are check, csv, draw, print, seeded, example and help; `study help` says what each does\n",
+    );
 }
 
 // Argument i by its kind.
@@ -417,28 +595,96 @@ fn say_file(name: &[u8], several: bool) {
     }
 }
 
-fn argument_file(i: usize, mode: u32, several: bool) -> u32 {
+fn say_option(name: &[u8]) -> u32 {
+    err(b"study: ");
+    err(name);
+    err(b": no such option");
+    suggest(
+        b"--help\n--strict\n--version\n--reactions\n--velocities\n",
+        0,
+        name,
+        word_of(name),
+    );
+    err(b"\n");
+    2
+}
+
+// The file that an argument names; a hyphen is standard input.
+fn named_file(name: &[u8], mode: Mode, several: bool, first: bool) -> u32 {
+    let kind = option_of(name);
+    if kind == INPUT {
+        say_file(b"standard input", several && mode.kind == ALL);
+        return study_from(b"standard input", STDIN_FILENO, mode);
+    }
+    say_file(name, several && mode.kind == ALL);
+    study_file(name, mode, first)
+}
+
+fn argument_file(i: usize, mode: Mode, several: bool, first: bool) -> u32 {
     let mut arg = io::buffer();
     let n = os::arg(i, &mut arg);
     if os::errno() != 0 {
         os::fail(b"study: argument");
         return 2;
     }
-    say_file(&arg[..n], several);
-    study_file(&arg[..n], mode)
+    named_file(&arg[..n], mode, several, first)
 }
 
-// Each file from argument i on.
-fn files(from: usize, mode: u32) -> u32 {
-    if 4096 < from {
+// No command stands before the files.
+fn is_bare(mode: Mode) -> bool {
+    mode.command == FILE && mode.kind == ALL
+}
+
+fn is_first(bare: bool, i: usize, from: usize) -> bool {
+    bare && i == from
+}
+
+// ---- what cannot be opened is found before anything runs
+
+fn find_file(name: &[u8], first: bool) -> u32 {
+    let kind = option_of(name);
+    if kind == INPUT {
+        return 0;
+    }
+    if kind == OPTION {
+        return say_option(name);
+    }
+    let fd = os::open_read(name);
+    if fd < 0 {
+        return say_missing(name, first);
+    }
+    libc::close(fd);
+    0
+}
+
+fn find_argument(i: usize, first: bool) -> u32 {
+    let mut arg = io::buffer();
+    let n = os::arg(i, &mut arg);
+    if os::errno() != 0 {
+        os::fail(b"study: argument");
         return 2;
     }
+    find_file(&arg[..n], first)
+}
+
+fn find_files(from: usize, bare: bool) -> u32 {
     let mut i = from;
     let mut status: u32 = 0;
     let count = os::arg_count();
-    let several = from + 1 < count;
     while i < count {
-        status = worse(status, argument_file(i, mode, several));
+        status = worse(status, find_argument(i, is_first(bare, i, from)));
+        i += 1;
+    }
+    status
+}
+
+fn each_file(from: usize, mode: Mode, several: bool) -> u32 {
+    let mut i = from;
+    let mut status: u32 = 0;
+    let count = os::arg_count();
+    while i < count {
+        let first = is_first(is_bare(mode), i, from);
+        status = worse(status, argument_file(i, mode, several, first));
         if is_lost(STDOUT_FILENO) {
             return 2;
         }
@@ -447,43 +693,137 @@ fn files(from: usize, mode: u32) -> u32 {
     status
 }
 
+// Each file from argument i on.
+fn files(from: usize, mode: Mode) -> u32 {
+    if 4096 < from {
+        return 2;
+    }
+    let several = from + 1 < os::arg_count();
+    if several {
+        if mode.command == DRAW {
+            err(b"study: a picture is of one file; `study draw FILE... --to DIR` writes several\n");
+            return 2;
+        }
+        let missing = find_files(from, is_bare(mode));
+        if missing != 0 {
+            return missing;
+        }
+    }
+    if mode.kind != ALL {
+        out_csv_heading(mode.kind);
+    }
+    each_file(from, mode, several)
+}
+
 // The files after a word that asks for some.
-fn files_after(i: usize, mode: u32) -> u32 {
+fn files_after(i: usize, mode: Mode) -> u32 {
     if 4096 < i {
         return 2;
     }
     if os::arg_count() <= i + 1 {
-        err(b"study: expected the name of a file after `check`, `draw` or `print`\n");
+        err(
+            b"study: expected the name of a file after `check`, `csv`, `draw` or `print`; - is standard input\n",
+        );
         return 2;
     }
     files(i + 1, mode)
 }
 
-// The arguments from i on.
-fn asked(i: usize) -> u32 {
-    let kind = kind_of(i);
-    if kind == MISSING {
-        return study_from(b"standard input", STDIN_FILENO, FILE);
+// After a command, `--strict` may stand before the files.
+fn files_of(i: usize, command: u32, strict: bool) -> u32 {
+    if 4096 < i {
+        return 2;
     }
-    if kind == HELP {
-        help();
-        return 0;
+    if kind_of(i + 1) == STRICT {
+        return files_after(
+            i + 1,
+            Mode {
+                command,
+                kind: ALL,
+                strict: true,
+            },
+        );
     }
-    if kind == VERSION {
-        version();
-        return 0;
-    }
-    if kind == SEEDED {
-        return seeded_after(i);
-    }
-    asked_files(i, kind)
+    files_after(
+        i,
+        Mode {
+            command,
+            kind: ALL,
+            strict,
+        },
+    )
 }
 
-fn asked_files(i: usize, kind: u32) -> u32 {
-    if kind == FILE {
-        return files(i, kind);
+// The records of one kind: rows, unless an option after the word says otherwise.
+fn records_of(i: usize, strict: bool) -> u32 {
+    if 4096 < i {
+        return 2;
     }
-    files_after(i, kind)
+    let option = kind_of(i + 1);
+    if option == BY_REACTION {
+        return records_after(i + 1, REACTIONS, strict);
+    }
+    if option == BY_VELOCITY {
+        return records_after(i + 1, VELOCITIES, strict);
+    }
+    records_after(i, ROWS, strict)
+}
+
+fn records_after(i: usize, kind: u32, strict: bool) -> u32 {
+    if 4096 < i {
+        return 2;
+    }
+    files_after(
+        i,
+        Mode {
+            command: FILE,
+            kind,
+            strict,
+        },
+    )
+}
+
+// The arguments from i on.
+fn asked(i: usize, strict: bool) -> u32 {
+    let kind = kind_of(i);
+    let mode = Mode {
+        command: FILE,
+        kind: ALL,
+        strict,
+    };
+    match kind {
+        MISSING => study_from(b"standard input", STDIN_FILENO, mode),
+        HELP => {
+            help();
+            0
+        }
+        VERSION => {
+            version();
+            0
+        }
+        SEEDED => seeded_after(i),
+        CHECK | DRAW | PRINT => files_of(i, kind, strict),
+        CSV => records_of(i, strict),
+        FILE | INPUT => files(i, mode),
+        _ => option_at(i),
+    }
+}
+
+fn option_at(i: usize) -> u32 {
+    let mut arg = io::buffer();
+    let n = os::arg(i, &mut arg);
+    say_option(&arg[..n])
+}
+
+// `--strict` stands before the command or after it.
+fn asked_from(i: usize) -> u32 {
+    if 4096 < i {
+        return 2;
+    }
+    if kind_of(i) == STRICT {
+        return asked(i + 1, true);
+    }
+    asked(i, false)
 }
 
 // A program cannot end with a status of its own: with --status as its first argument it writes one digit to descriptor 3.
@@ -505,8 +845,8 @@ fn ended(status: u32) -> u32 {
 
 fn main() {
     if kind_of(1) == STATUS {
-        tell(ended(asked(2)));
+        tell(ended(asked_from(2)));
         return;
     }
-    ended(asked(1));
+    ended(asked_from(1));
 }

@@ -79,7 +79,7 @@ fn line_start(lines: &[u8], k: u32) -> usize {
 }
 
 // The first line feed from a place on, or the text's end.
-fn line_end(lines: &[u8], start: usize) -> usize {
+pub fn line_end(lines: &[u8], start: usize) -> usize {
     let mut at = start;
     while at < lines.len() {
         if lines[at] == b'\n' {

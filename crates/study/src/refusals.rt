@@ -3,6 +3,7 @@ use crate::out::err;
 use crate::out::err_line;
 use crate::out::err_number;
 use crate::out::err_part;
+use crate::place::show_line;
 use floats::scalar::is_finite;
 use study_reader::names::body_name;
 use study_reader::names::joint_name;
@@ -14,6 +15,7 @@ use study_reader::storage::number_at;
 use study_reader::storage::word_at;
 use study_reader::storage::words_base;
 use study_reader::words::Word;
+use study_reader::words::column_of;
 use study_reader::words::line_of;
 
 // The rule that a refusal's number stands for: what has to hold.
@@ -42,13 +44,22 @@ pub fn say_rule(k: u32) {
     );
 }
 
+// The place in the same file, and the line itself below.
+fn say_given(text: &[u8], at: usize) {
+    err(b", line ");
+    err_number(line_of(text, at));
+    err(b", column ");
+    err_number(column_of(text, at));
+    err(b"\n");
+    show_line(text, at);
+}
+
 fn say_line(text: &[u8], at: u32) {
     if at == 0 {
-        err(b", by default");
+        err(b", by default\n");
         return;
     }
-    err(b", line ");
-    err_number(line_of(text, at as usize));
+    say_given(text, at as usize);
 }
 
 fn say_name(text: &[u8], what: &[u8], w: Word) {
@@ -391,8 +402,8 @@ pub struct Counts {
 }
 
 fn say_call(text: &[u8], c: Counts) {
-    err(b"the call itself, line ");
-    err_number(line_of(text, c.call));
+    err(b"the call itself");
+    say_given(text, c.call);
 }
 
 // A joint's mask above 7, or one that a call brings.

@@ -1,10 +1,11 @@
 // How far from settled the rows of a built model are: a row's residual is what one more step would change of its impulse.
 use crate::counts::keep;
 use crate::out::err;
-use crate::out::err_number;
 use crate::out::out;
 use crate::out::out_number;
 use crate::out::out_part;
+use crate::place::show_line;
+use crate::repeated::begin_warning;
 use model::calls::Plain;
 use model::calls::read_rows;
 use model::calls::sweep;
@@ -14,7 +15,6 @@ use rows::joint_velocity_constraint::Rows;
 use rows::joint_velocity_constraint::WritebackId;
 use rows::row_ids::RowIds;
 use study_reader::names::joint_name;
-use study_reader::words::line_of;
 use study_text::residual::write_residual;
 
 // The row of the largest residual, if there is a row: its joint and id, and the residual's size; and the size of the largest impulse of all rows.
@@ -157,15 +157,30 @@ pub fn out_residual(text: &[u8], names: &[u32], l: Residual) {
     out_part(&line, 0, n);
 }
 
-// A residual above a thousandth of the largest impulse of the table.
-pub fn warn_residual(text: &[u8], at: usize, l: Residual) {
-    if is_larger(l.residual, l.impulse * 0.001) {
-        err(b"study: line ");
-        err_number(line_of(text, at));
-        err(
-            b": warning: the rows are not settled: the largest residual is above a thousandth of the largest impulse\n",
-        );
+// A NaN among a table's impulses and residuals, or a residual above a thousandth of the largest impulse. Whether there was one.
+pub fn warn_residual(name: &[u8], text: &[u8], at: usize, l: Residual) -> bool {
+    if is_lost_number(l) {
+        begin_warning(name, text, at);
+        err(b"an impulse or a residual of this table is not a number\n");
+        show_line(text, at);
+        return true;
     }
+    if is_larger(l.residual, l.impulse * 0.001) {
+        begin_warning(name, text, at);
+        err(
+            b"the rows are not settled: the largest residual is above a thousandth of the largest impulse\n",
+        );
+        show_line(text, at);
+        return true;
+    }
+    false
+}
+
+fn is_lost_number(l: Residual) -> bool {
+    if l.residual != l.residual {
+        return true;
+    }
+    l.impulse != l.impulse
 }
 
 // ---- sweeps until no residual is above a tolerance
@@ -222,6 +237,39 @@ fn say_rounds(settled: bool, n: u32) {
     out(b"settled after ");
     out_number(n as u64);
     out(b" rounds\n");
+}
+
+// Sweeps, and says nothing of it.
+pub fn settle_unsaid(
+    header: Header,
+    bodies: &mut [f32],
+    words: &[u32],
+    numbers: &[f32],
+    rows: &mut [f32],
+    counts: &mut [u8],
+    joints: u32,
+    tolerance: f32,
+    most: u32,
+) -> u32 {
+    let first = sweep(header, bodies, words, numbers, rows, 0);
+    let answer = first.answer;
+    match answer {
+        Plain::Refused(k) => k,
+        Plain::Granted => {
+            rounds(
+                header,
+                bodies,
+                words,
+                numbers,
+                rows,
+                counts,
+                joints,
+                tolerance,
+                most,
+            );
+            0
+        }
+    }
 }
 
 // The number of the refusal, or 0.

@@ -1,17 +1,24 @@
 // The calls of a study, in order. The first refused call ends it.
 use crate::counts::forget;
 use crate::counts::keep;
-use crate::input::read_all;
+use crate::csv::ALL;
+use crate::csv::Table;
+use crate::csv::VELOCITIES;
+use crate::csv::joint_records;
+use crate::csv::velocity_records;
 use crate::out::err;
 use crate::out::err_number;
 use crate::out::is_lost;
 use crate::out::out_part;
+use crate::place::say_place;
 use crate::refusals::Counts;
 use crate::refusals::say_rule;
 use crate::refusals::say_where;
+use crate::repeated::either;
 use crate::residual::largest;
 use crate::residual::out_residual;
 use crate::residual::settle;
+use crate::residual::settle_unsaid;
 use crate::residual::warn_residual;
 use crate::table::Heading;
 use crate::table::Printed;
@@ -21,6 +28,7 @@ use crate::table::out_reaction_heading;
 use crate::table::out_reaction_notes;
 use crate::table::out_rules;
 use crate::table::reaction_line;
+use crate::targets::run_targets;
 use floats::pose::Pose;
 use floats::rotation_ops::Rotation;
 use floats::vector::Vector;
@@ -34,10 +42,10 @@ use model::calls::VelocityAnswer;
 use model::calls::build;
 use model::calls::load;
 use model::calls::place;
+use model::calls::read_rows;
 use model::calls::read_velocity;
 use model::calls::remove_bias;
 use model::calls::set_masks;
-use model::calls::set_targets;
 use model::calls::sweep;
 use model::calls::warm_start;
 use model::calls::write_back;
@@ -69,7 +77,6 @@ use study_reader::storage::word_at;
 use study_reader::storage::words_base;
 use study_reader::words::Word;
 use study_reader::words::is_empty;
-use study_reader::words::line_of;
 use study_reader::words::next_line;
 use study_reader::words::next_word;
 use study_text::velocity::write_velocity;
@@ -186,84 +193,8 @@ fn run_place(header: Header, bodies: &mut [f32], words: &[u32], numbers: &[f32],
     )
 }
 
-// ---- a motor table
-
 // Not a refusal's number: a file that cannot be read, or standard output that cannot be written.
 pub const NO_FILE: u32 = 99;
-
-fn too_long(name: &[u8]) -> u32 {
-    err(name);
-    err(b": a motor table has at most 262143 bytes\n");
-    NO_FILE
-}
-
-// A table's bytes from a descriptor.
-fn targets_from(
-    name: &[u8],
-    fd: i32,
-    header: Header,
-    bodies: &[f32],
-    words: &[u32],
-    numbers: &mut [f32],
-) -> u32 {
-    let mut table = [0u8; 262144];
-    let input = read_all(fd, &mut table);
-    if input.failed {
-        os::fail(name);
-        return NO_FILE;
-    }
-    let n = input.len;
-    if n == 262144 {
-        return too_long(name);
-    }
-    match set_targets(header, bodies, words, numbers, &table[..n]) {
-        Plain::Granted => 0,
-        Plain::Refused(k) => k,
-    }
-}
-
-fn targets_file(
-    name: &[u8],
-    header: Header,
-    bodies: &[f32],
-    words: &[u32],
-    numbers: &mut [f32],
-) -> u32 {
-    let fd = os::open_read(name);
-    if fd < 0 {
-        os::fail(name);
-        return NO_FILE;
-    }
-    let k = targets_from(name, fd, header, bodies, words, numbers);
-    libc::close(fd);
-    k
-}
-
-fn run_targets(
-    text: &[u8],
-    header: Header,
-    bodies: &[f32],
-    words: &[u32],
-    numbers: &mut [f32],
-    l: Line,
-) -> Done {
-    let start = l.start;
-    let end = l.end;
-    if text.len() < end {
-        return Done {
-            header,
-            refused: NO_FILE,
-        };
-    }
-    if end < start {
-        return Done {
-            header,
-            refused: NO_FILE,
-        };
-    }
-    let refused = targets_file(&text[start..end], header, bodies, words, numbers);
-    Done { header, refused }
-}
 
 // ---- what is printed
 
@@ -406,7 +337,6 @@ fn run_table(
             out_reaction_notes();
             out_rules(p.used);
         }
-        warn_residual(text, l.start, most);
     }
     Done {
         header,
@@ -516,6 +446,7 @@ fn run_working(
 }
 
 fn run_call(
+    name: &[u8],
     text: &[u8],
     names: &[u32],
     header: Header,
@@ -547,7 +478,12 @@ fn run_call(
         return run_frame(header, bodies, words, numbers, rows, counts, l);
     }
     if l.keyword == SET_TARGETS {
-        return run_targets(text, header, bodies, words, numbers, l);
+        let w = Word {
+            start: l.start,
+            end: l.end,
+        };
+        let refused = run_targets(name, text, w, header, bodies, words, numbers);
+        return Done { header, refused };
     }
     if l.keyword == SETTLE {
         let refused = settle(
@@ -582,10 +518,191 @@ fn run_call(
     )
 }
 
+// ---- records of the tables alone
+
+fn all_records(
+    name: &[u8],
+    text: &[u8],
+    names: &[u32],
+    header: Header,
+    bodies: &[f32],
+    words: &[u32],
+    numbers: &[f32],
+    rows: &[f32],
+    counts: &[u8],
+    joints: u32,
+    t: Table,
+    kind: u32,
+) {
+    let mut j: u32 = 0;
+    while j < joints {
+        let h = heading_of(words, j, true);
+        joint_records(
+            name,
+            text,
+            names,
+            header,
+            bodies,
+            words,
+            numbers,
+            rows,
+            counts,
+            t,
+            h,
+            kind,
+        );
+        j += 1;
+    }
+}
+
+fn record_table(
+    name: &[u8],
+    text: &[u8],
+    names: &[u32],
+    header: Header,
+    bodies: &[f32],
+    words: &[u32],
+    numbers: &[f32],
+    rows: &[f32],
+    counts: &[u8],
+    st: State,
+    t: Table,
+    kind: u32,
+) -> Done {
+    if !header.built {
+        return Done {
+            header,
+            refused: 10,
+        };
+    }
+    if kind == VELOCITIES {
+        velocity_records(
+            name,
+            text,
+            names,
+            header,
+            bodies,
+            words,
+            numbers,
+            t,
+            st.bodies,
+        );
+    } else {
+        all_records(
+            name,
+            text,
+            names,
+            header,
+            bodies,
+            words,
+            numbers,
+            rows,
+            counts,
+            st.joints,
+            t,
+            kind,
+        );
+    }
+    Done { header, refused: 0 }
+}
+
+// What a reading would be refused with.
+fn read_nothing(
+    header: Header,
+    bodies: &[f32],
+    words: &[u32],
+    numbers: &[f32],
+    rows: &[f32],
+    l: Line,
+) -> Done {
+    if l.keyword == READ_ROWS {
+        let read = read_rows(header, bodies, words, numbers, rows, l.number);
+        let answer = read.answer;
+        return plain(header, answer);
+    }
+    if l.keyword == READ_VELOCITY {
+        return match read_velocity(header, bodies, words, numbers, l.number) {
+            VelocityAnswer::Velocity(_) => Done { header, refused: 0 },
+            VelocityAnswer::Refused(k) => Done { header, refused: k },
+        };
+    }
+    Done { header, refused: 0 }
+}
+
+// A call that prints, as records or not at all; any other call as it is.
+fn run_or_record(
+    name: &[u8],
+    text: &[u8],
+    names: &[u32],
+    header: Header,
+    bodies: &mut [f32],
+    words: &mut [u32],
+    numbers: &mut [f32],
+    rows: &mut [f32],
+    counts: &mut [u8],
+    st: State,
+    l: Line,
+    t: Table,
+    kind: u32,
+) -> Done {
+    if kind != ALL {
+        if l.keyword == TABLE {
+            return record_table(
+                name,
+                text,
+                names,
+                header,
+                bodies,
+                words,
+                numbers,
+                rows,
+                counts,
+                st,
+                t,
+                kind,
+            );
+        }
+        if l.keyword == SETTLE {
+            let refused = settle_unsaid(
+                header,
+                bodies,
+                words,
+                numbers,
+                rows,
+                counts,
+                st.joints,
+                l.x,
+                l.number,
+            );
+            return Done { header, refused };
+        }
+        if l.keyword == READ_ROWS {
+            return read_nothing(header, bodies, words, numbers, rows, l);
+        }
+        if l.keyword == READ_VELOCITY {
+            return read_nothing(header, bodies, words, numbers, rows, l);
+        }
+    }
+    run_call(
+        name,
+        text,
+        names,
+        header,
+        bodies,
+        words,
+        numbers,
+        rows,
+        counts,
+        st.joints,
+        l,
+    )
+}
+
 // ---- all calls
 
 // How far a study is: the header; where the next line is; the `repeat` that is open, by where its first line is and how many turns are left
-// after this one; whether it is over, and the refusal that ended it, or 0.
+// after this one; whether it is over, and the refusal that ended it, or 0; whether there was a
+// warning; what is printed of the study, and how many tables were printed.
 pub struct Run {
     pub header: Header,
     pub at: usize,
@@ -593,10 +710,13 @@ pub struct Run {
     pub left: u32,
     pub over: bool,
     pub refused: u32,
+    pub warned: bool,
+    pub kind: u32,
+    pub tables: u32,
 }
 
 // Past the `end` of a `repeat` of no turns.
-fn skip(text: &[u8], from: usize) -> usize {
+pub fn skip(text: &[u8], from: usize) -> usize {
     let mut at = from;
     let mut lines = text.len();
     while 0 < lines {
@@ -651,10 +771,9 @@ fn after_call(text: &[u8], r: Run, l: Line) -> Run {
     moved(r, next)
 }
 
-fn say_refused(text: &[u8], k: u32, at: usize) {
-    err(b"study: line ");
-    err_number(line_of(text, at));
-    err(b": refused with ");
+fn say_refused(name: &[u8], text: &[u8], k: u32, at: usize) {
+    say_place(name, text, at);
+    err(b"refused with ");
     err_number(k as u64);
     err(b": ");
     say_rule(k);
@@ -674,6 +793,7 @@ fn say_progress(calls: u64) {
 
 // Tells where a call was refused.
 fn say_all(
+    name: &[u8],
     text: &[u8],
     names: &[u32],
     origins: &[u32],
@@ -684,13 +804,13 @@ fn say_all(
     c: Counts,
     k: u32,
 ) {
-    say_refused(text, k, c.call);
+    say_refused(name, text, k, c.call);
     say_where(text, names, origins, settings, bodies, words, numbers, c, k);
-    err(b"\n");
 }
 
 // Loads and runs nothing.
 pub fn check_study(
+    name: &[u8],
     text: &[u8],
     names: &[u32],
     origins: &[u32],
@@ -710,6 +830,7 @@ pub fn check_study(
             call: read.calls,
         };
         say_all(
+            name,
             text,
             names,
             origins,
@@ -731,6 +852,42 @@ fn granted(text: &[u8], r: Run, header: Header, l: Line) -> Run {
     after_call(text, s, l)
 }
 
+fn counted(tables: u32) -> u32 {
+    if tables < 4294967295 {
+        return tables + 1;
+    }
+    tables
+}
+
+fn with_table(r: Run, warned: bool, keyword: u32) -> Run {
+    let mut s = r;
+    s.warned = either(r.warned, warned);
+    if keyword == TABLE {
+        s.tables = counted(r.tables);
+    }
+    s
+}
+
+// What a table's numbers say of themselves.
+fn warn_table(
+    name: &[u8],
+    text: &[u8],
+    header: Header,
+    bodies: &[f32],
+    words: &[u32],
+    numbers: &[f32],
+    rows: &[f32],
+    joints: u32,
+    keyword: u32,
+    w: Word,
+) -> bool {
+    if keyword != TABLE {
+        return false;
+    }
+    let most = largest(header, bodies, words, numbers, rows, joints);
+    warn_residual(name, text, w.start, most)
+}
+
 // The run that a refusal ends.
 fn refused(r: Run, k: u32) -> Run {
     let mut s = r;
@@ -739,12 +896,50 @@ fn refused(r: Run, k: u32) -> Run {
     s
 }
 
+// The run after a call.
+fn after_turn(
+    name: &[u8],
+    text: &[u8],
+    bodies: &[f32],
+    words: &[u32],
+    numbers: &[f32],
+    rows: &[f32],
+    st: State,
+    r: Run,
+    w: Word,
+    l: Line,
+    done: Done,
+) -> Run {
+    let k = done.refused;
+    let header = done.header;
+    if WRITE_BACK < l.keyword {
+        if is_lost(STDOUT_FILENO) {
+            return refused(r, NO_FILE);
+        }
+    }
+    if k == 0 {
+        let warned = warn_table(
+            name,
+            text,
+            header,
+            bodies,
+            words,
+            numbers,
+            rows,
+            st.joints,
+            l.keyword,
+            w,
+        );
+        return granted(text, with_table(r, warned, l.keyword), header, l);
+    }
+    refused(r, k)
+}
+
 // The call that starts with a word.
 fn turn_call(
+    name: &[u8],
     text: &[u8],
     names: &[u32],
-    origins: &[u32],
-    settings: &[f32],
     bodies: &mut [f32],
     words: &mut [u32],
     numbers: &mut [f32],
@@ -757,7 +952,12 @@ fn turn_call(
     // A `repeat` is read where none is open, an `end` where one is: the text was read before.
     let open = call_keyword(text, w) == END;
     let l = read_call(text, names, st.bodies, st.joints, open, w);
-    let done = run_call(
+    let t = Table {
+        at: w.start,
+        number: counted(r.tables),
+    };
+    let done = run_or_record(
+        name,
         text,
         names,
         r.header,
@@ -766,36 +966,19 @@ fn turn_call(
         numbers,
         rows,
         counts,
-        st.joints,
+        st,
         l,
+        t,
+        r.kind,
     );
-    let k = done.refused;
-    if WRITE_BACK < l.keyword {
-        if is_lost(STDOUT_FILENO) {
-            return refused(r, NO_FILE);
-        }
-    }
-    if k == 0 {
-        return granted(text, r, done.header, l);
-    }
-    if k == NO_FILE {
-        return refused(r, k);
-    }
-    let c = Counts {
-        bodies: st.bodies,
-        joints: st.joints,
-        call: w.start,
-    };
-    say_all(text, names, origins, settings, bodies, words, numbers, c, k);
-    refused(r, k)
+    after_turn(name, text, bodies, words, numbers, rows, st, r, w, l, done)
 }
 
 // One line.
 fn turn(
+    name: &[u8],
     text: &[u8],
     names: &[u32],
-    origins: &[u32],
-    settings: &[f32],
     bodies: &mut [f32],
     words: &mut [u32],
     numbers: &mut [f32],
@@ -812,10 +995,9 @@ fn turn(
         return moved(r, next_line(text, w.end));
     }
     turn_call(
+        name,
         text,
         names,
-        origins,
-        settings,
         bodies,
         words,
         numbers,
@@ -829,10 +1011,9 @@ fn turn(
 
 // A turn, and where somebody watches, how far the study is.
 fn told_turn(
+    name: &[u8],
     text: &[u8],
     names: &[u32],
-    origins: &[u32],
-    settings: &[f32],
     bodies: &mut [f32],
     words: &mut [u32],
     numbers: &mut [f32],
@@ -843,10 +1024,9 @@ fn told_turn(
     calls: u64,
 ) -> Run {
     let next = turn(
+        name,
         text,
         names,
-        origins,
-        settings,
         bodies,
         words,
         numbers,
@@ -859,12 +1039,11 @@ fn told_turn(
     next
 }
 
-// All calls; the number of the refusal that ended the study, or 0.
+// All calls, as far as the first that is refused.
 fn run_calls(
+    name: &[u8],
     text: &[u8],
     names: &[u32],
-    origins: &[u32],
-    settings: &[f32],
     bodies: &mut [f32],
     words: &mut [u32],
     numbers: &mut [f32],
@@ -872,19 +1051,18 @@ fn run_calls(
     counts: &mut [u8],
     st: State,
     start: Run,
-) -> u32 {
+) -> Run {
     let mut r = start;
     let mut calls: u64 = 0;
     while calls < 1000000000000000 {
         if r.over {
-            return r.refused;
+            return r;
         }
         calls += 1;
         r = told_turn(
+            name,
             text,
             names,
-            origins,
-            settings,
             bodies,
             words,
             numbers,
@@ -895,10 +1073,11 @@ fn run_calls(
             calls,
         );
     }
-    0
+    r
 }
 
 pub fn run_study(
+    name: &[u8],
     text: &[u8],
     names: &[u32],
     origins: &[u32],
@@ -909,14 +1088,14 @@ pub fn run_study(
     numbers: &mut [f32],
     rows: &mut [f32],
     st: State,
-) -> u32 {
+    kind: u32,
+) -> Run {
     let mut counts = [0u8; 129];
-    let start = begun(header, st.calls);
-    run_calls(
+    let start = begun(header, st.calls, kind);
+    let r = run_calls(
+        name,
         text,
         names,
-        origins,
-        settings,
         bodies,
         words,
         numbers,
@@ -924,10 +1103,62 @@ pub fn run_study(
         &mut counts,
         st,
         start,
-    )
+    );
+    say_ended(
+        name,
+        text,
+        names,
+        origins,
+        settings,
+        bodies,
+        words,
+        numbers,
+        st,
+        r,
+    );
+    r
 }
 
-fn begun(header: Header, at: usize) -> Run {
+// Tells where the call was refused that ended a run.
+fn say_ended(
+    name: &[u8],
+    text: &[u8],
+    names: &[u32],
+    origins: &[u32],
+    settings: &[f32],
+    bodies: &[f32],
+    words: &[u32],
+    numbers: &[f32],
+    st: State,
+    r: Run,
+) {
+    if r.refused == 0 {
+        return;
+    }
+    if r.refused == NO_FILE {
+        return;
+    }
+    let w = next_word(text, r.at);
+    let c = Counts {
+        bodies: st.bodies,
+        joints: st.joints,
+        call: w.start,
+    };
+    say_all(
+        name,
+        text,
+        names,
+        origins,
+        settings,
+        bodies,
+        words,
+        numbers,
+        c,
+        r.refused,
+    );
+}
+
+fn begun(header: Header, at: usize, kind: u32) -> Run {
     Run {
         header,
         at,
@@ -935,5 +1166,8 @@ fn begun(header: Header, at: usize) -> Run {
         left: 0,
         over: false,
         refused: 0,
+        warned: false,
+        kind,
+        tables: 0,
     }
 }

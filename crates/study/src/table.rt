@@ -147,7 +147,7 @@ fn text_body1(text: &[u8], names: &[u32], joint: &[u8], h: Heading, line: Line) 
     text_body2(text, names, joint, &text[start..end], h, line);
 }
 
-fn text_joint(text: &[u8], names: &[u32], h: Heading, line: Line) {
+pub fn text_joint(text: &[u8], names: &[u32], h: Heading, line: Line) {
     let w = joint_name(names, h.joint);
     let start = w.start;
     let end = w.end;

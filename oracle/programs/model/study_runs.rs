@@ -49,6 +49,13 @@ fn without_words(out: &str) -> String {
     text
 }
 
+/// A line of standard error that starts with a file's name, a line and a column: the two numbers and what follows them.
+fn message<'a>(name: &str, line: &'a str) -> Option<((usize, usize), &'a str)> {
+    let mut parts = line.strip_prefix(name)?.strip_prefix(':')?.splitn(3, ':');
+    let place = (parts.next()?.parse().ok()?, parts.next()?.parse().ok()?);
+    Some((place, parts.next()?.strip_prefix(' ')?))
+}
+
 /// What the program must have said, from how the second reading ended.
 fn difference(name: &str, ended: &Ended, said: &Said) -> Option<String> {
     let out = without_words(&said.out);
@@ -58,12 +65,11 @@ fn difference(name: &str, ended: &Ended, said: &Said) -> Option<String> {
         return Some(format!("standard output differs at byte {at}: {:?}, not {:?}", part(&out), part(&ended.out)));
     }
     let not_read = said.errors.lines().find_map(|l| {
-        let rest = l.strip_prefix(&format!("{name}:"))?;
-        let mut parts = rest.splitn(3, ':');
-        Some((parts.next()?.parse::<usize>().ok()?, parts.next()?.parse::<usize>().ok()?))
+        let (place, what) = message(name, l)?;
+        (!what.starts_with("warning: ") && !what.starts_with("refused with ")).then_some(place)
     });
     let refused = said.errors.lines().find_map(|l| {
-        let rest = l.strip_prefix("study: line ")?.split_once(": refused with ")?.1;
+        let rest = message(name, l)?.1.strip_prefix("refused with ")?;
         rest.split(':').next()?.parse::<u64>().ok()
     });
     let expected = match ended.status {

@@ -5,10 +5,10 @@ use Rattle.study.proofs.draw.all_bodies.Statement.{statement}
 use Rattle.study.proofs.draw.all_bodies.Tie as tie
 
 abbrev Inv-loop : tie.InvT-loop
-Inv-loop draft bodies g₀ i₀ g i = Unit
+Inv-loop draft bodies f₀ i₀ f i = Unit
 
 abbrev μ-loop : tie.MeasureT-loop
-μ-loop draft bodies g₀ i₀ g i = bodies - i
+μ-loop draft bodies f₀ i₀ f i = bodies - i
 
 loop-holds : tie.Need-loop-holds Inv-loop μ-loop
 loop-holds c = search needs

@@ -5,10 +5,10 @@ use Rattle.study.proofs.draw.draw_joints.Statement.{statement}
 use Rattle.study.proofs.draw.draw_joints.Tie as tie
 
 abbrev Inv-loop : tie.InvT-loop
-Inv-loop text draft words names joints unit j₀ j = Unit
+Inv-loop pic draft words joints j₀ j = Unit
 
 abbrev μ-loop : tie.MeasureT-loop
-μ-loop text draft words names joints unit j₀ j = joints - j
+μ-loop pic draft words joints j₀ j = joints - j
 
 loop-holds : tie.Need-loop-holds Inv-loop μ-loop
 loop-holds c = search needs
@@ -31,4 +31,12 @@ returns c = search needs
 pub draw-joints-spec : {M : Type 1} → statement M
 draw-joints-spec =
     tie.close
-    (tie.spec Inv-loop μ-loop loop-holds draw-joint-requires add-j loop-less loop-again returns)
+    (tie.spec
+    Inv-loop
+    μ-loop
+    loop-holds
+    draw-joint-requires
+    add-j
+    loop-less
+    loop-again
+    returns)

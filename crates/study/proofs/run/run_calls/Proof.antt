@@ -7,10 +7,10 @@ use Rattle.study.proofs.run.run_calls.Statement.{statement}
 use Rattle.study.proofs.run.run_calls.Tie as tie
 
 abbrev Inv-loop : tie.InvT-loop
-Inv-loop text names origins settings bodies₀ words₀ numbers₀ rows₀ counts₀ st r₀ calls₀ bodies words numbers rows counts r calls = (length bodies ≡ length bodies₀) × ((length words ≡ length words₀) × ((length numbers ≡ length numbers₀) × ((length rows ≡ length rows₀) × (length counts ≡ length counts₀))))
+Inv-loop name text names bodies₀ words₀ numbers₀ rows₀ counts₀ st r₀ calls₀ bodies words numbers rows counts r calls = (length bodies ≡ length bodies₀) × ((length words ≡ length words₀) × ((length numbers ≡ length numbers₀) × ((length rows ≡ length rows₀) × (length counts ≡ length counts₀))))
 
 abbrev μ-loop : tie.MeasureT-loop
-μ-loop text names origins settings bodies₀ words₀ numbers₀ rows₀ counts₀ st r₀ calls₀ bodies words numbers rows counts r calls = 1000000000000000 - calls
+μ-loop name text names bodies₀ words₀ numbers₀ rows₀ counts₀ st r₀ calls₀ bodies words numbers rows counts r calls = 1000000000000000 - calls
 
 loop-holds : tie.Need-loop-holds Inv-loop μ-loop
 loop-holds c = search needs
