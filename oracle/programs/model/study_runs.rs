@@ -75,6 +75,8 @@ fn difference(name: &str, ended: &Ended, said: &Said) -> Option<String> {
     let expected = match ended.status {
         2 => (Some(ended.place), None),
         1 => (None, Some(ended.refused)),
+        // a table of targets that cannot be read: its place is not compared
+        3 => (not_read, None),
         _ => (None, None),
     };
     if (not_read, refused) != expected {
