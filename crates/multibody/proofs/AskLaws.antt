@@ -1,4 +1,4 @@
--- Rule 6's lists, part by part (`passes-then`) and place by place (`passes-at`, `passes-intro`), and as a loop tries so many numbers of one kind (`run-next`, `run-over`). A finite number fits everywhere, and every number fits at a free
+-- Rule 6's lists, part by part (`passes-then`) and place by place (`passes-at`, `passes-intro`), and as a loop tries so many numbers of one kind (`run-next`, `run-over`). A finite number passes everywhere, and every number passes at a free
 -- place. Stated once, over the list.
 use Prim.Native.Nat.{ℕ, zero, suc, _+_, _-_, _≤_, _<_}
 use mathlib.Core.Path.{_≡_, refl, sym, ap, _∙_}

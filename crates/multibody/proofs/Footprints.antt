@@ -1,5 +1,5 @@
 -- What a call changes of records of w numbers: storages of one length whose numbers are the same but where a number may be another (`SameBut`). Each is the same as itself, what changes in two steps changes in one, and a store of numbers
--- that may stand at their places is such a change. Places at which none may stand read as before (`kept`), and rule 6 holds as before where each that may stand fits (`passes-kept`). Stated once, over the width.
+-- that may stand at their places is such a change. Places at which none may stand read as before (`kept`), and rule 6 holds as before where each that may stand passes it (`passes-kept`). Stated once, over the width.
 use Prim.Native.Nat.{ℕ, suc, _+_, _*_, _≤_, _<_}
 use mathlib.Core.Path.{_≡_, refl, ap, _∙_}
 use mathlib.Core.Logic.{_⊎_, inl, inr, ⊎-elim}
@@ -23,7 +23,7 @@ pub record SameBut (w : ℕ) (May : ℕ → Float → Type 0) (s s′ : List Flo
   pub size : length s′ ≡ length s
   pub numbers : (k c : ℕ) → c < w → (num w s′ k c ≡ num w s k c) ⊎ May c (num w s′ k c)
 
--- any number at a free place; at every place a number that fits
+-- any number at a free place; at every place a number that passes
 abbrev pub Free : List Asks → ℕ → Float → Type 0
 Free asks c x = isFree (getD asks c free) ≡ true
 

@@ -1,4 +1,4 @@
--- What rule 6 asks of a record's numbers. A list says it of each place; rule 6, what calls may change and where a refusal points go by that list.
+-- What rule 6 asks of a record's numbers. A list says it of each place; rule 6 and what calls may change go by that list.
 use Prim.Native.Nat.{ℕ, _+_}
 use mathlib.Core.Bool.{Bool, true, not, _&&_}
 use mathlib.Core.List.{List, [], _∷_, _++_}
