@@ -21,7 +21,7 @@ use Rattle.multibody.specs.Finite.{passes}
 use Rattle.multibody.specs.Finite.Asks.{free}
 use Rattle.multibody.proofs.RuleLaws.{both, all-below}
 use Rattle.multibody.proofs.AskLaws.{isFree, free-passes, front-finite}
-use Rattle.multibody.proofs.Footprints.{SameBut, Free, Passing, same-self, set-same, puts-same, kept}
+use Rattle.multibody.proofs.Footprints.{SameBut, Free, Passing, EachMay, same-self, set-same, puts-same, kept}
 use Rattle.spatial_model.specs.Layout.{bodyWidth, posePlace, velocityPlace, numbersWidth}
 use Rattle.spatial_model.specs.Store.{solverPoseAt, velNumbers, putVel, poseNumbers, putPose, putSeed, seedIndex, seedAxes}
 use Rattle.spatial_model.specs.Refusals.{bodyAsks, jointAsks, finiteVector, finiteRotation, finitePose}
@@ -31,13 +31,16 @@ use Rattle.spatial_model.proofs.StoreLaws.{seed-index-below, solverPose
 
 -- ---- bodies
 
+velocity-free : (v : SolverVel) → EachMay (Free bodyAsks) velocityPlace (velNumbers v)
+velocity-free v = (refl, (refl, (refl, (refl, (refl, (refl, tt))))))
+
 pub putVel-same : (b : List Float) (i : ℕ) (v : SolverVel) → SameBut bodyWidth (Free bodyAsks) b (putVel b i v)
 unfolding putVel
 putVel-same b i v = go (eqb i world)
   where
     go : (t : Bool) → SameBut bodyWidth (Free bodyAsks) b (cond t b (puts b (i * bodyWidth) velocityPlace (velNumbers v)))
     go true = same-self b
-    go false = puts-same (velNumbers v) b i velocityPlace (lit≤ tt) (refl, (refl, (refl, (refl, (refl, (refl, tt))))))
+    go false = puts-same (velNumbers v) b i velocityPlace (lit≤ tt) (velocity-free v)
 
 pub solverPoseAt-same : {b b′ : List Float} → SameBut bodyWidth (Free bodyAsks) b b′ → (i : ℕ) → solverPoseAt b′ i ≡ solverPoseAt b i
 solverPoseAt-same {b} {b′} s i =
