@@ -569,7 +569,7 @@ fn suggest_command(name: &[u8]) {
 
 fn say_commands() {
     err(
-        b"\nstudy: the commands are check, csv, draw, print, seeded, example and help; `study help` says what each does\n",
+        b"\nstudy: the commands are check, csv, draw, report, print, seeded, example and help; `study help` says what each does\n",
     );
 }
 
