@@ -145,9 +145,9 @@ fn units(n: f32) -> f32 {
     n * 0.000001
 }
 
-// A number of the picture, which is finite and not far outside.
+// A number of the picture, not far outside; 0 for what is none.
 fn inside(x: f32) -> f32 {
-    if !is_finite(x) {
+    if x != x {
         return 0.0;
     }
     least(most(x, -0.1), 0.1)
@@ -283,36 +283,27 @@ fn angular_stop(p: Vector, turn1: Rotation, turn2: Rotation, low: f32, high: f32
     circle(p, r, b"stop");
 }
 
-// As far as the labels: a stop that is farther away is cut, and has no stroke at its end.
-fn near(x: f32) -> f32 {
-    least(most(x, units(-1500.0)), units(1500.0))
-}
-
 fn end_stroke(p: Vector, along: Rotation, across: Rotation, x: f32) {
-    if size(x) < units(1500.0) {
-        let end = away(p, along, x);
-        line(
-            away(end, across, units(-90.0)),
-            away(end, across, units(90.0)),
-            b"stop",
-        );
-    }
+    let end = away(p, along, x);
+    line(
+        away(end, across, units(-90.0)),
+        away(end, across, units(90.0)),
+        b"stop",
+    );
 }
 
 // A linear stop: a bar along an axis of frame 1, with a stroke at each end.
 fn linear_stop(p: Vector, along: Rotation, across: Rotation, low: f32, high: f32) {
-    line(
-        away(p, along, near(low)),
-        away(p, along, near(high)),
-        b"stop",
-    );
-    end_stroke(p, along, across, low);
-    end_stroke(p, along, across, high);
+    let from = inside(low);
+    let to = inside(high);
+    line(away(p, along, from), away(p, along, to), b"stop");
+    end_stroke(p, along, across, from);
+    end_stroke(p, along, across, to);
 }
 
 // A coupled limit keeps the distance of the frames below the upper end of the first coupled axis.
 fn coupled_stop(pic: Picture, p: Vector, high: f32) {
-    circle(p, near(high * pic.scale), b"stop");
+    circle(p, inside(high * pic.scale), b"stop");
 }
 
 fn quarter(turn: Rotation) -> Rotation {
@@ -733,7 +724,7 @@ line, path, circle { fill: none; stroke-width: 24 }
 .leader { stroke: #ccc; stroke-width: 10 }
 .ground, .scale { stroke: #333 }
 .needle { stroke: #c33 }
-.stop { stroke: #e80 }
+.stop { stroke: #e80; clip-path: url(#drawn) }
 .velocity { stroke: #283; marker-end: url(#head) }
 .ring { stroke: #c33 }
 .joint { fill: #c33 }
@@ -743,6 +734,15 @@ line, path, circle { fill: none; stroke-width: 24 }
 <rect x=\"-1500\" y=\"-1500\" width=\"100%\" height=\"100%\" fill=\"white\"/>
 ",
     );
+    out_clip(pic);
+}
+
+// Stops are drawn as far as the labels.
+fn out_clip(pic: Picture) {
+    out(b"<clipPath id=\"drawn\"><rect x=\"-1500\" y=\"-1500\" ");
+    attribute(b"width", pic.width + units(3000.0));
+    attribute(b"height", full_height(pic) + units(2500.0));
+    out(b"/></clipPath>\n");
 }
 
 fn out_spelled(x: f32) {

@@ -616,6 +616,9 @@ fn named_file(name: &[u8], mode: Mode, several: bool, first: bool) -> u32 {
         say_file(b"standard input", several && mode.kind == ALL);
         return study_from(b"standard input", STDIN_FILENO, mode);
     }
+    if kind == OPTION {
+        return say_option(name);
+    }
     say_file(name, several && mode.kind == ALL);
     study_file(name, mode, first)
 }
