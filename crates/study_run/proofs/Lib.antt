@@ -1,0 +1,4 @@
+pub mod RunLaws
+pub mod SettledLaws
+pub mod PlaceLaws
+pub mod TurnLaws

@@ -1,0 +1,10 @@
+pub mod Acts
+pub mod Motors
+pub mod Unrolled
+pub mod Study
+pub mod ModelCalls
+pub mod Settled
+pub mod Runs
+pub mod Places
+pub mod Turns
+pub mod Laws
