@@ -12,12 +12,12 @@ use Rattle.multibody.proofs.RuleLaws.{both}
 use Rattle.study_reader.specs.Storage.{numbersSize, wordsSize}
 use Rattle.study_writer.specs.Text.{studyText}
 use Rattle.study_writer.specs.Sink.{printedText}
-use Rattle.study_writer.specs.ReadBack.{Printable, Room}
+use Rattle.study_writer.specs.ReadBack.{Accepted, Room}
 use Rattle.study_writer.proofs.ReadBackLaws.{read-back}
 use Rattle.study_capi.specs.StudyExports.{isRoom, cleared, clearedWords}
 use Rattle.study_capi.specs.ReadBack.{WrittenBack}
 
-printed : (m : Model) → Printable m → printedText m ≡ studyText m
+printed : (m : Model) → Accepted m → printedText m ≡ studyText m
 unfolding printedText
 printed m p = rw (le-leb _ _ (p .few-bodies), le-leb _ _ (p .few-joints))
 
@@ -37,4 +37,4 @@ room numbers origins words names h =
     }
 
 pub written-back : WrittenBack
-written-back m p numbers origins words names h = rw (printed m p) (read-back m p _ _ _ _ (room numbers origins words names h))
+written-back m f p numbers origins words names h = rw (printed m p) (read-back m f p _ _ _ _ (room numbers origins words names h))

@@ -7,11 +7,11 @@ use mathlib.Core.List.{List}
 use lib.Ieee.{Float}
 use Rattle.multibody.specs.Model.{Model}
 use Rattle.study_writer.specs.Sink.{printedText}
-use Rattle.study_writer.specs.ReadBack.{Printable, IsRead}
+use Rattle.study_writer.specs.ReadBack.{AllF32, Accepted, IsRead}
 use Rattle.study_capi.specs.StudyExports.{isRoom, studyRead}
 
 -- proved in proofs/BackLaws.antt
 abbrev pub WrittenBack : Type 0
 WrittenBack =
-    (m : Model) → Printable m → (numbers : List Float) (origins words names : List ℕ) → isRoom numbers origins words names ≡ true
+    (m : Model) → AllF32 m → Accepted m → (numbers : List Float) (origins words names : List ℕ) → isRoom numbers origins words names ≡ true
     → IsRead m (studyRead (printedText m) numbers origins words names)

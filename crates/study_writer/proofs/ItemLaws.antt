@@ -11,9 +11,9 @@ use Rattle.texts.specs.Digits.{decimal}
 use Rattle.model.specs.Layout.{bodyWidth, wordsWidth, body1Place, body2Place, masksPlace, modelsPlace, enabledPlace, centerChoicePlace, numbersWidth, limitsPlace, limitsWidth, motorsPlace, motorWidth, softnessPlace, centerPlace}
 use Rattle.model.specs.Records.{num, word}
 use Rattle.model.specs.Store.{world}
-use Rattle.multibody.specs.Model.{Model}
+use Rattle.multibody.specs.Model.{Model, mostBodies, mostJoints}
 use Rattle.texts.specs.Ascii.{ascii}
-use Rattle.study_reader.specs.Keywords.{meaning, axisWords}
+use Rattle.study_reader.specs.Keywords.{meaning, axisWords, noItem, settingsItem, bodyItem, jointItem, callsItem, lockKeyword, enabledKeyword}
 use Rattle.study_reader.specs.Storage.{settingsWidth}
 use Rattle.study_reader.specs.Draft.{Draft}
 use Rattle.study_reader.specs.Study.{lineRead}
@@ -55,26 +55,26 @@ model-proper v = go (eqb v 0)
 -- ---- settings
 
 module _ (text : List ℕ) (m : Model) (f32 : AllF32 m) where
-  settings-one : {k : ℕ} {kw : List ℕ} {ls : List Line} {d : Draft} → FieldWord kw 1 k 1 0
-      → On text m 1 0 0 0 k 0 0 0 0 ((kw ∷ numberWord (setting m k) ∷ []) ∷ ls) d → k < settingsWidth → IsF32 (setting m k)
-      → On text m 1 0 0 0 (k + 1) 0 0 0 0 ls (lineRead text d)
+  settings-one : {k : ℕ} {kw : List ℕ} {ls : List Line} {d : Draft} → FieldWord kw settingsItem k 1 0
+      → On text m settingsItem 0 0 0 k 0 0 0 0 ((kw ∷ numberWord (setting m k) ∷ []) ∷ ls) d → k < settingsWidth → IsF32 (setting m k)
+      → On text m settingsItem 0 0 0 (k + 1) 0 0 0 0 ls (lineRead text d)
   settings-one {k} {kw} {ls} {d} f o r x =
       let l = kw ∷ numberWord (setting m k) ∷ [] in
       let p = proper-one kw (setting m k) (f .is-proper) in
       on-setting text m k l ls d o p r
-      (one-line text (d .names) (d .state) kw (linesText ls) 1 k (setting m k) (here text d 1 0 0 0 l ls (o .here) p) f
+      (one-line text (d .names) (d .state) kw (linesText ls) 1 k (setting m k) (here text d settingsItem 0 0 0 l ls (o .here) p) f
       (ap (λ (s : State). s .kind) (o .here .state)) x)
 
-  settings-open : {ls : List Line} {d : Draft} → On text m 0 0 0 0 0 0 0 0 0 ((ascii "settings" ∷ []) ∷ ls) d → On text m 1 0 0 0 0 0 0 0 0 ls (lineRead text d)
+  settings-open : {ls : List Line} {d : Draft} → On text m noItem 0 0 0 0 0 0 0 0 ((ascii "settings" ∷ []) ∷ ls) d → On text m settingsItem 0 0 0 0 0 0 0 0 ls (lineRead text d)
   settings-open {ls} {d} o =
       let l = ascii "settings" ∷ [] in
-      let e = settings-moves text d 0 0 0 0 l ls (o .here) refl
-      (settings-line text (d .names) (d .state) (ascii "settings") (linesText ls) (here text d 0 0 0 0 l ls (o .here) refl) (item-settings .is-proper)
-      (item-settings .no-call) (item-settings .means) (ap (λ (s : State). eqb (s .kind) 4) (o .here .state))) in
+      let e = settings-moves text d noItem 0 0 0 l ls (o .here) refl
+      (settings-line text (d .names) (d .state) (ascii "settings") (linesText ls) (here text d noItem 0 0 0 l ls (o .here) refl) (item-settings .is-proper)
+      (item-settings .no-call) (item-settings .means) (ap (λ (s : State). eqb (s .kind) callsItem) (o .here .state))) in
       record { here = e .0; kept = kept-same-as text m 0 0 0 0 0 0 0 d (lineRead text d) (o .kept) (record { numbers≡ = e .1; origins≡ = e .2; words≡ = e .3; names≡ = e .4 }) }
 
-  pub settings-read : {ls : List Line} {d : Draft} → On text m 0 0 0 0 0 0 0 0 0 (settingsLines (m .params) ++ ls) d
-      → On text m 1 0 0 0 settingsWidth 0 0 0 0 ls (readAll text (settingsLines (m .params)) d)
+  pub settings-read : {ls : List Line} {d : Draft} → On text m noItem 0 0 0 0 0 0 0 0 (settingsLines (m .params) ++ ls) d
+      → On text m settingsItem 0 0 0 settingsWidth 0 0 0 0 ls (readAll text (settingsLines (m .params)) d)
   unfolding settingsLines readAll
   settings-read {ls} {d} o =
       settings-one field-normalized-max-corrective-velocity
@@ -83,43 +83,43 @@ module _ (text : List ℕ) (m : Model) (f32 : AllF32 m) where
 
 -- ---- bodies
 
-module _ (text : List ℕ) (small : length text < 4294967295) (m : Model) (f32 : AllF32 m) (i : ℕ) (few : i < 128) where
-  body-one : {kw : List ℕ} {k : ℕ} {ls : List Line} {d : Draft} → FieldWord kw 2 k 1 0
-      → On text m 2 i (i + 1) 0 settingsWidth (i * bodyWidth + k) 0 0 0 ((kw ∷ numberWord (bodyNumber m (i * bodyWidth + k)) ∷ []) ∷ ls) d → k < bodyWidth
-      → On text m 2 i (i + 1) 0 settingsWidth (i * bodyWidth + (k + 1)) 0 0 0 ls (lineRead text d)
+module _ (text : List ℕ) (small : length text < 4294967295) (m : Model) (f32 : AllF32 m) (i : ℕ) (few : i < mostBodies) where
+  body-one : {kw : List ℕ} {k : ℕ} {ls : List Line} {d : Draft} → FieldWord kw bodyItem k 1 0
+      → On text m bodyItem i (i + 1) 0 settingsWidth (i * bodyWidth + k) 0 0 0 ((kw ∷ numberWord (bodyNumber m (i * bodyWidth + k)) ∷ []) ∷ ls) d → k < bodyWidth
+      → On text m bodyItem i (i + 1) 0 settingsWidth (i * bodyWidth + (k + 1)) 0 0 0 ls (lineRead text d)
   body-one {kw} {k} {ls} {d} f o r =
       let x = bodyNumber m (i * bodyWidth + k) in
       let l = kw ∷ numberWord x ∷ [] in
       let p = proper-one kw x (f .is-proper) in
       on-body1 text m i k l ls d o p few r
-      (one-line text (d .names) (d .state) kw (linesText ls) 2 k x (here text d 2 i (i + 1) 0 l ls (o .here) p) f
+      (one-line text (d .names) (d .state) kw (linesText ls) 2 k x (here text d bodyItem i (i + 1) 0 l ls (o .here) p) f
       (ap (λ (s : State). s .kind) (o .here .state)) (f32 .bodies (i * bodyWidth + k)))
 
-  body-two : {kw : List ℕ} {k : ℕ} {ls : List Line} {d : Draft} → FieldWord kw 2 k 2 0
-      → On text m 2 i (i + 1) 0 settingsWidth (i * bodyWidth + k) 0 0 0 ((kw ∷ numberWord (bodyNumber m (i * bodyWidth + k)) ∷ numberWord (bodyNumber m (i * bodyWidth + (k + 1))) ∷ []) ∷ ls) d → k + 1 < bodyWidth
-      → On text m 2 i (i + 1) 0 settingsWidth (i * bodyWidth + (k + 2)) 0 0 0 ls (lineRead text d)
+  body-two : {kw : List ℕ} {k : ℕ} {ls : List Line} {d : Draft} → FieldWord kw bodyItem k 2 0
+      → On text m bodyItem i (i + 1) 0 settingsWidth (i * bodyWidth + k) 0 0 0 ((kw ∷ numberWord (bodyNumber m (i * bodyWidth + k)) ∷ numberWord (bodyNumber m (i * bodyWidth + (k + 1))) ∷ []) ∷ ls) d → k + 1 < bodyWidth
+      → On text m bodyItem i (i + 1) 0 settingsWidth (i * bodyWidth + (k + 2)) 0 0 0 ls (lineRead text d)
   body-two {kw} {k} {ls} {d} f o r =
       let x = bodyNumber m (i * bodyWidth + k) in
       let y = bodyNumber m (i * bodyWidth + (k + 1)) in
       let l = kw ∷ numberWord x ∷ numberWord y ∷ [] in
       let p = proper-two kw x y (f .is-proper) in
       on-body2 text m i k l ls d o p few r
-      (two-line text (d .names) (d .state) kw (linesText ls) 2 k x y (here text d 2 i (i + 1) 0 l ls (o .here) p) f
+      (two-line text (d .names) (d .state) kw (linesText ls) 2 k x y (here text d bodyItem i (i + 1) 0 l ls (o .here) p) f
       (ap (λ (s : State). s .kind) (o .here .state)) (f32 .bodies (i * bodyWidth + k)) (f32 .bodies (i * bodyWidth + (k + 1))))
 
-  body-open : {kind item : ℕ} {ls : List Line} {d : Draft} → eqb kind 4 ≡ false
-      → On text m kind item i 0 settingsWidth (i * bodyWidth) 0 0 0 ((ascii "body" ∷ bodyWord i ∷ []) ∷ ls) d → On text m 2 i (i + 1) 0 settingsWidth (i * bodyWidth + 0) 0 0 0 ls (lineRead text d)
+  body-open : {kind item : ℕ} {ls : List Line} {d : Draft} → eqb kind callsItem ≡ false
+      → On text m kind item i 0 settingsWidth (i * bodyWidth) 0 0 0 ((ascii "body" ∷ bodyWord i ∷ []) ∷ ls) d → On text m bodyItem i (i + 1) 0 settingsWidth (i * bodyWidth + 0) 0 0 0 ls (lineRead text d)
   body-open {kind} {item} {ls} {d} c o =
       let l = ascii "body" ∷ bodyWord i ∷ [] in
       let p : properLine l ≡ true = simp (body-proper i) in
       on-open-body text small m kind item i l ls d p o few
       (body-line text (d .names) (d .state) (ascii "body") (linesText ls) i (here text d kind item i 0 l ls (o .here) p) (item-body .is-proper) (item-body .no-call)
-      (item-body .means) (ap (λ (s : State). eqb (s .kind) 4) (o .here .state) ∙ c) (ap (λ (s : State). s .bodies) (o .here .state))
+      (item-body .means) (ap (λ (s : State). eqb (s .kind) callsItem) (o .here .state) ∙ c) (ap (λ (s : State). s .bodies) (o .here .state))
       (ap (λ (s : State). s .joints) (o .here .state)) few (o .kept .bodyNames))
 
-  pub body-read : {kind item : ℕ} {ls : List Line} {d : Draft} → eqb kind 4 ≡ false
+  pub body-read : {kind item : ℕ} {ls : List Line} {d : Draft} → eqb kind callsItem ≡ false
       → On text m kind item i 0 settingsWidth (i * bodyWidth) 0 0 0 (bodyLines i (num bodyWidth (m .bodies) i) ++ ls) d
-      → On text m 2 i (i + 1) 0 settingsWidth (i * bodyWidth + bodyWidth) 0 0 0 ls (readAll text (bodyLines i (num bodyWidth (m .bodies) i)) d)
+      → On text m bodyItem i (i + 1) 0 settingsWidth (i * bodyWidth + bodyWidth) 0 0 0 ls (readAll text (bodyLines i (num bodyWidth (m .bodies) i)) d)
   unfolding bodyLines readAll
   body-read {kind} {item} {ls} {d} c o =
       let o0 = body-open c o in
@@ -132,10 +132,10 @@ module _ (text : List ℕ) (small : length text < 4294967295) (m : Model) (f32 :
 
 -- ---- joints
 
-module _ (text : List ℕ) (small : length text < 4294967295) (m : Model) (f32 : AllF32 m) (nb : ℕ) (fb : nb ≤ 128) (j : ℕ) (few : j < 128) where
+module _ (text : List ℕ) (small : length text < 4294967295) (m : Model) (f32 : AllF32 m) (nb : ℕ) (fb : nb ≤ mostBodies) (j : ℕ) (few : j < mostJoints) where
   -- joint j is open, with so many of its numbers and words
   abbrev Joint : ℕ → ℕ → List Line → Draft → Type 0
-  Joint k w ls d = On text m 3 j nb (j + 1) settingsWidth (nb * bodyWidth) (j * numbersWidth + k) (j * wordsWidth + w) j ls d
+  Joint k w ls d = On text m jointItem j nb (j + 1) settingsWidth (nb * bodyWidth) (j * numbersWidth + k) (j * wordsWidth + w) j ls d
 
   abbrev x : ℕ → Float
   x k = jointNumber m (j * numbersWidth + k)
@@ -143,37 +143,37 @@ module _ (text : List ℕ) (small : length text < 4294967295) (m : Model) (f32 :
   abbrev g : ℕ → ℕ
   g k = getD (m .words) (j * wordsWidth + k) 0
 
-  joint-one : {kw : List ℕ} {k : ℕ} {ls : List Line} {d : Draft} → FieldWord kw 3 k 1 0 → Joint k centerChoicePlace ((kw ∷ numberWord (x k) ∷ []) ∷ ls) d → k < numbersWidth
+  joint-one : {kw : List ℕ} {k : ℕ} {ls : List Line} {d : Draft} → FieldWord kw jointItem k 1 0 → Joint k centerChoicePlace ((kw ∷ numberWord (x k) ∷ []) ∷ ls) d → k < numbersWidth
       → Joint (k + 1) centerChoicePlace ls (lineRead text d)
   joint-one {kw} {k} {ls} {d} f o r =
       let l = kw ∷ numberWord (x k) ∷ [] in
       let p = proper-one kw (x k) (f .is-proper) in
       on-joint1 text m j nb k (j * wordsWidth + centerChoicePlace) j l ls d o p few fb r
-      (one-line text (d .names) (d .state) kw (linesText ls) 3 k (x k) (here text d 3 j nb (j + 1) l ls (o .here) p) f
+      (one-line text (d .names) (d .state) kw (linesText ls) 3 k (x k) (here text d jointItem j nb (j + 1) l ls (o .here) p) f
       (ap (λ (s : State). s .kind) (o .here .state)) (f32 .numbers (j * numbersWidth + k)))
 
-  joint-two : {kw : List ℕ} {k : ℕ} {ls : List Line} {d : Draft} → FieldWord kw 3 k 2 0
+  joint-two : {kw : List ℕ} {k : ℕ} {ls : List Line} {d : Draft} → FieldWord kw jointItem k 2 0
       → Joint k centerChoicePlace ((kw ∷ numberWord (x k) ∷ numberWord (x (k + 1)) ∷ []) ∷ ls) d → k + 1 < numbersWidth → Joint (k + 2) centerChoicePlace ls (lineRead text d)
   joint-two {kw} {k} {ls} {d} f o r =
       let l = kw ∷ numberWord (x k) ∷ numberWord (x (k + 1)) ∷ [] in
       let p = proper-two kw (x k) (x (k + 1)) (f .is-proper) in
       on-joint2 text m j nb k (j * wordsWidth + centerChoicePlace) j l ls d o p few fb r
-      (two-line text (d .names) (d .state) kw (linesText ls) 3 k (x k) (x (k + 1)) (here text d 3 j nb (j + 1) l ls (o .here) p) f
+      (two-line text (d .names) (d .state) kw (linesText ls) 3 k (x k) (x (k + 1)) (here text d jointItem j nb (j + 1) l ls (o .here) p) f
       (ap (λ (s : State). s .kind) (o .here .state)) (f32 .numbers (j * numbersWidth + k)) (f32 .numbers (j * numbersWidth + (k + 1))))
 
   -- the same of an axis
   module _ (a : ℕ) (aw : List ℕ) (pa : proper aw ≡ true) (am : meaning axisWords 3 aw ≡ a) (r : a < 3) where
-    axis-one : {kw : List ℕ} {k t : ℕ} {ls : List Line} {d : Draft} → FieldWord kw 3 k 1 t → eqb t 0 ≡ false
+    axis-one : {kw : List ℕ} {k t : ℕ} {ls : List Line} {d : Draft} → FieldWord kw jointItem k 1 t → eqb t 0 ≡ false
         → Joint (k + a * t) centerChoicePlace ((kw ∷ aw ∷ numberWord (x (k + a * t)) ∷ []) ∷ ls) d → k + a * t < numbersWidth → Joint (k + a * t + 1) centerChoicePlace ls (lineRead text d)
     axis-one {kw} {k} {t} {ls} {d} f z o u =
         let n = k + a * t in
         let l = kw ∷ aw ∷ numberWord (x n) ∷ [] in
         let p : properLine l ≡ true = simp (f .is-proper, pa, number-proper (x n)) in
         on-joint1 text m j nb n (j * wordsWidth + centerChoicePlace) j l ls d o p few fb u
-        (one-axis-line text (d .names) (d .state) kw (linesText ls) a aw pa am r 3 k t (x n) (here text d 3 j nb (j + 1) l ls (o .here) p) f z
+        (one-axis-line text (d .names) (d .state) kw (linesText ls) a aw pa am r 3 k t (x n) (here text d jointItem j nb (j + 1) l ls (o .here) p) f z
         (ap (λ (s : State). s .kind) (o .here .state)) (f32 .numbers (j * numbersWidth + n)))
 
-    axis-two : {kw : List ℕ} {k t : ℕ} {ls : List Line} {d : Draft} → FieldWord kw 3 k 2 t → eqb t 0 ≡ false
+    axis-two : {kw : List ℕ} {k t : ℕ} {ls : List Line} {d : Draft} → FieldWord kw jointItem k 2 t → eqb t 0 ≡ false
         → Joint (k + a * t) centerChoicePlace ((kw ∷ aw ∷ numberWord (x (k + a * t)) ∷ numberWord (x (k + a * t + 1)) ∷ []) ∷ ls) d → k + a * t + 1 < numbersWidth
         → Joint (k + a * t + 2) centerChoicePlace ls (lineRead text d)
     axis-two {kw} {k} {t} {ls} {d} f z o u =
@@ -181,7 +181,7 @@ module _ (text : List ℕ) (small : length text < 4294967295) (m : Model) (f32 :
         let l = kw ∷ aw ∷ numberWord (x n) ∷ numberWord (x (n + 1)) ∷ [] in
         let p : properLine l ≡ true = simp (f .is-proper, pa, number-proper (x n), number-proper (x (n + 1))) in
         on-joint2 text m j nb n (j * wordsWidth + centerChoicePlace) j l ls d o p few fb u
-        (two-axis-line text (d .names) (d .state) kw (linesText ls) a aw pa am r 3 k t (x n) (x (n + 1)) (here text d 3 j nb (j + 1) l ls (o .here) p) f z
+        (two-axis-line text (d .names) (d .state) kw (linesText ls) a aw pa am r 3 k t (x n) (x (n + 1)) (here text d jointItem j nb (j + 1) l ls (o .here) p) f z
         (ap (λ (s : State). s .kind) (o .here .state)) (f32 .numbers (j * numbersWidth + n)) (f32 .numbers (j * numbersWidth + (n + 1))))
 
     -- a motor's model
@@ -190,29 +190,29 @@ module _ (text : List ℕ) (small : length text < 4294967295) (m : Model) (f32 :
     axis-model {ls} {d} o e =
         let l = ascii "motor_model" ∷ aw ∷ modelWord (g (modelsPlace + a)) ∷ [] in
         let p : properLine l ≡ true = simp (pa, model-proper (g (modelsPlace + a))) in
-        let h = model-line text (d .names) (d .state) (ascii "motor_model") (linesText ls) a aw pa am r (g (modelsPlace + a)) (here text d 3 j nb (j + 1) l ls (o .here) p)
+        let h = model-line text (d .names) (d .state) (ascii "motor_model") (linesText ls) a aw pa am r (g (modelsPlace + a)) (here text d jointItem j nb (j + 1) l ls (o .here) p)
         word-motor-model (ap (λ (s : State). s .kind) (o .here .state)) in
         on-word text m j nb (modelsPlace + a) (j * numbersWidth + 0) j l ls d o p few (omega arith) (omega arith) (rw e h)
 
-  joint-mask : (c : ℕ) {kw : List ℕ} {ls : List Line} {d : Draft} → JointKeyword kw (8 + c) → Joint 0 (masksPlace + c) ((kw ∷ decimal (g (masksPlace + c)) ∷ []) ∷ ls) d → c < 4
+  joint-mask : (c : ℕ) {kw : List ℕ} {ls : List Line} {d : Draft} → JointKeyword kw (lockKeyword + c) → Joint 0 (masksPlace + c) ((kw ∷ decimal (g (masksPlace + c)) ∷ []) ∷ ls) d → c < 4
       → g (masksPlace + c) ≤ 7 → canonical (masksPlace + c) (g (masksPlace + c)) ≡ g (masksPlace + c) → Joint 0 (masksPlace + c + 1) ls (lineRead text d)
   joint-mask c {kw} {ls} {d} f o r u e =
       let l = kw ∷ decimal (g (masksPlace + c)) ∷ [] in
       let p : properLine l ≡ true = simp (f .is-proper, decimal-proper (g (masksPlace + c))) in
-      let h = mask-line text (d .names) (d .state) kw (linesText ls) (8 + c) (g (masksPlace + c)) (here text d 3 j nb (j + 1) l ls (o .here) p) f (omega arith) (omega arith)
+      let h = mask-line text (d .names) (d .state) kw (linesText ls) (lockKeyword + c) (g (masksPlace + c)) (here text d jointItem j nb (j + 1) l ls (o .here) p) f (omega arith) (omega arith)
       (ap (λ (s : State). s .kind) (o .here .state)) (omega arith) in
-      let q : masksPlace + (8 + c - 8) ≡ masksPlace + c = omega arith in
+      let q : masksPlace + (lockKeyword + c - lockKeyword) ≡ masksPlace + c = omega arith in
       let h′ : Worded text (d .names) (d .state) (masksPlace + c) (g (masksPlace + c)) = rw q at h in
       on-word text m j nb (masksPlace + c) (j * numbersWidth + 0) j l ls d o p few (omega arith) (omega arith) (rw e h′)
 
-  joint-kind : (c : ℕ) {kw : List ℕ} {ls : List Line} {d : Draft} → JointKeyword kw (13 + c) → Joint 0 enabledPlace ((kw ∷ []) ∷ ls) d → c < 3
+  joint-kind : (c : ℕ) {kw : List ℕ} {ls : List Line} {d : Draft} → JointKeyword kw (enabledKeyword + c) → Joint 0 enabledPlace ((kw ∷ []) ∷ ls) d → c < 3
       → canonical enabledPlace (g enabledPlace) ≡ c → Joint 0 centerChoicePlace ls (lineRead text d)
   joint-kind c {kw} {ls} {d} f o r e =
       let l = kw ∷ [] in
       let p : properLine l ≡ true = simp (f .is-proper) in
-      let h = enabled-line text (d .names) (d .state) kw (linesText ls) (13 + c) (here text d 3 j nb (j + 1) l ls (o .here) p) f (omega arith) (omega arith)
+      let h = enabled-line text (d .names) (d .state) kw (linesText ls) (enabledKeyword + c) (here text d jointItem j nb (j + 1) l ls (o .here) p) f (omega arith) (omega arith)
       (ap (λ (s : State). s .kind) (o .here .state)) in
-      let q : 13 + c - 13 ≡ c = omega arith in
+      let q : enabledKeyword + c - enabledKeyword ≡ c = omega arith in
       let h′ : Worded text (d .names) (d .state) enabledPlace c = rw q at h in
       on-word text m j nb enabledPlace (j * numbersWidth + 0) j l ls d o p few (omega arith) (omega arith) (rw e h′)
 
@@ -229,26 +229,26 @@ module _ (text : List ℕ) (small : length text < 4294967295) (m : Model) (f32 :
 
   -- the joint with its centre, so with all
   center-cases : {ls : List Line} {d : Draft} (t : Bool) → eqb (g centerChoicePlace) 0 ≡ t → Joint centerPlace centerChoicePlace (cond t (two "center" (x centerPlace) (x (centerPlace + 1))) (one "center_angle" (x centerPlace)) ∷ ls) d
-      → On text m 3 j nb (j + 1) settingsWidth (nb * bodyWidth) (j * numbersWidth + numbersWidth) (j * wordsWidth + wordsWidth) (j + 1) ls (lineRead text d)
+      → On text m jointItem j nb (j + 1) settingsWidth (nb * bodyWidth) (j * numbersWidth + numbersWidth) (j * wordsWidth + wordsWidth) (j + 1) ls (lineRead text d)
   center-cases {ls} {d} true e o =
       let l = two "center" (x centerPlace) (x (centerPlace + 1)) in
       let p = proper-two (ascii "center") (x centerPlace) (x (centerPlace + 1)) refl in
       on-center text m j nb l ls d o p few fb e
-      (center-line text (d .names) (d .state) (ascii "center") (linesText ls) (x centerPlace) (x (centerPlace + 1)) (here text d 3 j nb (j + 1) l ls (o .here) p) word-center
+      (center-line text (d .names) (d .state) (ascii "center") (linesText ls) (x centerPlace) (x (centerPlace + 1)) (here text d jointItem j nb (j + 1) l ls (o .here) p) word-center
       (ap (λ (s : State). s .kind) (o .here .state)) (f32 .numbers (j * numbersWidth + centerPlace)) (f32 .numbers (j * numbersWidth + (centerPlace + 1))))
   center-cases {ls} {d} false e o =
       let l = one "center_angle" (x centerPlace) in
       let p = proper-one (ascii "center_angle") (x centerPlace) refl in
       on-angle text m j nb l ls d o p few fb e
-      (angle-line text (d .names) (d .state) (ascii "center_angle") (linesText ls) (x centerPlace) (here text d 3 j nb (j + 1) l ls (o .here) p) word-center-angle
+      (angle-line text (d .names) (d .state) (ascii "center_angle") (linesText ls) (x centerPlace) (here text d jointItem j nb (j + 1) l ls (o .here) p) word-center-angle
       (ap (λ (s : State). s .kind) (o .here .state)) (f32 .numbers (j * numbersWidth + centerPlace)))
 
   joint-center : {ls : List Line} {d : Draft} → Joint centerPlace centerChoicePlace (centerLine (g centerChoicePlace) (x centerPlace) (x (centerPlace + 1)) ∷ ls) d
-      → On text m 3 j nb (j + 1) settingsWidth (nb * bodyWidth) (j * numbersWidth + numbersWidth) (j * wordsWidth + wordsWidth) (j + 1) ls (lineRead text d)
+      → On text m jointItem j nb (j + 1) settingsWidth (nb * bodyWidth) (j * numbersWidth + numbersWidth) (j * wordsWidth + wordsWidth) (j + 1) ls (lineRead text d)
   unfolding centerLine
   joint-center o = center-cases (eqb (g centerChoicePlace) 0) refl o
 
-  joint-open : {kind item : ℕ} {ls : List Line} {d : Draft} → eqb kind 4 ≡ false → (eqb (g body1Place) world || ltb (g body1Place) nb) ≡ true → (eqb (g body2Place) world || ltb (g body2Place) nb) ≡ true
+  joint-open : {kind item : ℕ} {ls : List Line} {d : Draft} → eqb kind callsItem ≡ false → (eqb (g body1Place) world || ltb (g body1Place) nb) ≡ true → (eqb (g body2Place) world || ltb (g body2Place) nb) ≡ true
       → On text m kind item nb j settingsWidth (nb * bodyWidth) (j * numbersWidth) (j * wordsWidth) j ((ascii "joint" ∷ jointWord j ∷ endWord (g body1Place) ∷ endWord (g body2Place) ∷ []) ∷ ls) d
       → Joint 0 masksPlace ls (lineRead text d)
   joint-open {kind} {item} {ls} {d} c p1 p2 o =
@@ -256,12 +256,12 @@ module _ (text : List ℕ) (small : length text < 4294967295) (m : Model) (f32 :
       let p : properLine l ≡ true = simp (joint-proper j, end-proper (g body1Place), end-proper (g body2Place)) in
       on-open-joint text small m kind item nb j l ls d p o fb few
       (joint-line text (d .names) (d .state) (ascii "joint") (linesText ls) j nb (g body1Place) (g body2Place) (here text d kind item nb j l ls (o .here) p) (item-joint .is-proper)
-      (item-joint .no-call) (item-joint .means) (ap (λ (s : State). eqb (s .kind) 4) (o .here .state) ∙ c) (ap (λ (s : State). s .bodies) (o .here .state))
+      (item-joint .no-call) (item-joint .means) (ap (λ (s : State). eqb (s .kind) callsItem) (o .here .state) ∙ c) (ap (λ (s : State). s .bodies) (o .here .state))
       (ap (λ (s : State). s .joints) (o .here .state)) few fb (o .kept .bodyNames) (o .kept .jointNames) p1 p2)
 
   -- ---- the parts of a joint's lines
 
-  pub head-read : {kind item : ℕ} {ls : List Line} {d : Draft} → eqb kind 4 ≡ false → (eqb (g body1Place) world || ltb (g body1Place) nb) ≡ true → (eqb (g body2Place) world || ltb (g body2Place) nb) ≡ true
+  pub head-read : {kind item : ℕ} {ls : List Line} {d : Draft} → eqb kind callsItem ≡ false → (eqb (g body1Place) world || ltb (g body1Place) nb) ≡ true → (eqb (g body2Place) world || ltb (g body2Place) nb) ≡ true
       → g masksPlace ≤ 7 → g (masksPlace + 1) ≤ 7 → g (masksPlace + 2) ≤ 7 → g (masksPlace + 3) ≤ 7
       → On text m kind item nb j settingsWidth (nb * bodyWidth) (j * numbersWidth) (j * wordsWidth) j (jointHead j (word wordsWidth (m .words) j) ++ ls) d
       → Joint 0 centerChoicePlace ls (readAll text (jointHead j (word wordsWidth (m .words) j)) d)
@@ -338,7 +338,7 @@ module _ (text : List ℕ) (small : length text < 4294967295) (m : Model) (f32 :
       axis-one 2 (ascii "angle") refl axis-angle (omega arith) field-motor-impulse refl o5 (omega arith)
 
   softness-read : {ls : List Line} {d : Draft} → Joint softnessPlace centerChoicePlace (softnessLines f (g centerChoicePlace) ++ ls) d
-      → On text m 3 j nb (j + 1) settingsWidth (nb * bodyWidth) (j * numbersWidth + numbersWidth) (j * wordsWidth + wordsWidth) (j + 1) ls (readAll text (softnessLines f (g centerChoicePlace)) d)
+      → On text m jointItem j nb (j + 1) settingsWidth (nb * bodyWidth) (j * numbersWidth + numbersWidth) (j * wordsWidth + wordsWidth) (j + 1) ls (readAll text (softnessLines f (g centerChoicePlace)) d)
   unfolding readAll
   softness-read {ls} {d} o =
       let o1 = joint-one field-natural-frequency o (omega arith) in
@@ -349,10 +349,10 @@ module _ (text : List ℕ) (small : length text < 4294967295) (m : Model) (f32 :
       joint-center o5
 
   -- all lines of a joint
-  pub joint-read : {kind item : ℕ} {ls : List Line} {d : Draft} → eqb kind 4 ≡ false → (eqb (g body1Place) world || ltb (g body1Place) nb) ≡ true → (eqb (g body2Place) world || ltb (g body2Place) nb) ≡ true
+  pub joint-read : {kind item : ℕ} {ls : List Line} {d : Draft} → eqb kind callsItem ≡ false → (eqb (g body1Place) world || ltb (g body1Place) nb) ≡ true → (eqb (g body2Place) world || ltb (g body2Place) nb) ≡ true
       → g masksPlace ≤ 7 → g (masksPlace + 1) ≤ 7 → g (masksPlace + 2) ≤ 7 → g (masksPlace + 3) ≤ 7
       → On text m kind item nb j settingsWidth (nb * bodyWidth) (j * numbersWidth) (j * wordsWidth) j (jointLines j (word wordsWidth (m .words) j) f ++ ls) d
-      → On text m 3 j nb (j + 1) settingsWidth (nb * bodyWidth) (j * numbersWidth + numbersWidth) (j * wordsWidth + wordsWidth) (j + 1) ls (readAll text (jointLines j (word wordsWidth (m .words) j) f) d)
+      → On text m jointItem j nb (j + 1) settingsWidth (nb * bodyWidth) (j * numbersWidth + numbersWidth) (j * wordsWidth + wordsWidth) (j + 1) ls (readAll text (jointLines j (word wordsWidth (m .words) j) f) d)
   unfolding jointLines readAll
   joint-read {kind} {item} {ls} {d} c p1 p2 u2 u3 u4 u5 o =
       let s8 = softnessLines f (g centerChoicePlace) in

@@ -10,7 +10,7 @@ use lib.Ieee.{Float, nan}
 use lib.ListN.{length, getD, set, length-set}
 use lib.Seq.{getD-set-other}
 use Rattle.model.specs.Layout.{bodyWidth, wordsWidth, modelsPlace, enabledPlace, centerChoicePlace, firstRowPlace, numbersWidth, centerPlace}
-use Rattle.multibody.specs.Model.{Model}
+use Rattle.multibody.specs.Model.{Model, mostJoints}
 use Rattle.study_reader.specs.Storage.{mostItems, settingsWidth, jointsPlace, numbersSize, wordsSize, namesSize, kept}
 use Rattle.study_reader.specs.Draft.{Draft, draft}
 use Rattle.study_writer.proofs.NameLines.{BodyNames, JointNames, below}
@@ -149,7 +149,7 @@ module _ (text : List ℕ) (m : Model) (s low high done nb nj cs : ℕ) where
         }
 
     -- the next word of a joint; its origin stands past those of the numbers
-    pub word-kept : (a p : ℕ) → done < wordsSize → numbersSize ≤ p → cs ≤ 128
+    pub word-kept : (a p : ℕ) → done < wordsSize → numbersSize ≤ p → cs ≤ mostJoints
         → Kept text m s low high (done + 1) nb nj cs (draft (d .state) (d .numbers) (set (d .origins) p (kept a)) (set (d .words) (0 + done) (jointWordAt m done)) (d .names))
     word-kept a p l q f =
         record {

@@ -16,6 +16,8 @@ use Rattle.study_reader.specs.Items.{orFault, whole, nameFault, bodyLine, ends,
 use Rattle.study_reader.specs.declared.words.Word.{Word}
 use Rattle.study_reader.specs.declared.draft.State.{State}
 use Rattle.study_reader.specs.declared.items.Change.the-variants.{OpenBody, OpenJoint}
+use Rattle.multibody.specs.Model.{mostBodies, mostJoints}
+use Rattle.study_reader.specs.Keywords.{callsItem, bodyKeyword, jointKeyword}
 use Rattle.study_writer.specs.Text.{lineOnto, bodyWord, jointWord, endWord}
 use Rattle.study_writer.proofs.Lexical.{proper, proper-plain, first-word, further-word, no-word, not-empty}
 use Rattle.study_writer.proofs.Spelling.{decimal-short, same-refl, body-proper, joint-proper, bodies-apart, joints-apart, body-no-joint, body-no-world, joint-no-world, plain-has}
@@ -90,11 +92,11 @@ module _ (text names : List ℕ) (n : ℕ) (w : Word) where
   that-end i h p e = end-cases (eqb i world) i h refl p e
 
 -- such a body is not absent, and its word is one
-present-cases : (t : Bool) (i n : ℕ) → eqb i world ≡ t → (t || ltb i n) ≡ true → n ≤ 128 → eqb i ABSENT ≡ false
+present-cases : (t : Bool) (i n : ℕ) → eqb i world ≡ t → (t || ltb i n) ≡ true → n ≤ mostBodies → eqb i ABSENT ≡ false
 present-cases true i n q p l = let e = eqb-true i world q in ne-eqb i ABSENT (λ z. omega arith)
 present-cases false i n q p l = let e = ltb-true i n p in ne-eqb i ABSENT (λ z. omega arith)
 
-pub present : (i n : ℕ) → (eqb i world || ltb i n) ≡ true → n ≤ 128 → eqb i ABSENT ≡ false
+pub present : (i n : ℕ) → (eqb i world || ltb i n) ≡ true → n ≤ mostBodies → eqb i ABSENT ≡ false
 present i n p l = present-cases (eqb i world) i n refl p l
 
 pub end-proper : (i : ℕ) → proper (endWord i) ≡ true
@@ -107,11 +109,11 @@ end-proper i = go (eqb i world)
 
 -- ---- the name after the word of a line is fine
 
-body-short : (i : ℕ) → i ≤ 128 → length (bodyWord i) ≤ 64
+body-short : (i : ℕ) → i ≤ mostBodies → length (bodyWord i) ≤ 64
 unfolding bodyWord
 body-short i h = omega (arith, decimal-short i)
 
-joint-short : (j : ℕ) → j ≤ 128 → length (jointWord j) ≤ 64
+joint-short : (j : ℕ) → j ≤ mostJoints → length (jointWord j) ≤ 64
 unfolding jointWord
 joint-short j h = omega (arith, decimal-short j)
 
@@ -135,8 +137,8 @@ module _ (text names : List ℕ) (st : State) (kw rest : List ℕ) where
   abbrev w₁ : ℕ
   w₁ = nextWord text (st .at) .end
 
-  pub body-line : (i : ℕ) → drop (st .at) text ≡ lineOnto (kw ∷ bodyWord i ∷ []) rest → proper kw ≡ true → callTable kw ≡ 0 → itemTable kw ≡ 21
-      → eqb (st .kind) 4 ≡ false → st .bodies ≡ i → st .joints ≡ 0 → i < 128 → BodyNames text names i
+  pub body-line : (i : ℕ) → drop (st .at) text ≡ lineOnto (kw ∷ bodyWord i ∷ []) rest → proper kw ≡ true → callTable kw ≡ 0 → itemTable kw ≡ bodyKeyword
+      → eqb (st .kind) callsItem ≡ false → st .bodies ≡ i → st .joints ≡ 0 → i < mostBodies → BodyNames text names i
       → (w : Word) × Name text w (bodyWord i) × (lineOf text names st ≡ OpenBody w (i + 1))
   unfolding itemLine openLine bodyLine whole orFault findJoint firstFrom
   body-line i h p c t k nb nj l ns =
@@ -153,7 +155,7 @@ module _ (text names : List ℕ) (st : State) (kw rest : List ℕ) where
       )
 
   pub joint-line : (j n b1 b2 : ℕ) → drop (st .at) text ≡ lineOnto (kw ∷ jointWord j ∷ endWord b1 ∷ endWord b2 ∷ []) rest → proper kw ≡ true → callTable kw ≡ 0
-      → itemTable kw ≡ 22 → eqb (st .kind) 4 ≡ false → st .bodies ≡ n → st .joints ≡ j → j < 128 → n ≤ 128 → BodyNames text names n → JointNames text names j
+      → itemTable kw ≡ jointKeyword → eqb (st .kind) callsItem ≡ false → st .bodies ≡ n → st .joints ≡ j → j < mostJoints → n ≤ mostBodies → BodyNames text names n → JointNames text names j
       → (eqb b1 world || ltb b1 n) ≡ true → (eqb b2 world || ltb b2 n) ≡ true
       → (w : Word) × (a1 : ℕ) × (a2 : ℕ) × Name text w (jointWord j) × (lineOf text names st ≡ OpenJoint w (j + 1) (ends b1 b2 a1 a2))
   unfolding itemLine openLine jointLine endsLine whole orFault

@@ -11,7 +11,7 @@ use lib.ListN.{drop}
 use Rattle.model.specs.Layout.{centerPlace}
 use Rattle.study_reader.specs.Words.{nextWord}
 use Rattle.study_reader.specs.Numbers.{numberFault, valueOf}
-use Rattle.study_reader.specs.Keywords.{meaning, field, noField, settingsFields, bodyFields, frameFields, motorFields, softnessFields, axisWords, itemWords, bodyWords, maskWords, jointWords, callWords, readWords}
+use Rattle.study_reader.specs.Keywords.{meaning, field, noField, settingsFields, bodyFields, frameFields, motorFields, softnessFields, axisWords, itemWords, bodyWords, maskWords, jointWords, callWords, readWords, noItem, jointItem, callsItem, settingsKeyword, centerKeyword, centerAngleKeyword, angleKeyword}
 use Rattle.study_reader.specs.Items.{orFault, whole, given1, given2, secondNumber, numbersFrom, givenLine, givenBy, fieldNumbers, wordLine, kindFault, fieldLine, itemLine, lineOf, byPair, byAngle, noCenter}
 use Rattle.study_reader.specs.declared.words.Word.{Word}
 use Rattle.study_reader.specs.declared.draft.State.{State}
@@ -55,8 +55,8 @@ pub record FieldWord (kw : List ℕ) (kind place many stride : ℕ) : Type 0 whe
   pub no-call : callTable kw ≡ 0
   pub no-item : itemTable kw ≡ 0
   pub means : meaning (settingsFields ++ (bodyFields ++ (frameFields ++ (motorFields ++ softnessFields)))) noField kw ≡ field kind place many stride
-  pub some-kind : eqb kind 0 ≡ false
-  pub before-calls : eqb kind 4 ≡ false
+  pub some-kind : eqb kind noItem ≡ false
+  pub before-calls : eqb kind callsItem ≡ false
 
 -- another word of a joint, by its number
 pub record JointKeyword (kw : List ℕ) (k : ℕ) : Type 0 where
@@ -100,12 +100,12 @@ module _ (text names : List ℕ) (st : State) (kw : List ℕ) (ws : Line) (rest 
         field-line kind place many stride f k ∙ simp (s .bytes, f .means, z, t .bytes, am, le-ltb 2 axis (omega arith))
 
   -- the other words of a joint
-  pub keyword-line : (k : ℕ) → JointKeyword kw k → 4 < k → k < 20 → st .kind ≡ 3 → lineOf text names st ≡ wordLine text k w
+  pub keyword-line : (k : ℕ) → JointKeyword kw k → angleKeyword < k → k < settingsKeyword → st .kind ≡ jointItem → lineOf text names st ≡ wordLine text k w
   unfolding itemLine orFault kindFault
   keyword-line k f l h e =
       let s = first-word text (st .at) kw ws rest here (f .is-proper) in
       item-line (f .is-proper) (f .no-call)
-      ∙ simp (s .bytes, f .means, ne-eqb k 0 (λ q. omega arith), lt-leb 20 k h, lt-leb k 4 l, e)
+      ∙ simp (s .bytes, f .means, ne-eqb k 0 (λ q. omega arith), lt-leb settingsKeyword k h, lt-leb k angleKeyword l, e)
 
 -- ---- whole lines: the numbers, and that each has a place in the text
 
@@ -175,8 +175,8 @@ module _ (text names : List ℕ) (st : State) (kw rest : List ℕ) where
         )
 
   -- a centre, by a pair or by an angle
-  pub center-line : (x y : Float) → drop (st .at) text ≡ lineOnto (kw ∷ numberWord x ∷ numberWord y ∷ []) rest → JointKeyword kw 16
-      → st .kind ≡ 3 → T (fits binary32 x) → T (fits binary32 y) → Given2 text names st centerPlace x y byPair
+  pub center-line : (x y : Float) → drop (st .at) text ≡ lineOnto (kw ∷ numberWord x ∷ numberWord y ∷ []) rest → JointKeyword kw centerKeyword
+      → st .kind ≡ jointItem → T (fits binary32 x) → T (fits binary32 y) → Given2 text names st centerPlace x y byPair
   unfolding wordLine
   center-line x y h f k fx fy =
       let s = first-word text (st .at) kw (numberWord x ∷ numberWord y ∷ []) rest h (f .is-proper) in
@@ -186,18 +186,18 @@ module _ (text names : List ℕ) (st : State) (kw rest : List ℕ) where
         nextWord text (nextWord text w₁ .end) .start,
         omega (arith, s .some, v .later),
         omega (arith, v .some, u .later),
-        keyword-line text names st kw (numberWord x ∷ numberWord y ∷ []) rest h 16 f (omega arith) (omega arith) k
+        keyword-line text names st kw (numberWord x ∷ numberWord y ∷ []) rest h centerKeyword f (omega arith) (omega arith) k
             ∙ two-numbers text w₁ centerPlace byPair x fx rest y fy (s .after),
       )
 
-  pub angle-line : (x : Float) → drop (st .at) text ≡ lineOnto (kw ∷ numberWord x ∷ []) rest → JointKeyword kw 7
-      → st .kind ≡ 3 → T (fits binary32 x) → Given1 text names st centerPlace x byAngle
+  pub angle-line : (x : Float) → drop (st .at) text ≡ lineOnto (kw ∷ numberWord x ∷ []) rest → JointKeyword kw centerAngleKeyword
+      → st .kind ≡ jointItem → T (fits binary32 x) → Given1 text names st centerPlace x byAngle
   unfolding wordLine givenLine givenBy whole orFault numberFault valueOf
   angle-line x h f k fx =
       let s = first-word text (st .at) kw (numberWord x ∷ []) rest h (f .is-proper) in
       let v = further-word text w₁ (numberWord x) [] rest (s .after) (number-proper x) in (
         nextWord text w₁ .start,
         omega (arith, s .some, v .later),
-        keyword-line text names st kw (numberWord x ∷ []) rest h 7 f (omega arith) (omega arith) k
+        keyword-line text names st kw (numberWord x ∷ []) rest h centerAngleKeyword f (omega arith) (omega arith) k
             ∙ simp (number-read text (nextWord text w₁) x fx (v .bytes), no-word text (nextWord text w₁ .end) rest (v .after)),
       )

@@ -9,7 +9,7 @@ use lib.Dec.{eqb}
 use lib.Ieee.{Float}
 use lib.ListN.{length, getD, set}
 use Rattle.model.specs.Layout.{bodyWidth, wordsWidth, centerChoicePlace, numbersWidth, centerPlace}
-use Rattle.multibody.specs.Model.{Model}
+use Rattle.multibody.specs.Model.{Model, mostBodies, mostJoints}
 use Rattle.study_reader.specs.Storage.{mostItems, settingsWidth, jointsPlace, numbersSize, wordsSize, jointNames, bodyBase, jointBase, wordsBase, kept}
 use Rattle.study_reader.specs.Draft.{Draft, itemBase, bodyDefaults, jointDefaults}
 use Rattle.study_reader.specs.Items.{given1, given2, ends, noCenter, byPair, byAngle, lineOf}
@@ -17,6 +17,7 @@ use Rattle.study_reader.specs.Study.{second, numbersWith, originsWith, centerWi
 use Rattle.study_reader.specs.declared.words.Word.{Word}
 use Rattle.study_reader.specs.declared.draft.State.{State}
 use Rattle.study_reader.specs.declared.items.Change.the-variants.{OpenBody, OpenJoint}
+use Rattle.study_reader.specs.Keywords.{settingsItem, bodyItem, jointItem}
 use Rattle.study_writer.specs.Text.{Line, bodyWord, jointWord}
 use Rattle.study_writer.proofs.Lexical.{properLine}
 use Rattle.study_writer.proofs.NumberLines.{Given1, Given2}
@@ -32,11 +33,11 @@ pub record On (text : List ℕ) (m : Model) (kind item nb nj s low high done cs 
   pub kept : Kept text m s low high done nb nj cs d
 
 -- where the numbers of the open item start
-body-base : (st : State) (at i nb nj : ℕ) → st ≡ on at 2 i nb nj → i < mostItems → itemBase st ≡ settingsWidth + bodyWidth * i
+body-base : (st : State) (at i nb nj : ℕ) → st ≡ on at bodyItem i nb nj → i < mostItems → itemBase st ≡ settingsWidth + bodyWidth * i
 unfolding itemBase bodyBase
 body-base st at i nb nj e l = ap itemBase e ∙ ap (λ (t : Bool). cond t (settingsWidth + bodyWidth * i) numbersSize) (lt-ltb i mostItems l)
 
-joint-base : (st : State) (at j nb nj : ℕ) → st ≡ on at 3 j nb nj → j < mostItems → itemBase st ≡ jointsPlace + numbersWidth * j
+joint-base : (st : State) (at j nb nj : ℕ) → st ≡ on at jointItem j nb nj → j < mostItems → itemBase st ≡ jointsPlace + numbersWidth * j
 unfolding itemBase jointBase
 joint-base st at j nb nj e l = ap itemBase e ∙ ap (λ (t : Bool). cond t (jointsPlace + numbersWidth * j) numbersSize) (lt-ltb j mostItems l)
 
@@ -46,11 +47,11 @@ words-base j l = ap (λ (t : Bool). cond t (wordsWidth * j) wordsSize) (lt-ltb j
 
 -- ---- settings
 
-module _ (text : List ℕ) (m : Model) (k : ℕ) (l : Line) (ls : List Line) (d : Draft) (o : On text m 1 0 0 0 k 0 0 0 0 (l ∷ ls) d) (p : properLine l ≡ true) (r : k < settingsWidth) where
-  pub on-setting : Given1 text (d .names) (d .state) k (setting m k) noCenter → On text m 1 0 0 0 (k + 1) 0 0 0 0 ls (lineRead text d)
+module _ (text : List ℕ) (m : Model) (k : ℕ) (l : Line) (ls : List Line) (d : Draft) (o : On text m settingsItem 0 0 0 k 0 0 0 0 (l ∷ ls) d) (p : properLine l ≡ true) (r : k < settingsWidth) where
+  pub on-setting : Given1 text (d .names) (d .state) k (setting m k) noCenter → On text m settingsItem 0 0 0 (k + 1) 0 0 0 0 ls (lineRead text d)
   unfolding numbersWith originsWith centerWith second itemBase
   on-setting g =
-      let e = given-moves text d 1 0 0 0 l ls (o .here) p (given1 k (setting m k) (g .0) noCenter) (g .2) in
+      let e = given-moves text d settingsItem 0 0 0 l ls (o .here) p (given1 k (setting m k) (g .0) noCenter) (g .2) in
       let b : itemBase (d .state) ≡ 0 = ap itemBase (o .here .state) in
       let f = setting-kept text m k 0 0 0 0 0 0 d (o .kept) (g .0) (g .1) r refl refl in
       record {
@@ -67,16 +68,16 @@ module _ (text : List ℕ) (m : Model) (k : ℕ) (l : Line) (ls : List Line) (d 
 
 -- ---- bodies
 
-module _ (text : List ℕ) (m : Model) (i k : ℕ) (l : Line) (ls : List Line) (d : Draft) (o : On text m 2 i (i + 1) 0 settingsWidth (i * bodyWidth + k) 0 0 0 (l ∷ ls) d) (p : properLine l ≡ true) (few : i < 128) where
+module _ (text : List ℕ) (m : Model) (i k : ℕ) (l : Line) (ls : List Line) (d : Draft) (o : On text m bodyItem i (i + 1) 0 settingsWidth (i * bodyWidth + k) 0 0 0 (l ∷ ls) d) (p : properLine l ≡ true) (few : i < mostBodies) where
   base : itemBase (d .state) ≡ settingsWidth + bodyWidth * i
   base = body-base (d .state) (o .here .at) i (i + 1) 0 (o .here .state) (omega arith)
 
   pub on-body1 : k < bodyWidth → Given1 text (d .names) (d .state) k (bodyNumber m (i * bodyWidth + k)) noCenter
-      → On text m 2 i (i + 1) 0 settingsWidth (i * bodyWidth + (k + 1)) 0 0 0 ls (lineRead text d)
+      → On text m bodyItem i (i + 1) 0 settingsWidth (i * bodyWidth + (k + 1)) 0 0 0 ls (lineRead text d)
   unfolding numbersWith originsWith centerWith second
   on-body1 r g =
       let low = i * bodyWidth + k in
-      let e = given-moves text d 2 i (i + 1) 0 l ls (o .here) p (given1 k (bodyNumber m low) (g .0) noCenter) (g .2) in
+      let e = given-moves text d bodyItem i (i + 1) 0 l ls (o .here) p (given1 k (bodyNumber m low) (g .0) noCenter) (g .2) in
       let b : itemBase (d .state) + k ≡ settingsWidth + low = ap (λ (n : ℕ). n + k) base ∙ omega arith in
       let f = body-kept text m settingsWidth low 0 0 (i + 1) 0 0 d (o .kept) (g .0) (g .1) refl (omega arith) refl in
       record {
@@ -93,14 +94,14 @@ module _ (text : List ℕ) (m : Model) (i k : ℕ) (l : Line) (ls : List Line) (
       }
 
   pub on-body2 : k + 1 < bodyWidth → Given2 text (d .names) (d .state) k (bodyNumber m (i * bodyWidth + k)) (bodyNumber m (i * bodyWidth + (k + 1))) noCenter
-      → On text m 2 i (i + 1) 0 settingsWidth (i * bodyWidth + (k + 2)) 0 0 0 ls (lineRead text d)
+      → On text m bodyItem i (i + 1) 0 settingsWidth (i * bodyWidth + (k + 2)) 0 0 0 ls (lineRead text d)
   unfolding numbersWith originsWith centerWith second
   on-body2 r g =
       let low = i * bodyWidth + k in
       let x = bodyNumber m low in
       let y = bodyNumber m (i * bodyWidth + (k + 1)) in
       let y≡ : y ≡ bodyNumber m (low + 1) = ap (bodyNumber m) (let e : i * bodyWidth + (k + 1) ≡ i * bodyWidth + k + 1 = omega arith in e) in
-      let e = given-moves text d 2 i (i + 1) 0 l ls (o .here) p (given2 k x y (g .0) (g .1) noCenter) (g .4) in
+      let e = given-moves text d bodyItem i (i + 1) 0 l ls (o .here) p (given2 k x y (g .0) (g .1) noCenter) (g .4) in
       let b : itemBase (d .state) + k ≡ settingsWidth + low = ap (λ (n : ℕ). n + k) base ∙ omega arith in
       let c : itemBase (d .state) + k + 1 ≡ settingsWidth + (low + 1) = omega arith in
       let f = body-kept text m settingsWidth low 0 0 (i + 1) 0 0 d (o .kept) (g .0) (g .2) refl (omega arith) refl in
@@ -122,7 +123,7 @@ module _ (text : List ℕ) (m : Model) (i k : ℕ) (l : Line) (ls : List Line) (
 
 -- ---- joints: numbers
 
-module _ (text : List ℕ) (m : Model) (j nb k done cs : ℕ) (l : Line) (ls : List Line) (d : Draft) (o : On text m 3 j nb (j + 1) settingsWidth (nb * bodyWidth) (j * numbersWidth + k) done cs (l ∷ ls) d) (p : properLine l ≡ true) (few : j < 128) (fb : nb ≤ 128) where
+module _ (text : List ℕ) (m : Model) (j nb k done cs : ℕ) (l : Line) (ls : List Line) (d : Draft) (o : On text m jointItem j nb (j + 1) settingsWidth (nb * bodyWidth) (j * numbersWidth + k) done cs (l ∷ ls) d) (p : properLine l ≡ true) (few : j < mostJoints) (fb : nb ≤ mostBodies) where
   jbase : itemBase (d .state) ≡ jointsPlace + numbersWidth * j
   jbase = joint-base (d .state) (o .here .at) j nb (j + 1) (o .here .state) (omega arith)
 
@@ -130,11 +131,11 @@ module _ (text : List ℕ) (m : Model) (j nb k done cs : ℕ) (l : Line) (ls : L
   item = ap (λ (s : State). s .item) (o .here .state)
 
   pub on-joint1 : k < numbersWidth → Given1 text (d .names) (d .state) k (jointNumber m (j * numbersWidth + k)) noCenter
-      → On text m 3 j nb (j + 1) settingsWidth (nb * bodyWidth) (j * numbersWidth + (k + 1)) done cs ls (lineRead text d)
+      → On text m jointItem j nb (j + 1) settingsWidth (nb * bodyWidth) (j * numbersWidth + (k + 1)) done cs ls (lineRead text d)
   unfolding numbersWith originsWith centerWith second
   on-joint1 r g =
       let high = j * numbersWidth + k in
-      let e = given-moves text d 3 j nb (j + 1) l ls (o .here) p (given1 k (jointNumber m high) (g .0) noCenter) (g .2) in
+      let e = given-moves text d jointItem j nb (j + 1) l ls (o .here) p (given1 k (jointNumber m high) (g .0) noCenter) (g .2) in
       let b : itemBase (d .state) + k ≡ jointsPlace + high = ap (λ (n : ℕ). n + k) jbase ∙ omega arith in
       let f = joint-kept text m settingsWidth (nb * bodyWidth) high done nb (j + 1) cs d (o .kept) (g .0) (g .1) refl (omega arith) (omega arith) in
       record {
@@ -151,14 +152,14 @@ module _ (text : List ℕ) (m : Model) (j nb k done cs : ℕ) (l : Line) (ls : L
       }
 
   pub on-joint2 : k + 1 < numbersWidth → Given2 text (d .names) (d .state) k (jointNumber m (j * numbersWidth + k)) (jointNumber m (j * numbersWidth + (k + 1))) noCenter
-      → On text m 3 j nb (j + 1) settingsWidth (nb * bodyWidth) (j * numbersWidth + (k + 2)) done cs ls (lineRead text d)
+      → On text m jointItem j nb (j + 1) settingsWidth (nb * bodyWidth) (j * numbersWidth + (k + 2)) done cs ls (lineRead text d)
   unfolding numbersWith originsWith centerWith second
   on-joint2 r g =
       let high = j * numbersWidth + k in
       let x = jointNumber m high in
       let y = jointNumber m (j * numbersWidth + (k + 1)) in
       let y≡ : y ≡ jointNumber m (high + 1) = ap (jointNumber m) (let e : j * numbersWidth + (k + 1) ≡ j * numbersWidth + k + 1 = omega arith in e) in
-      let e = given-moves text d 3 j nb (j + 1) l ls (o .here) p (given2 k x y (g .0) (g .1) noCenter) (g .4) in
+      let e = given-moves text d jointItem j nb (j + 1) l ls (o .here) p (given2 k x y (g .0) (g .1) noCenter) (g .4) in
       let b : itemBase (d .state) + k ≡ jointsPlace + high = ap (λ (n : ℕ). n + k) jbase ∙ omega arith in
       let c : itemBase (d .state) + k + 1 ≡ jointsPlace + (high + 1) = omega arith in
       let f = joint-kept text m settingsWidth (nb * bodyWidth) high done nb (j + 1) cs d (o .kept) (g .0) (g .2) refl (omega arith) (omega arith) in
@@ -184,14 +185,14 @@ module _ (text : List ℕ) (m : Model) (j nb k done cs : ℕ) (l : Line) (ls : L
 pub canonical-at : (m : Model) (j k : ℕ) → k < wordsWidth → jointWordAt m (j * wordsWidth + k) ≡ canonical k (getD (m .words) (j * wordsWidth + k) 0)
 canonical-at m j k l = let e : (j * wordsWidth + k) % wordsWidth ≡ k = omega arith in ap (λ (n : ℕ). canonical n (getD (m .words) (j * wordsWidth + k) 0)) e
 
-module _ (text : List ℕ) (m : Model) (j nb k high cs : ℕ) (l : Line) (ls : List Line) (d : Draft) (o : On text m 3 j nb (j + 1) settingsWidth (nb * bodyWidth) high (j * wordsWidth + k) cs (l ∷ ls) d) (p : properLine l ≡ true) (few : j < 128) (fc : cs ≤ 128) where
+module _ (text : List ℕ) (m : Model) (j nb k high cs : ℕ) (l : Line) (ls : List Line) (d : Draft) (o : On text m jointItem j nb (j + 1) settingsWidth (nb * bodyWidth) high (j * wordsWidth + k) cs (l ∷ ls) d) (p : properLine l ≡ true) (few : j < mostJoints) (fc : cs ≤ mostJoints) where
   pub on-word : k < wordsWidth → Worded text (d .names) (d .state) k (canonical k (getD (m .words) (j * wordsWidth + k) 0))
-      → On text m 3 j nb (j + 1) settingsWidth (nb * bodyWidth) high (j * wordsWidth + (k + 1)) cs ls (lineRead text d)
+      → On text m jointItem j nb (j + 1) settingsWidth (nb * bodyWidth) high (j * wordsWidth + (k + 1)) cs ls (lineRead text d)
   unfolding wordWith originWith
   on-word r g =
       let done = j * wordsWidth + k in
       let v = canonical k (getD (m .words) done 0) in
-      let e = word-moves text d 3 j nb (j + 1) l ls (o .here) p k v (g .0) (g .1) in
+      let e = word-moves text d jointItem j nb (j + 1) l ls (o .here) p k v (g .0) (g .1) in
       let i : d .state .item ≡ j = ap (λ (s : State). s .item) (o .here .state) in
       let b : wordsBase (d .state .item) + k ≡ 0 + done = ap (λ (n : ℕ). wordsBase n + k) i ∙ ap (λ (n : ℕ). n + k) (words-base j (omega arith)) ∙ omega arith in
       let f = word-kept text m settingsWidth (nb * bodyWidth) high done nb (j + 1) cs d (o .kept) (g .0) (numbersSize + (wordsBase (d .state .item) + k)) (omega arith) (omega arith) fc in
@@ -210,7 +211,7 @@ module _ (text : List ℕ) (m : Model) (j nb k high cs : ℕ) (l : Line) (ls : L
 
 -- ---- joints: centres
 
-module _ (text : List ℕ) (m : Model) (j nb : ℕ) (l : Line) (ls : List Line) (d : Draft) (o : On text m 3 j nb (j + 1) settingsWidth (nb * bodyWidth) (j * numbersWidth + centerPlace) (j * wordsWidth + centerChoicePlace) j (l ∷ ls) d) (p : properLine l ≡ true) (few : j < 128) (fb : nb ≤ 128) where
+module _ (text : List ℕ) (m : Model) (j nb : ℕ) (l : Line) (ls : List Line) (d : Draft) (o : On text m jointItem j nb (j + 1) settingsWidth (nb * bodyWidth) (j * numbersWidth + centerPlace) (j * wordsWidth + centerChoicePlace) j (l ∷ ls) d) (p : properLine l ≡ true) (few : j < mostJoints) (fb : nb ≤ mostBodies) where
   cbase : itemBase (d .state) ≡ jointsPlace + numbersWidth * j
   cbase = joint-base (d .state) (o .here .at) j nb (j + 1) (o .here .state) (omega arith)
 
@@ -220,7 +221,7 @@ module _ (text : List ℕ) (m : Model) (j nb : ℕ) (l : Line) (ls : List Line) 
 
   pub on-center : eqb (getD (m .words) (j * wordsWidth + centerChoicePlace) 0) 0 ≡ true
       → Given2 text (d .names) (d .state) centerPlace (jointNumber m (j * numbersWidth + centerPlace)) (jointNumber m (j * numbersWidth + (centerPlace + 1))) byPair
-      → On text m 3 j nb (j + 1) settingsWidth (nb * bodyWidth) (j * numbersWidth + numbersWidth) (j * wordsWidth + wordsWidth) (j + 1) ls (lineRead text d)
+      → On text m jointItem j nb (j + 1) settingsWidth (nb * bodyWidth) (j * numbersWidth + numbersWidth) (j * wordsWidth + wordsWidth) (j + 1) ls (lineRead text d)
   unfolding numbersWith originsWith centerWith second canonical
   on-center z g =
       let high = j * numbersWidth + centerPlace in
@@ -228,7 +229,7 @@ module _ (text : List ℕ) (m : Model) (j nb : ℕ) (l : Line) (ls : List Line) 
       let y = jointNumber m (j * numbersWidth + (centerPlace + 1)) in
       let y≡ : y ≡ jointNumber m (high + 1) = ap (jointNumber m) (let e : j * numbersWidth + (centerPlace + 1) ≡ j * numbersWidth + centerPlace + 1 = omega arith in e) in
       let done = j * wordsWidth + centerChoicePlace in
-      let e = given-moves text d 3 j nb (j + 1) l ls (o .here) p (given2 centerPlace x y (g .0) (g .1) byPair) (g .4) in
+      let e = given-moves text d jointItem j nb (j + 1) l ls (o .here) p (given2 centerPlace x y (g .0) (g .1) byPair) (g .4) in
       let b : itemBase (d .state) + centerPlace ≡ jointsPlace + high = ap (λ (n : ℕ). n + centerPlace) cbase ∙ omega arith in
       let c : itemBase (d .state) + centerPlace + 1 ≡ jointsPlace + (high + 1) = omega arith in
       let f = joint-kept text m settingsWidth (nb * bodyWidth) high done nb (j + 1) j d (o .kept) (g .0) (g .2) refl (omega arith) (omega arith) in
@@ -266,13 +267,13 @@ module _ (text : List ℕ) (m : Model) (j nb : ℕ) (l : Line) (ls : List Line) 
 
   pub on-angle : eqb (getD (m .words) (j * wordsWidth + centerChoicePlace) 0) 0 ≡ false
       → Given1 text (d .names) (d .state) centerPlace (jointNumber m (j * numbersWidth + centerPlace)) byAngle
-      → On text m 3 j nb (j + 1) settingsWidth (nb * bodyWidth) (j * numbersWidth + numbersWidth) (j * wordsWidth + wordsWidth) (j + 1) ls (lineRead text d)
+      → On text m jointItem j nb (j + 1) settingsWidth (nb * bodyWidth) (j * numbersWidth + numbersWidth) (j * wordsWidth + wordsWidth) (j + 1) ls (lineRead text d)
   unfolding numbersWith originsWith centerWith second canonical
   on-angle z g =
       let high = j * numbersWidth + centerPlace in
       let x = jointNumber m high in
       let done = j * wordsWidth + centerChoicePlace in
-      let e = given-moves text d 3 j nb (j + 1) l ls (o .here) p (given1 centerPlace x (g .0) byAngle) (g .2) in
+      let e = given-moves text d jointItem j nb (j + 1) l ls (o .here) p (given1 centerPlace x (g .0) byAngle) (g .2) in
       let b : itemBase (d .state) + centerPlace ≡ jointsPlace + high = ap (λ (n : ℕ). n + centerPlace) cbase ∙ omega arith in
       let f = joint-kept text m settingsWidth (nb * bodyWidth) high done nb (j + 1) j d (o .kept) (g .0) (g .1) refl (omega arith) (omega arith) in
       let f′ = skip-kept text m settingsWidth (nb * bodyWidth) (high + 1) done nb (j + 1) j _ f (beside z) in
@@ -298,9 +299,9 @@ module _ (text : List ℕ) (m : Model) (j nb : ℕ) (l : Line) (ls : List Line) 
 -- ---- items are opened
 
 module _ (text : List ℕ) (small : length text < 4294967295) (m : Model) (kind item nb : ℕ) (l : Line) (ls : List Line) (d : Draft) (p : properLine l ≡ true) where
-  pub on-open-body : On text m kind item nb 0 settingsWidth (nb * bodyWidth) 0 0 0 (l ∷ ls) d → nb < 128
+  pub on-open-body : On text m kind item nb 0 settingsWidth (nb * bodyWidth) 0 0 0 (l ∷ ls) d → nb < mostBodies
       → ((w : Word) × Name text w (bodyWord nb) × (lineOf text (d .names) (d .state) ≡ OpenBody w (nb + 1)))
-      → On text m 2 nb (nb + 1) 0 settingsWidth (nb * bodyWidth + 0) 0 0 0 ls (lineRead text d)
+      → On text m bodyItem nb (nb + 1) 0 settingsWidth (nb * bodyWidth + 0) 0 0 0 ls (lineRead text d)
   unfolding bodyBase
   on-open-body o few g =
       let e = body-moves text d kind item nb 0 l ls (o .here) p (g .0) (g .2) in
@@ -321,10 +322,10 @@ module _ (text : List ℕ) (small : length text < 4294967295) (m : Model) (kind 
       }
 
 module _ (text : List ℕ) (small : length text < 4294967295) (m : Model) (kind item nb j : ℕ) (l : Line) (ls : List Line) (d : Draft) (p : properLine l ≡ true) where
-  pub on-open-joint : On text m kind item nb j settingsWidth (nb * bodyWidth) (j * numbersWidth) (j * wordsWidth) j (l ∷ ls) d → nb ≤ 128 → j < 128
+  pub on-open-joint : On text m kind item nb j settingsWidth (nb * bodyWidth) (j * numbersWidth) (j * wordsWidth) j (l ∷ ls) d → nb ≤ mostBodies → j < mostJoints
       → ((w : Word) × (a1 : ℕ) × (a2 : ℕ) × Name text w (jointWord j)
       × (lineOf text (d .names) (d .state) ≡ OpenJoint w (j + 1) (ends (getD (m .words) (j * wordsWidth + 0) 0) (getD (m .words) (j * wordsWidth + 1) 0) a1 a2)))
-      → On text m 3 j nb (j + 1) settingsWidth (nb * bodyWidth) (j * numbersWidth + 0) (j * wordsWidth + 2) j ls (lineRead text d)
+      → On text m jointItem j nb (j + 1) settingsWidth (nb * bodyWidth) (j * numbersWidth + 0) (j * wordsWidth + 2) j ls (lineRead text d)
   unfolding jointBase wordWith originWith canonical
   on-open-joint o fb few g =
       let b1 = getD (m .words) (j * wordsWidth + 0) 0 in

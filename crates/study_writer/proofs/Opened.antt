@@ -10,7 +10,7 @@ use lib.Ieee.{Float, nan}
 use lib.ListN.{length, set, length-set}
 use lib.Seq.{getD-set-same, getD-set-other}
 use Rattle.model.specs.Layout.{bodyWidth, numbersWidth}
-use Rattle.multibody.specs.Model.{Model}
+use Rattle.multibody.specs.Model.{Model, mostBodies, mostJoints}
 use Rattle.study_reader.specs.Words.{bytesOf}
 use Rattle.study_reader.specs.Names.{nameAt}
 use Rattle.study_reader.specs.Storage.{mostItems, settingsWidth, jointsPlace, jointNames, namesSize, kept}
@@ -96,7 +96,7 @@ module _ (text names : List ℕ) (small : length text < 4294967295) (w : Word) w
           ap (bytesOf text) (name-old names (jointNames + 2 * n) (kept (w .start)) (kept (w .end)) (jointNames + 2 * k) (omega arith)) ∙ h k z
 
   -- the bodies' names stand before the joints'
-  pub bodies-named : (n j : ℕ) → n ≤ 128 → BodyNames text names n → BodyNames text (nameWith jointNames j w names) n
+  pub bodies-named : (n j : ℕ) → n ≤ mostBodies → BodyNames text names n → BodyNames text (nameWith jointNames j w names) n
   unfolding nameWith
   bodies-named n j l h k q =
       ap (bytesOf text) (name-old names (jointNames + 2 * j) (kept (w .start)) (kept (w .end)) (2 * k) (omega arith)) ∙ h k q
@@ -108,7 +108,7 @@ named-length from i w names = simp length-set
 -- ---- what is held
 
 module _ (text : List ℕ) (small : length text < 4294967295) (m : Model) (s low high done nb nj cs : ℕ) (d : Draft) (k : Kept text m s low high done nb nj cs d) where
-  pub body-opened : (base : ℕ) (ds : List Default) (w : Word) → nb < 128 → Name text w (bodyWord nb) → s ≡ settingsWidth → settingsWidth + low ≤ base → high ≡ 0 → nj ≡ 0
+  pub body-opened : (base : ℕ) (ds : List Default) (w : Word) → nb < mostBodies → Name text w (bodyWord nb) → s ≡ settingsWidth → settingsWidth + low ≤ base → high ≡ 0 → nj ≡ 0
       → Kept text m s low high done (nb + 1) nj cs (draft (d .state) (puts base ds (d .numbers)) (d .origins) (d .words) (nameWith 0 nb w (d .names)))
   body-opened base ds w l n e r z z′ =
       record {
@@ -125,7 +125,7 @@ module _ (text : List ℕ) (small : length text < 4294967295) (m : Model) (s low
         centers = k .centers;
       }
 
-  pub joint-opened : (base : ℕ) (ds : List Default) (w : Word) → nj < 128 → nb ≤ 128 → Name text w (jointWord nj) → s ≡ settingsWidth → low ≤ mostItems * bodyWidth → jointsPlace + high ≤ base
+  pub joint-opened : (base : ℕ) (ds : List Default) (w : Word) → nj < mostJoints → nb ≤ mostBodies → Name text w (jointWord nj) → s ≡ settingsWidth → low ≤ mostItems * bodyWidth → jointsPlace + high ≤ base
       → Kept text m s low high done nb (nj + 1) cs (draft (d .state) (puts base ds (d .numbers)) (d .origins) (d .words) (nameWith jointNames nj w (d .names)))
   joint-opened base ds w l l′ n e r r′ =
       record {

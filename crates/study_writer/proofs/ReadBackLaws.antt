@@ -4,16 +4,17 @@ use mathlib.Core.Bool.{Bool, true, false, cond, not, _||_, _&&_}
 use mathlib.Core.List.{List, [], _∷_, _++_, append-assoc, append-nil}
 use Prim.Native.Nat.{ℕ, zero, suc, _+_, _*_, _-_, _/_, _≤_, _<_}
 use native.Mathlib.Omega.{arith}
-use borrow.Author.Tests.{le-leb, ltb-false, ne-eqb, lt-ltb, not-true}
+use borrow.Author.Tests.{le-leb, leb-false, ltb-false, ne-eqb, lt-ltb, not-true}
 use lib.Dec.{leb, ltb, eqb}
 use lib.Ieee.{Float, nan}
-use lib.ListN.{length, getD, drop, length-drop, replicate, length-replicate}
+use lib.ListN.{length, getD, take, drop, length-append, length-drop, replicate, length-replicate}
 use Rattle.floats.specs.Operators.{bits}
-use lib.Seq.{getD-drop}
+use lib.Seq.{getD-drop, take-append-seam}
+use Rattle.texts.specs.Written.{written}
 use Rattle.model.specs.Layout.{bodyWidth, wordsWidth, body1Place, body2Place, masksPlace, modelsPlace, enabledPlace, centerChoicePlace, firstRowPlace, numbersWidth, centerPlace}
 use Rattle.model.specs.Records.{num, word}
 use Rattle.model.specs.Store.{world, jointAt, centerAt, body1At, body2At}
-use Rattle.multibody.specs.Model.{Model}
+use Rattle.multibody.specs.Model.{Model, mostBodies, mostJoints}
 use Rattle.multibody.specs.Counts.{bodyCount, jointCount}
 use Rattle.multibody.specs.Rules.{all}
 use Rattle.multibody.specs.Refusals.{presentOrWorld, bodiesPresent}
@@ -21,10 +22,13 @@ use Rattle.model.specs.Planar.{plane}
 use Rattle.model.specs.Refusals.{masksFit}
 use Rattle.study_reader.specs.Storage.{mostItems, settingsWidth, jointsPlace, numbersSize, wordsSize, namesSize, jointBase}
 use Rattle.study_reader.specs.Draft.{Draft, draft, withState, start, puts, settingsDefaults}
-use Rattle.study_reader.specs.Study.{lineRead, linesRead, ended, isLeftOut, centerJoint, centerJoints, readStudy, studyOf}
+use Rattle.study_reader.specs.Study.{lineRead, linesRead, ended, isLeftOut, centerJoint, centerJoints, readStudy, studyOf, settingsRead, bodiesRead, jointsRead}
 use Rattle.study_reader.specs.declared.draft.State.{State}
+use Rattle.study_reader.specs.Keywords.{noItem, settingsItem, callsItem}
 use Rattle.study_writer.specs.Text.{Line, linesText, settingsLines, bodyLines, bodiesFrom, jointLines, jointsFrom, studyLines, studyText}
-use Rattle.study_writer.specs.ReadBack.{AllF32, Printable, Room, settingsRead, bodiesRead, jointsRead, IsRead, ReadsBack, StudyBack}
+use Rattle.study_writer.specs.Sink.{printedText}
+use Rattle.study_writer.specs.ReadBack.{AllF32, Accepted, Room, IsRead, ReadsBack, StudyBack, WroteAndRead}
+use Rattle.study_reader.proofs.Places.{by-cases}
 use Rattle.study_writer.proofs.Lexical.{both}
 use Rattle.study_writer.proofs.Steps.{on}
 use Rattle.study_writer.proofs.Kept.{canonical, centersPlace, Kept, kept-cast}
@@ -69,7 +73,7 @@ at-end text d f h (suc n) = ap (linesRead text n) (idle text d f h) ∙ at-end t
 record Between (text : List ℕ) (m : Model) (nb nj low high done : ℕ) (ls : List Line) (d : Draft) : Type 0 where
   kind : ℕ
   item : ℕ
-  no-call : eqb kind 4 ≡ false
+  no-call : eqb kind callsItem ≡ false
   on′ : On text m kind item nb nj settingsWidth low high done nj ls d
 
 module _ (text : List ℕ) (small : length text < 4294967295) (m : Model) (f32 : AllF32 m) where
@@ -80,7 +84,7 @@ module _ (text : List ℕ) (small : length text < 4294967295) (m : Model) (f32 :
   joint j = jointLines j (word wordsWidth (m .words) j) (num numbersWidth (m .numbers) j)
 
   -- one body, and the others
-  next-body : (i : ℕ) (ls : List Line) (d : Draft) → i < 128 → Between text m i 0 (i * bodyWidth) 0 0 (body i ++ ls) d
+  next-body : (i : ℕ) (ls : List Line) (d : Draft) → i < mostBodies → Between text m i 0 (i * bodyWidth) 0 0 (body i ++ ls) d
       → Between text m (i + 1) 0 ((i + 1) * bodyWidth) 0 0 ls (readAll text (body i) d)
   next-body i ls d h b =
       let r = body-read text small m f32 i h {ls = ls} {d = d} (b .no-call) (b .on′) in
@@ -109,7 +113,7 @@ module _ (text : List ℕ) (small : length text < 4294967295) (m : Model) (f32 :
   unfolding bodiesFrom readAll
   no-bodies i ls d b = let e : i + 0 ≡ i = omega arith in rw e b
 
-  bodies-read : (n i : ℕ) (ls : List Line) (d : Draft) → i + n ≤ 128 → Between text m i 0 (i * bodyWidth) 0 0 (bodiesFrom (m .bodies) i n ++ ls) d
+  bodies-read : (n i : ℕ) (ls : List Line) (d : Draft) → i + n ≤ mostBodies → Between text m i 0 (i * bodyWidth) 0 0 (bodiesFrom (m .bodies) i n ++ ls) d
       → Between text m (i + n) 0 ((i + n) * bodyWidth) 0 0 ls (readAll text (bodiesFrom (m .bodies) i n) d)
   bodies-read zero i ls d h b = no-bodies i ls d b
   bodies-read (suc n) i ls d h b =
@@ -118,11 +122,11 @@ module _ (text : List ℕ) (small : length text < 4294967295) (m : Model) (f32 :
       (next-body i (bodiesFrom (m .bodies) (i + 1) n ++ ls) d (omega arith) (first-body n i ls d b)))
 
   -- one joint, and the others
-  module _ (nb : ℕ) (fb : nb ≤ 128) where
+  module _ (nb : ℕ) (fb : nb ≤ mostBodies) where
     abbrev Joints : ℕ → List Line → Draft → Type 0
     Joints j ls d = Between text m nb j (nb * bodyWidth) (j * numbersWidth) (j * wordsWidth) ls d
 
-    next-joint : (j : ℕ) (ls : List Line) (d : Draft) → j < 128 → Fine m nb j → Joints j (joint j ++ ls) d → Joints (j + 1) ls (readAll text (joint j) d)
+    next-joint : (j : ℕ) (ls : List Line) (d : Draft) → j < mostJoints → Fine m nb j → Joints j (joint j ++ ls) d → Joints (j + 1) ls (readAll text (joint j) d)
     next-joint j ls d h w b =
         let r = joint-read text small m f32 nb fb j h {ls = ls} {d = d} (b .no-call) (w .first) (w .second) (w .mask2) (w .mask3) (w .mask4) (w .mask5) (b .on′) in
         record {
@@ -156,7 +160,7 @@ module _ (text : List ℕ) (small : length text < 4294967295) (m : Model) (f32 :
     unfolding jointsFrom readAll
     no-joints j ls d b = let e : j + 0 ≡ j = omega arith in rw e b
 
-    joints-read : (n j : ℕ) (ls : List Line) (d : Draft) → j + n ≤ 128 → ((k : ℕ) → k < j + n → Fine m nb k)
+    joints-read : (n j : ℕ) (ls : List Line) (d : Draft) → j + n ≤ mostBodies → ((k : ℕ) → k < j + n → Fine m nb k)
         → Joints j (jointsFrom (m .words) (m .numbers) j n ++ ls) d → Joints (j + n) ls (readAll text (jointsFrom (m .words) (m .numbers) j n) d)
     joints-read zero j ls d h f b = no-joints j ls d b
     joints-read (suc n) j ls d h f b =
@@ -166,7 +170,7 @@ module _ (text : List ℕ) (small : length text < 4294967295) (m : Model) (f32 :
 
 -- ---- the centres are given, so none is left out
 
-module _ (text : List ℕ) (m : Model) (s low high done nb nj cs : ℕ) (d : Draft) (k : Kept text m s low high done nb nj cs d) (few : cs ≤ 128) where
+module _ (text : List ℕ) (m : Model) (s low high done nb nj cs : ℕ) (d : Draft) (k : Kept text m s low high done nb nj cs d) (few : cs ≤ mostJoints) where
   no-center : (j : ℕ) → j < cs → centerJoint j d ≡ d
   unfolding centerJoint isLeftOut jointBase
   no-center j l =
@@ -249,7 +253,7 @@ module _ (text : List ℕ) (m : Model) (nb nj : ℕ) (d : Draft) (k : Kept text 
 
 -- ---- from the first line to the last
 
-module _ (m : Model) (p : Printable m) (numbers : List Float) (origins words names : List ℕ) (r : Room numbers origins words names) where
+module _ (m : Model) (f32 : AllF32 m) (p : Accepted m) (numbers : List Float) (origins words names : List ℕ) (r : Room numbers origins words names) where
   abbrev text : List ℕ
   text = studyText m
 
@@ -272,7 +276,7 @@ module _ (m : Model) (p : Printable m) (numbers : List Float) (origins words nam
   sizes = study-size m (p .few-bodies) (p .few-joints) (λ k l. fine-small m nb k (p .few-bodies) (joint-fine k l))
 
   -- before the first line nothing is held
-  start-on : (ls : List Line) → text ≡ linesText ls → On text m 0 0 0 0 0 0 0 0 0 ls first
+  start-on : (ls : List Line) → text ≡ linesText ls → On text m noItem 0 0 0 0 0 0 0 0 ls first
   start-on ls e =
       record {
         here = record { at = 0; state = refl; left = e };
@@ -305,24 +309,24 @@ module _ (m : Model) (p : Printable m) (numbers : List Float) (origins words nam
   unfolding studyText studyLines
   after-settings =
       record {
-        kind = 1;
+        kind = settingsItem;
         item = 0;
         no-call = refl;
         on′ =
-            settings-read (studyText m) m (p .f32) {ls = bodyPart ++ (jointPart ++ [])} {d = first}
+            settings-read (studyText m) m f32 {ls = bodyPart ++ (jointPart ++ [])} {d = first}
             (start-on (settingsLines (m .params) ++ (bodyPart ++ (jointPart ++ []))) (ap (λ (l : List Line). linesText (settingsLines (m .params) ++ (bodyPart ++ l))) (sym (append-nil jointPart))));
       }
 
   after-bodies : Between text m nb 0 (nb * bodyWidth) 0 0 (jointPart ++ []) (readAll text bodyPart d1)
   after-bodies =
       let e : 0 + nb ≡ nb = omega arith in
-      let b = bodies-read text (sizes .0) m (p .f32) nb 0 (jointPart ++ []) d1 (omega (arith, p .few-bodies)) after-settings in
+      let b = bodies-read text (sizes .0) m f32 nb 0 (jointPart ++ []) d1 (omega (arith, p .few-bodies)) after-settings in
       subst (λ (n : ℕ). Between text m n 0 (n * bodyWidth) 0 0 (jointPart ++ []) (readAll text bodyPart d1)) e b
 
   after-joints : Between text m nb nj (nb * bodyWidth) (nj * numbersWidth) (nj * wordsWidth) [] (readAll text jointPart (readAll text bodyPart d1))
   after-joints =
       let e : 0 + nj ≡ nj = omega arith in
-      let b = joints-read text (sizes .0) m (p .f32) nb (p .few-bodies) nj 0 [] (readAll text bodyPart d1) (omega (arith, p .few-joints)) (λ k l. joint-fine k (omega arith)) after-bodies in
+      let b = joints-read text (sizes .0) m f32 nb (p .few-bodies) nj 0 [] (readAll text bodyPart d1) (omega (arith, p .few-joints)) (λ k l. joint-fine k (omega arith)) after-bodies in
       subst (λ (n : ℕ). Between text m nb n (nb * bodyWidth) (n * numbersWidth) (n * wordsWidth) [] (readAll text jointPart (readAll text bodyPart d1))) e b
 
   last-parts : last ≡ readAll text jointPart (readAll text bodyPart d1)
@@ -376,16 +380,59 @@ module _ (m : Model) (p : Printable m) (numbers : List Float) (origins words nam
       }
 
 pub read-back : ReadsBack
-read-back m p numbers origins words names r = subst (IsRead m) (sym (read-is m p numbers origins words names r)) (last-read m p numbers origins words names r)
+read-back m f32 p numbers origins words names r =
+    subst (IsRead m) (sym (read-is m f32 p numbers origins words names r)) (last-read m f32 p numbers origins words names r)
 
 -- in storage of its full size, with nothing in it before
 pub study-back : StudyBack
 unfolding studyOf
-study-back m p =
-    read-back m p (replicate numbersSize (bits 0)) (replicate (numbersSize + wordsSize) 0) (replicate wordsSize 0) (replicate namesSize 0)
+study-back m f32 p =
+    read-back m f32 p (replicate numbersSize (bits 0)) (replicate (numbersSize + wordsSize) 0) (replicate wordsSize 0) (replicate namesSize 0)
     (record {
       numbers-room = rw length-replicate (omega arith);
       origins-room = rw length-replicate (omega arith);
       words-room = rw length-replicate (omega arith);
       names-room = rw length-replicate (omega arith);
     })
+
+-- ---- of the two functions
+
+module _ (m : Model) (f32 : AllF32 m) (numbers : List Float) (origins words names : List ℕ) (d : Draft) (out out′ : List ℕ) (r : ℕ) (e : r ≡ length (printedText m)) (f : out′ ≡ written out (printedText m)) where
+  printed : Accepted m → printedText m ≡ studyText m
+  unfolding printedText
+  printed p = simp (le-leb _ _ (p .few-bodies), le-leb _ _ (p .few-joints))
+
+  -- whether the text fits is seen in what was left
+  fits-there : r ≤ length out′ → leb (length (printedText m)) (length out) ≡ true
+  unfolding written
+  fits-there l =
+      by-cases (leb (length (printedText m)) (length out)) (λ t. t)
+      (λ t. absurd (let h = leb-false (length (printedText m)) (length out) t in let q : length out′ ≡ length out = ap length f ∙ rw t refl in let z : ⊥ = omega arith in z))
+
+  not-there : length out′ < r → leb (length (printedText m)) (length out) ≡ false
+  unfolding written
+  not-there l =
+      by-cases (leb (length (printedText m)) (length out))
+      (λ t. absurd (let q : length out′ ≡ length (printedText m) + length (drop (length (printedText m)) out) = ap length f ∙ rw t (length-append (printedText m) _) in let z : ⊥ = omega arith in z))
+      (λ t. t)
+
+  -- the text stands at the front
+  pub wrote-all : r ≤ length out′ → d ≡ readStudy (take r out′) numbers origins words names → WroteAndRead m (length out) numbers origins words names d
+  unfolding written
+  wrote-all l g =
+      let fits = fits-there l in
+      let h : take r out′ ≡ printedText m = simp (f, e, fits) (take-append-seam (printedText m) (drop (length (printedText m)) out)) in
+      let k : d ≡ readStudy (printedText m) numbers origins words names = g ∙ ap (λ (t : List ℕ). readStudy t numbers origins words names) h in
+      record {
+        whole = k ∙ sym (ap (λ (t : Bool). readStudy (cond t (printedText m) []) numbers origins words names) fits);
+        back = λ p s room. subst (IsRead m) (sym (k ∙ ap (λ (t : List ℕ). readStudy t numbers origins words names) (printed p))) (read-back m f32 p numbers origins words names room);
+      }
+
+  -- there is none
+  pub wrote-none : length out′ < r → d ≡ readStudy [] numbers origins words names → WroteAndRead m (length out) numbers origins words names d
+  wrote-none l g =
+      let none = not-there l in
+      record {
+        whole = g ∙ sym (ap (λ (t : Bool). readStudy (cond t (printedText m) []) numbers origins words names) none);
+        back = λ p s w. absurd (let h = leb-false (length (printedText m)) (length out) none in let z : ⊥ = omega arith in z);
+      }

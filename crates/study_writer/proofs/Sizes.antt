@@ -14,7 +14,7 @@ use Rattle.texts.specs.Digits.{digit, decimalOnto, decimal}
 use Rattle.model.specs.Layout.{bodyWidth, wordsWidth, body1Place, body2Place, masksPlace, centerChoicePlace, numbersWidth, centerPlace}
 use Rattle.model.specs.Records.{num, word}
 use Rattle.model.specs.Store.{world}
-use Rattle.multibody.specs.Model.{Model}
+use Rattle.multibody.specs.Model.{Model, mostBodies, mostJoints}
 use Rattle.multibody.specs.Counts.{bodyCount, jointCount}
 use Rattle.model.specs.Planar.{plane}
 use Rattle.texts.specs.Ascii.{ascii}
@@ -175,7 +175,7 @@ pub record Small (m : Model) (j : ℕ) : Type 0 where
   pub small4 : getD (m .words) (j * wordsWidth + (masksPlace + 2)) 0 < 10000000000
   pub small5 : getD (m .words) (j * wordsWidth + (masksPlace + 3)) 0 < 10000000000
 
-pub fine-small : (m : Model) (nb j : ℕ) → nb ≤ 128 → Fine m nb j → Small m j
+pub fine-small : (m : Model) (nb j : ℕ) → nb ≤ mostBodies → Fine m nb j → Small m j
 fine-small m nb j l h =
     record {
       small0 = end-small (getD (m .words) (j * wordsWidth + body1Place) 0) (h .first);
@@ -198,7 +198,7 @@ module _ (m : Model) where
   unfolding settingsLines
   settings-short = simp number-short
 
-  bodies-short : (n i : ℕ) → i + n ≤ 128 → (shortLines (bodiesFrom (m .bodies) i n) ≡ true) × (length (bodiesFrom (m .bodies) i n) ≡ 7 * n)
+  bodies-short : (n i : ℕ) → i + n ≤ mostBodies → (shortLines (bodiesFrom (m .bodies) i n) ≡ true) × (length (bodiesFrom (m .bodies) i n) ≡ 7 * n)
   unfolding bodiesFrom
   bodies-short zero i h = (refl, omega arith)
   bodies-short (suc n) i h =
@@ -217,7 +217,7 @@ module _ (m : Model) where
   unfolding jointLines
   joint-many j g f = refl
 
-  joints-short : (n j : ℕ) → j + n ≤ 128 → ((k : ℕ) → k < j + n → Small m k)
+  joints-short : (n j : ℕ) → j + n ≤ mostBodies → ((k : ℕ) → k < j + n → Small m k)
       → (shortLines (jointsFrom (m .words) (m .numbers) j n) ≡ true) × (length (jointsFrom (m .words) (m .numbers) j n) ≡ 43 * n)
   unfolding jointsFrom
   joints-short zero j h f = (refl, omega arith)
@@ -229,7 +229,7 @@ module _ (m : Model) where
       )
 
 -- the whole text
-pub study-size : (m : Model) → bodyCount plane (m .bodies) ≤ 128 → jointCount plane (m .words) (m .numbers) ≤ 128
+pub study-size : (m : Model) → bodyCount plane (m .bodies) ≤ mostBodies → jointCount plane (m .words) (m .numbers) ≤ mostJoints
     → ((k : ℕ) → k < jointCount plane (m .words) (m .numbers) → Small m k)
     → (length (studyText m) < 4294967295) × (length (studyLines m) ≤ length (studyText m))
 unfolding studyText studyLines settingsLines

@@ -18,6 +18,7 @@ use Rattle.study_reader.specs.declared.draft.State.{State}
 use Rattle.study_reader.specs.declared.items.Numbers.{Numbers}
 use Rattle.study_reader.specs.declared.items.Change.{Change}
 use Rattle.study_reader.specs.declared.items.Change.the-variants.{Given, JointWord, OpenSettings, OpenBody, OpenJoint}
+use Rattle.study_reader.specs.Keywords.{settingsItem, bodyItem, jointItem}
 use Rattle.study_writer.specs.Text.{Line, lineOnto, linesText}
 use Rattle.study_writer.proofs.Lexical.{properLine, lineSize, line-after, line-some}
 
@@ -102,7 +103,7 @@ module _ (text : List ℕ) (d : Draft) (kind item nb nj : ℕ) (l : Line) (ls : 
       )
 
   pub settings-moves : lineOf text (d .names) (d .state) ≡ OpenSettings
-      → Here text 1 item nb nj ls (lineRead text d)
+      → Here text settingsItem item nb nj ls (lineRead text d)
       × (lineRead text d .numbers ≡ d .numbers)
       × (lineRead text d .origins ≡ d .origins)
       × (lineRead text d .words ≡ d .words)
@@ -110,7 +111,7 @@ module _ (text : List ℕ) (d : Draft) (kind item nb nj : ℕ) (l : Line) (ls : 
   unfolding applied
   settings-moves e =
       let r = read-line OpenSettings e in (
-        next-here OpenSettings e 1 item nb nj (ap (λ (s : State). opened s 1 (s .item) (s .bodies) (s .joints)) (h .state)),
+        next-here OpenSettings e settingsItem item nb nj (ap (λ (s : State). opened s settingsItem (s .item) (s .bodies) (s .joints)) (h .state)),
         ap (λ (x : Draft). x .numbers) r,
         ap (λ (x : Draft). x .origins) r,
         ap (λ (x : Draft). x .words) r,
@@ -118,7 +119,7 @@ module _ (text : List ℕ) (d : Draft) (kind item nb nj : ℕ) (l : Line) (ls : 
       )
 
   pub body-moves : (w : Word) → lineOf text (d .names) (d .state) ≡ OpenBody w (nb + 1)
-      → Here text 2 nb (nb + 1) nj ls (lineRead text d)
+      → Here text bodyItem nb (nb + 1) nj ls (lineRead text d)
       × (lineRead text d .numbers ≡ puts (bodyBase (d .state .bodies)) bodyDefaults (d .numbers))
       × (lineRead text d .origins ≡ d .origins)
       × (lineRead text d .words ≡ d .words)
@@ -126,7 +127,7 @@ module _ (text : List ℕ) (d : Draft) (kind item nb nj : ℕ) (l : Line) (ls : 
   unfolding applied openBody
   body-moves w e =
       let r = read-line (OpenBody w (nb + 1)) e in (
-        next-here (OpenBody w (nb + 1)) e 2 nb (nb + 1) nj (ap (λ (s : State). opened s 2 (s .bodies) (nb + 1) (s .joints)) (h .state)),
+        next-here (OpenBody w (nb + 1)) e bodyItem nb (nb + 1) nj (ap (λ (s : State). opened s bodyItem (s .bodies) (nb + 1) (s .joints)) (h .state)),
         ap (λ (x : Draft). x .numbers) r,
         ap (λ (x : Draft). x .origins) r,
         ap (λ (x : Draft). x .words) r,
@@ -134,7 +135,7 @@ module _ (text : List ℕ) (d : Draft) (kind item nb nj : ℕ) (l : Line) (ls : 
       )
 
   pub joint-moves : (w : Word) (b1 b2 a1 a2 : ℕ) → lineOf text (d .names) (d .state) ≡ OpenJoint w (nj + 1) (ends b1 b2 a1 a2)
-      → Here text 3 nj nb (nj + 1) ls (lineRead text d)
+      → Here text jointItem nj nb (nj + 1) ls (lineRead text d)
       × (lineRead text d .numbers ≡ puts (jointBase (d .state .joints)) jointDefaults (d .numbers))
       × (lineRead text d .origins ≡ originWith (d .state .joints) body2Place a2 (originWith (d .state .joints) body1Place a1 (d .origins)))
       × (lineRead text d .words ≡ wordWith (d .state .joints) body2Place b2 (wordWith (d .state .joints) body1Place b1 (d .words)))
@@ -142,7 +143,7 @@ module _ (text : List ℕ) (d : Draft) (kind item nb nj : ℕ) (l : Line) (ls : 
   unfolding applied openJoint
   joint-moves w b1 b2 a1 a2 e =
       let r = read-line (OpenJoint w (nj + 1) (ends b1 b2 a1 a2)) e in (
-        next-here (OpenJoint w (nj + 1) (ends b1 b2 a1 a2)) e 3 nj nb (nj + 1) (ap (λ (s : State). opened s 3 (s .joints) (s .bodies) (nj + 1)) (h .state)),
+        next-here (OpenJoint w (nj + 1) (ends b1 b2 a1 a2)) e jointItem nj nb (nj + 1) (ap (λ (s : State). opened s jointItem (s .joints) (s .bodies) (nj + 1)) (h .state)),
         ap (λ (x : Draft). x .numbers) r,
         ap (λ (x : Draft). x .origins) r,
         ap (λ (x : Draft). x .words) r,

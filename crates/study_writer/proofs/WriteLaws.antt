@@ -12,7 +12,7 @@ use Rattle.texts.specs.Written.{written}
 use Rattle.texts.proofs.PutLaws.{empty-written}
 use Rattle.model.specs.Layout.{bodyWidth, wordsWidth, body1Place, body2Place, masksPlace, numbersWidth}
 use Rattle.model.specs.Model.{modelOf}
-use Rattle.multibody.specs.Model.{Model}
+use Rattle.multibody.specs.Model.{Model, mostBodies, mostJoints}
 use Rattle.multibody.specs.Counts.{bodyCount, jointCount}
 use Rattle.model.specs.Planar.{plane}
 use Rattle.model.specs.declared.header.Header.{Header}
@@ -43,21 +43,21 @@ module _ (h : Header) (bodies : List Float) (words : List ℕ) (numbers : List F
   m = modelOf h bodies words numbers
 
   -- too many bodies, or too many joints
-  pub no-bodies : (nb : ℕ) → nb ≡ bodyCount plane bodies → 128 < nb → printedText m ≡ []
+  pub no-bodies : (nb : ℕ) → nb ≡ bodyCount plane bodies → mostBodies < nb → printedText m ≡ []
   unfolding printedText
   no-bodies nb e l =
-      ap (λ (t : Bool). cond t (cond (leb (jointCount plane words numbers) 128) (studyText m) []) []) (lt-leb (bodyCount plane bodies) 128 (omega arith))
+      ap (λ (t : Bool). cond t (cond (leb (jointCount plane words numbers) mostJoints) (studyText m) []) []) (lt-leb (bodyCount plane bodies) mostBodies (omega arith))
 
-  pub no-joints : (nb nj : ℕ) → nb ≡ bodyCount plane bodies → nb ≤ 128 → nj ≡ jointCount plane words numbers → 128 < nj → printedText m ≡ []
+  pub no-joints : (nb nj : ℕ) → nb ≡ bodyCount plane bodies → nb ≤ mostBodies → nj ≡ jointCount plane words numbers → mostJoints < nj → printedText m ≡ []
   unfolding printedText
   no-joints nb nj e k f l =
-      ap (λ (t : Bool). cond t (cond (leb (jointCount plane words numbers) 128) (studyText m) []) []) (le-leb (bodyCount plane bodies) 128 (omega arith))
-      ∙ ap (λ (t : Bool). cond t (studyText m) []) (lt-leb (jointCount plane words numbers) 128 (omega arith))
+      ap (λ (t : Bool). cond t (cond (leb (jointCount plane words numbers) mostJoints) (studyText m) []) []) (le-leb (bodyCount plane bodies) mostBodies (omega arith))
+      ∙ ap (λ (t : Bool). cond t (studyText m) []) (lt-leb (jointCount plane words numbers) mostJoints (omega arith))
 
   pub none-left : (out : List ℕ) → printedText m ≡ [] → (0 ≡ length (printedText m)) × (out ≡ written out (printedText m))
   none-left out e = (sym (ap length e), empty-written out (printedText m) e)
 
-  module _ (nb nj : ℕ) (e : nb ≡ bodyCount plane bodies) (k : nb ≤ 128) (f : nj ≡ jointCount plane words numbers) (l : nj ≤ 128)
+  module _ (nb nj : ℕ) (e : nb ≡ bodyCount plane bodies) (k : nb ≤ mostBodies) (f : nj ≡ jointCount plane words numbers) (l : nj ≤ mostJoints)
       (small : (c : ℕ) → getD words c 0 < 4294967296) where
     abbrev whole : List ℕ
     whole = linesText (settingsLines (h .params) ++ (bodiesFrom bodies 0 nb ++ jointsFrom words numbers 0 nj))
@@ -72,8 +72,8 @@ module _ (h : Header) (bodies : List Float) (words : List ℕ) (numbers : List F
     unfolding printedText
     printed =
         whole-is
-        ∙ sym (ap (λ (t : Bool). cond t (cond (leb (jointCount plane words numbers) 128) (studyText m) []) []) (le-leb (bodyCount plane bodies) 128 (omega arith))
-        ∙ ap (λ (t : Bool). cond t (studyText m) []) (le-leb (jointCount plane words numbers) 128 (omega arith)))
+        ∙ sym (ap (λ (t : Bool). cond t (cond (leb (jointCount plane words numbers) mostJoints) (studyText m) []) []) (le-leb (bodyCount plane bodies) mostBodies (omega arith))
+        ∙ ap (λ (t : Bool). cond t (studyText m) []) (le-leb (jointCount plane words numbers) mostJoints (omega arith)))
 
     joint-small : (j : ℕ) → Small m j
     joint-small j =

@@ -1,3 +1,3 @@
 pub mod Text
-pub mod ReadBack
 pub mod Sink
+pub mod ReadBack

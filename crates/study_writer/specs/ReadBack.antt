@@ -4,12 +4,11 @@
 -- storage that is read into keeps what it has there, and a load writes it.
 use Prim.Native.Nat.{ℕ, _≤_, _<_}
 use mathlib.Core.Path.{_≡_}
-use mathlib.Core.Bool.{true}
-use mathlib.Core.List.{List}
-use lib.Dec.{T}
+use mathlib.Core.Bool.{true, cond}
+use mathlib.Core.List.{List, []}
+use lib.Dec.{T, leb}
 use lib.Ieee.{Float, nan, binary32, fits}
-use lib.ListN.{length, getD, drop}
-use Rattle.rows.specs.declared.integration_parameters.IntegrationParameters.{IntegrationParameters}
+use lib.ListN.{length, getD}
 use Rattle.model.specs.Layout.{bodyWidth}
 use Rattle.model.specs.Records.{num}
 use Rattle.model.specs.Store.{jointAt, centerAt, body1At, body2At}
@@ -18,10 +17,11 @@ use Rattle.multibody.specs.Counts.{bodyCount, jointCount}
 use Rattle.multibody.specs.Refusals.{bodiesPresent}
 use Rattle.model.specs.Planar.{plane}
 use Rattle.model.specs.Refusals.{masksFit}
-use Rattle.study_reader.specs.Storage.{settingsWidth, jointsPlace, numbersSize, wordsSize, namesSize}
+use Rattle.study_reader.specs.Storage.{numbersSize, wordsSize, namesSize}
 use Rattle.study_reader.specs.Draft.{Draft}
-use Rattle.study_reader.specs.Study.{readStudy, studyOf}
+use Rattle.study_reader.specs.Study.{readStudy, studyOf, settingsRead, bodiesRead, jointsRead}
 use Rattle.study_writer.specs.Text.{studyText}
+use Rattle.study_writer.specs.Sink.{printedText}
 
 -- every number is an f32, as the slices that hold them have it
 abbrev pub IsF32 : Float → Type 0
@@ -34,9 +34,8 @@ pub record AllF32 (m : Model) : Type 0 where
   pub bodies : (c : ℕ) → IsF32 (getD (m .bodies) c nan)
   pub numbers : (c : ℕ) → IsF32 (getD (m .numbers) c nan)
 
--- rules 1 to 4: few enough bodies and joints, masks of the three axes, and each joint's bodies present or the world
-pub record Printable (m : Model) : Type 0 where
-  pub f32 : AllF32 m
+-- rules 1 to 4 let it through: few enough bodies and joints, masks of the three axes, and each joint's bodies present or the world
+pub record Accepted (m : Model) : Type 0 where
   pub few-bodies : bodyCount plane (m .bodies) ≤ mostBodies
   pub few-joints : jointCount plane (m .words) (m .numbers) ≤ mostJoints
   pub masks : (j : ℕ) → j < jointCount plane (m .words) (m .numbers) → masksFit (m .words) j ≡ true
@@ -48,20 +47,6 @@ pub record Room (numbers : List Float) (origins words names : List ℕ) : Type 0
   pub origins-room : numbersSize ≤ length origins
   pub words-room : wordsSize ≤ length words
   pub names-room : namesSize ≤ length names
-
--- where the bodies and the joints start in what is read (Storage.antt of study_reader)
-abbrev pub bodiesRead : Draft → List Float
-bodiesRead d = drop settingsWidth (d .numbers)
-
-abbrev pub jointsRead : Draft → List Float
-jointsRead d = drop jointsPlace (d .numbers)
-
-abbrev pub settingsRead : Draft → IntegrationParameters
-settingsRead d = record {
-  dt = getD (d .numbers) 0 nan;
-  «length_unit» = getD (d .numbers) 1 nan;
-  «normalized_max_corrective_velocity» = getD (d .numbers) 2 nan;
-}
 
 -- what was read is the model, and no fault
 pub record IsRead (m : Model) (d : Draft) : Type 0 where
@@ -78,8 +63,14 @@ pub record IsRead (m : Model) (d : Draft) : Type 0 where
 -- The theorem, proved in proofs/ReadBackLaws.antt: `read-back`, into any storage that is large enough; `study-back`, as the study that the text describes.
 abbrev pub ReadsBack : Type 0
 ReadsBack =
-    (m : Model) → Printable m → (numbers : List Float) (origins words names : List ℕ) → Room numbers origins words names
+    (m : Model) → AllF32 m → Accepted m → (numbers : List Float) (origins words names : List ℕ) → Room numbers origins words names
     → IsRead m (readStudy (studyText m) numbers origins words names)
 
 abbrev pub StudyBack : Type 0
-StudyBack = (m : Model) → Printable m → IsRead m (studyOf (studyText m))
+StudyBack = (m : Model) → AllF32 m → Accepted m → IsRead m (studyOf (studyText m))
+
+-- The same of the two functions, `write_study` into so much room and then `read_study` of what it wrote (src/read_back.rt): of any slices whatever, with nothing asked of a caller. What is read is
+-- told, and it is the model where the rules let it through, its text fits and the storage is large enough.
+pub record WroteAndRead (m : Model) (room : ℕ) (numbers : List Float) (origins words names : List ℕ) (d : Draft) : Type 0 where
+  pub whole : d ≡ readStudy (cond (leb (length (printedText m)) room) (printedText m) []) numbers origins words names
+  pub back : Accepted m → length (printedText m) ≤ room → Room numbers origins words names → IsRead m d

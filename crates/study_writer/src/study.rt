@@ -59,6 +59,11 @@ use model::layout::VELOCITY_X;
 use model::layout::WORDS_WIDTH;
 use rows::integration_parameters::IntegrationParameters;
 
+// At most so many bodies and joints have a text: rules 1 and 2.
+const MOST_BODIES: usize = 128;
+
+const MOST_JOINTS: usize = 128;
+
 // Where a body's position stands, and those of a joint's frames: after the rotation.
 const POSITION: usize = POSE + 2;
 
@@ -314,7 +319,7 @@ fn put_study(
 }
 
 // Writes the text of a model to the front of `out` and answers its length. Where `out` is shorter nothing is written, and the length is answered all
-// the same. A model with more than 128 bodies or 128 joints has no text: 0 is answered.
+// the same. A model with more bodies or joints than rules 1 and 2 let through has no text: 0 is answered.
 pub fn write_study(
     out: &mut [u8],
     header: Header,
@@ -325,11 +330,11 @@ pub fn write_study(
     ensures { λ r. ⌜ (r ≡ length (printedText (modelOf header (now (bodies .entry)) (now (words .entry)) (now (numbers .entry))))) × (now (out .exit) ≡ written (now (out .entry)) (printedText (modelOf header (now (bodies .entry)) (now (words .entry)) (now (numbers .entry))))) ⌝ }
 {
     let nb = body_count(bodies);
-    if 128 < nb {
+    if MOST_BODIES < nb {
         return 0;
     }
     let nj = joint_count(words, numbers);
-    if 128 < nj {
+    if MOST_JOINTS < nj {
         return 0;
     }
     let params = header.params;
