@@ -116,9 +116,12 @@ class Many(unittest.TestCase):
             print("Dask: left out, because distributed is not installed")
             return
         import logging
+        import warnings
 
         wanted = bits(one_after_the_other(CALLS, 100))
-        with distributed.LocalCluster(n_workers=2, threads_per_worker=1, dashboard_address=None, silence_logs=logging.ERROR) as cluster, distributed.Client(cluster) as client:
+        # a cluster that ends on a busy machine has things to say of itself
+        warnings.simplefilter("ignore")
+        with distributed.LocalCluster(n_workers=2, threads_per_worker=1, dashboard_address=None, silence_logs=logging.CRITICAL) as cluster, distributed.Client(cluster) as client:
             with client.get_executor() as executor:
                 self.assertEqual(bits(kz.run_many(studies(100), CALLS, executor)), wanted)
 
