@@ -204,7 +204,7 @@ def _library() -> ctypes.CDLL:
         raise ImportError(f"{name} is not found: make it by tools/library, or name it in KATYDIDZINC_LIBRARY") from None
 
 
-def _of_this_layout(library, place):
+def _of_this_layout(library: ctypes.CDLL, place: Any) -> ctypes.CDLL:
     """The library, if its records are those of this module."""
     try:
         layout, version = library.katydidzinc_layout(), library.katydidzinc_version()
@@ -216,7 +216,7 @@ def _of_this_layout(library, place):
     return library
 
 
-_lib = _library()
+_lib: ctypes.CDLL = _library()
 _numbers = _words = _bytes = (ctypes.c_void_p, ctypes.c_size_t)
 _f32, _u32 = ctypes.c_float, ctypes.c_uint32
 _model = (_f32, _f32, _f32, _u32) + _numbers + _words + _numbers
@@ -1123,6 +1123,12 @@ class Study(Model):
     _widths = Widths("katydidzinc_", BODY_WIDTH, WORDS_WIDTH, NUMBERS_WIDTH, ROW_WIDTH, MOST_ROWS, READ_NUMBERS, READ_IDS, VELOCITY_NUMBERS)
     _places = _places(("re", "im", "x", "y"), ("inverse_inertia", "inverse_masses x", "inverse_masses y"), AXES)
     _all_axes = ALL_AXES
+    # the lines of a text's calls, of a study that read() or loads() gave
+    calls: Sequence[Any] = ()
+
+    def text(self) -> str:
+        """The text of the study's model, in one spelling; katydidzinc_study.text says what it holds."""
+        return katydidzinc_study.text(self)
 
     def _center_places(self, j: int) -> Tuple[Tuple[str, Optional[bool]], ...]:
         angle = flat(self.words)[j * WORDS_WIDTH + CENTER_CHOICE] != CENTER_COSINE_SINE
@@ -1578,4 +1584,4 @@ import katydidzinc_space  # noqa: E402: it takes what is above from here
 import katydidzinc_study  # noqa: E402
 
 space = katydidzinc_space
-read, loads, StudyError, Study.text, Study.calls = katydidzinc_study.read, katydidzinc_study.loads, katydidzinc_study.StudyError, katydidzinc_study.text, ()
+read, loads, StudyError = katydidzinc_study.read, katydidzinc_study.loads, katydidzinc_study.StudyError

@@ -44,7 +44,7 @@ READ_NUMBERS, READ_IDS, VELOCITY_NUMBERS, REACTION_NUMBERS = 261, 9, 6, 12
 AXES = ("x", "y", "z", "rx", "ry", "rz")
 
 # each module imports the other, so that their types are said here
-_lib: ctypes.CDLL = kz._lib  # type: ignore[has-type]
+_lib: ctypes.CDLL = kz._lib
 _floats = _integers = _bytes = (ctypes.c_void_p, ctypes.c_size_t)
 _f32, _u32 = ctypes.c_float, ctypes.c_uint32
 _model = (_f32, _f32, _f32, _u32) + _floats + _integers + _floats

@@ -110,27 +110,27 @@ def loads(text: Union[str, bytes, bytearray], name: str = "text") -> kz.Study:
     StudyError tells the first, under `name`."""
     if not kz.float_mode():
         raise kz.Refused("read_study", kz.FLOAT_MODE)
-    text = text.encode("utf-8", "surrogateescape") if isinstance(text, str) else bytes(text)
-    if len(text) >= 2**32:
+    told = text.encode("utf-8", "surrogateescape") if isinstance(text, str) else bytes(text)
+    if len(told) >= 2**32:
         raise OverflowError("a text has fewer than 4294967296 bytes")
     numbers, origins = (ctypes.c_float * TEXT_NUMBERS)(), (ctypes.c_uint32 * TEXT_ORIGINS)()
     words, names = (ctypes.c_uint32 * TEXT_WORDS)(), (ctypes.c_uint32 * TEXT_NAMES)()
-    lent = (ctypes.c_char * (len(text) + 1)).from_buffer_copy(text + b"\0")
-    found = kz._lib.katydidzinc_read_study(lent, len(text), numbers, len(numbers), origins, len(origins), words, len(words), names, len(names))
+    lent = (ctypes.c_char * (len(told) + 1)).from_buffer_copy(told + b"\0")
+    found = kz._lib.katydidzinc_read_study(lent, len(told), numbers, len(numbers), origins, len(origins), words, len(words), names, len(names))
     if found.fault:
         raise StudyError(found.fault, found.line, found.column, name)
     study = kz.Study()
     study.dt, study.length_unit, study.normalized_max_corrective_velocity = numbers[:TEXT_BODIES]
 
     def named(first: int, count: int) -> List[str]:
-        return [_decoded(text[names[k] : names[k + 1]]) for k in range(first, first + 2 * count, 2)]
+        return [_decoded(told[names[k] : names[k + 1]]) for k in range(first, first + 2 * count, 2)]
 
     study.body_names, study.joint_names = named(0, found.bodies), named(TEXT_JOINT_NAMES, found.joints)
     study.bodies = study._floats(numbers[TEXT_BODIES : TEXT_BODIES + found.bodies * kz.BODY_WIDTH], kz.BODY_WIDTH)
     study.words = study._integers(words[: found.joints * kz.WORDS_WIDTH], kz.WORDS_WIDTH)
     study.numbers = study._floats(numbers[TEXT_JOINTS : TEXT_JOINTS + found.joints * kz.NUMBERS_WIDTH], kz.NUMBERS_WIDTH)
     study.rows = study._floats([0.0] * (found.joints * kz.MOST_ROWS * kz.ROW_WIDTH), kz.ROW_WIDTH)
-    study.calls = _call_lines(text, found.calls)
+    study.calls = _call_lines(told, found.calls)
     return study
 
 
@@ -150,4 +150,4 @@ def text(study: kz.Study) -> str:
         raise kz.Refused("write_study", kz.TOO_MANY_BODIES if slices[0][1] // kz.BODY_WIDTH > kz.MOST_BODIES else kz.TOO_MANY_JOINTS)
     out = (ctypes.c_char * length)()
     kz._lib.katydidzinc_write_study(*flat, out, length)
-    return out.raw.decode("ascii")
+    return bytes(out.raw).decode("ascii")
