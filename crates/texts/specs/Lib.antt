@@ -3,3 +3,4 @@ pub mod Written
 pub mod Before
 pub mod Digits
 pub mod Hex
+pub mod Sink

@@ -2,3 +2,4 @@
 pub mod digits;
 pub mod hex;
 pub mod put;
+pub mod sink;
