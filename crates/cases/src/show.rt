@@ -8,10 +8,9 @@ use floats::vector::Vector;
 use libc::STDOUT_FILENO;
 use study_reader::words::Word;
 use study_reader::words::bytes_of;
-use study_text::number::number_column;
-use texts::digits::decimal_length;
-use texts::digits::put_decimal;
+use study_text::number::put_millionths;
 use texts::hex::hex_word;
+use texts::sink::put_decimal;
 
 fn out(s: &[u8]) {
     io::write_all(STDOUT_FILENO, s);
@@ -70,10 +69,8 @@ pub fn show_truth(r: bool) {
 // No number of 32 bits has more digits than ten.
 pub fn show_number(n: u32) {
     let mut digits = [0u8; 10];
-    if decimal_length(n) <= 10 {
-        let end = put_decimal(&mut digits, 0, n);
-        part(&digits, 0, end);
-    }
+    let end = put_decimal(&mut digits, 0, n);
+    part(&digits, 0, end);
     out(b"\n");
 }
 
@@ -88,9 +85,9 @@ pub fn ended(refusal: u32) {
 }
 
 fn whole(x: f32) {
-    let column = number_column(x);
-    let bytes = column.bytes;
-    part(&bytes, column.start, 11);
+    let mut bytes = [0u8; 11];
+    let end = put_millionths(&mut bytes, 0, x);
+    part(&bytes, 0, end);
     out(b"\n");
 }
 

@@ -1,10 +1,10 @@
 -- Lists put one after the other (`flatMap`): of two lists, of the first elements of a list, and entries where all parts are equally long.
-use Prim.Native.Nat.{ℕ, zero, suc, _+_, _*_, _≤_, _<_}
+use Prim.Native.Nat.{ℕ, zero, suc, _+_, _*_, _<_}
 use mathlib.Core.Path.{_≡_, refl, sym, ap, _∙_}
 use mathlib.Core.List.{List, [], _∷_, _++_, append-nil, append-assoc, flatMap}
 use native.Mathlib.Numerals.{add-one}
 use native.Mathlib.Omega.{arith}
-use lib.ListN.{length, getD, take, drop, length-append, take-append-drop, List·getD-append}
+use lib.ListN.{length, getD, take, length-append, List·getD-append}
 use lib.Seq.{take-suc, getD-append-add}
 
 module _ {A B : Type 0} (f : A → List B) where
@@ -21,18 +21,6 @@ module _ {A B : Type 0} (f : A → List B) where
   pub flat-turn : (l : List A) (k : ℕ) (d : A) → k < length l → flatMap f (take (k + 1) l) ≡ flatMap f (take k l) ++ f (getD l k d)
   unfolding flatMap
   flat-turn l k d h = rw (add-one, take-suc l k d) (flat-append (take k l) (getD l k d ∷ []) ∙ ap (λ (t : List B). flatMap f (take k l) ++ t) (append-nil (f (getD l k d))))
-
-  -- the first elements' part is not longer than the whole
-  pub flat-within : (l : List A) (k : ℕ) → length (flatMap f (take k l)) ≤ length (flatMap f l)
-  flat-within l k =
-      omega
-      (arith, length-append (flatMap f (take k l)) (flatMap f (drop k l)), ap length (flat-append (take k l) (drop k l)), ap (λ (t : List A). length (flatMap f t)) (take-append-drop k l))
-
-  -- each part is at most w long
-  pub flat-short : (w : ℕ) → ((x : A) → length (f x) ≤ w) → (l : List A) → length (flatMap f l) ≤ length l * w
-  unfolding flatMap
-  flat-short w h [] = omega arith
-  flat-short w h (x ∷ l) = omega (arith, length-append (f x) (flatMap f l), h x, flat-short w h l)
 
   -- each part is w long
   module _ (w : ℕ) (same : (x : A) → length (f x) ≡ w) where

@@ -24,6 +24,12 @@ idText (Dof i) = ascii "Dof" ++ axisDigit i ∷ []
 idText (Limit i) = ascii "Limit" ++ axisDigit i ∷ []
 idText (Motor i) = ascii "Motor" ++ axisDigit i ∷ []
 
+-- where a program finds the kind in its table
+abbrev pub kindIndex : WritebackId → ℕ
+kindIndex (Dof i) = 0
+kindIndex (Limit i) = 1
+kindIndex (Motor i) = 2
+
 -- a blank, and an id
 unfoldable pub spacedId : WritebackId → List ℕ
 spacedId id = SPACE ∷ idText id

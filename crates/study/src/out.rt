@@ -3,7 +3,7 @@ use libc::EBADF;
 use libc::SEEK_CUR;
 use libc::STDERR_FILENO;
 use libc::STDOUT_FILENO;
-use study_text::number::number_column;
+use study_text::number::put_millionths;
 
 // Writes all, or says why not and closes the descriptor, so that nothing later is taken for what was lost. A descriptor that is closed says nothing
 // more: `is_lost` finds it so.
@@ -98,7 +98,7 @@ pub fn err_line(lines: &[u8], k: u32) {
 
 // A number's micro report.
 pub fn out_millionths(x: f32) {
-    let number = number_column(x);
-    let bytes = number.bytes;
-    out_part(&bytes, number.start, 11);
+    let mut bytes = [0u8; 11];
+    let end = put_millionths(&mut bytes, 0, x);
+    out_part(&bytes, 0, end);
 }

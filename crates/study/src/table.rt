@@ -3,6 +3,7 @@ use crate::counts::is_swept;
 use crate::counts::motors_at;
 use crate::help::made_by;
 use crate::out::out_part;
+use catalogue::text::put_id;
 use model::calls::Plain;
 use model::calls::read_rows;
 use model::header::Header;
@@ -27,13 +28,12 @@ use study_text::reaction::write_reaction_notes;
 use study_text::row::write_row;
 use study_text::rules::rule_index;
 use study_text::rules::rule_of;
-use study_text::words::id_word;
 
 // An id as document 01's cases write it.
 pub fn out_id(id: WritebackId) {
-    let word = id_word(id);
-    let bytes = word.bytes;
-    out_part(&bytes, 0, word.len);
+    let mut bytes = [0u8; 6];
+    let end = put_id(&mut bytes, 0, id);
+    out_part(&bytes, 0, end);
 }
 
 // ---- one line, as text or as comma-separated values

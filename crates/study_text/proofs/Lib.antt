@@ -1,12 +1,5 @@
-pub mod NumberLaws
-pub mod RowLaws
 pub mod Made
-pub mod CsvLaws
-pub mod CsvReactionLaws
-pub mod PartsLaws
-pub mod CitationsLaws
-pub mod NamedLaws
-pub mod VelocityLaws
-pub mod ReactionLaws
-pub mod ResidualLaws
 pub mod SaysLaws
+pub mod NumberLaws
+pub mod WordsLaws
+pub mod CitationsLaws

@@ -1,29 +1,33 @@
--- Signed numbers as sign and size, how long a number's text is, and the column that it stands in.
-use Prim.Native.Nat.{ℕ, zero, suc, _+_, _-_, _*_, _/_, _%_, _^_, _≤_, _<_}
+-- Signed numbers as sign and size, a number at the right of its column, and the texts of what has no millionths.
+use Prim.Native.Nat.{ℕ, zero, suc, _-_, _^_, _≤_, _<_}
 use mathlib.Core.Path.{_≡_, refl, sym, ap, subst, _∙_}
 use mathlib.Core.Bool.{Bool, true, false, cond}
-use mathlib.Core.List.{List, [], _∷_, _++_, append-nil, append-assoc}
-use native.Mathlib.Nat.{lt-of-lt-of-le, div-add-mod', pow-suc}
+use mathlib.Core.List.{List, [], _∷_, _++_}
+use native.Mathlib.Nat.{lt-of-lt-of-le}
 use native.Mathlib.Omega.{arith}
-use lib.Dec.{lit≤, ltb, T}
+use lib.Dec.{lit≤, T}
 use lib.IntN.{ℤ, pos, negsuc, negℤ, natAbs, _-ℤ_, +ℤ-idl}
 use lib.Signed.{nonNeg, mag, ltZ}
 use lib.Ieee.{Float, nan, inf, fin}
-use lib.ListN.{length, replicate, take, drop, length-append, length-replicate}
+use lib.ListN.{length, replicate}
 use mir.Syntax.{w32, w64}
 use mir.Val.{SFits, Fits, toZ, ofZ}
 use mir.ValLaws.{toZ-ofZ}
-use borrow.Author.Tests.{ltb-true, ltb-false}
+use borrow.Author.Tests.{ltb-true}
 use Rattle.floats.specs.Bits.{partsOf}
+use Rattle.floats.specs.MicroReport.{microReportOf}
 use Rattle.floats.specs.declared.bits.Parts.{Parts}
 use Rattle.floats.specs.declared.bits.Parts.the-variants as parts
+use Rattle.floats.specs.declared.micro_report.MicroReport.{MicroReport}
+use Rattle.decimals.specs.Spelled.{spelledText}
 use Rattle.texts.specs.Ascii.{MINUS, SPACE}
-use Rattle.texts.specs.Before.{splice, PutBefore}
-use Rattle.texts.specs.Digits.{digit, decimalOnto, decimal}
+use Rattle.texts.specs.Digits.{decimal}
+use Rattle.texts.specs.Sink.{largestPlace, Sunk}
+use Rattle.texts.proofs.DigitsLaws.{decimal-short}
+use Rattle.texts.proofs.SinkLaws.{sunk-then, sunk-text, place-length}
 use Rattle.motor_table.specs.Text.{numberText}
 use Rattle.motor_table.specs.declared.whole_number.Number.{Number}
-use Rattle.study_text.specs.Number.{blanks, filled, atRight, signed, overText, columnOf}
-use Rattle.study_text.specs.declared.number.Column.{Column}
+use Rattle.study_text.specs.Number.{signed, overText, reportText, millionthsText, isOver, impulseText, rightColumn, numberColumn}
 
 -- ---- sign and size
 
@@ -87,61 +91,53 @@ module _ (z : ℤ) (f : SFits w32 z) (b : Bool) (t : ltZ (toZ w32 (ofZ w32 z)) (
   pub plain-signed : b ≡ false → _≡_ {A = Number} (record { negative = false; size = natAbs (toZ w32 (ofZ w32 z)) }) (signed z)
   plain-signed e = ap (λ (a : ℤ). record { negative = false; size = natAbs a }) (read z f) ∙ plain-size z (test ∙ e)
 
--- ---- how long a text is
+-- ---- a whole number's text
 
-tenth-below : (n p : ℕ) → n < p * 10 → n / 10 < p
-tenth-below n p h = omega (arith, div-add-mod' n 10)
+pub number-minus : (n : Number) → n .negative ≡ true → MINUS ∷ decimal (n .size) ≡ numberText n
+unfolding numberText
+number-minus n e = sym (ap (λ (b : Bool). cond b (MINUS ∷ decimal (n .size)) (decimal (n .size))) e)
 
-onto-short : (k steps n : ℕ) (text : List ℕ) → n < 10 ^ suc k → length (decimalOnto steps n text) ≤ length text + suc k
-unfolding decimalOnto
-onto-short k zero n text h = omega arith
-onto-short zero (suc steps) n text h = go (ltb n 10) refl
-  where
-    go : (t : Bool) → ltb n 10 ≡ t → length {A = ℕ} (elim t [ true ↦ digit n ∷ text | false ↦ decimalOnto steps (n / 10) (digit (n % 10) ∷ text) ]) ≤ length text + 1
-    go true e = omega arith
-    go false e = absurd (let g : 10 ≤ n = ltb-false n 10 e in omega arith)
-onto-short (suc k) (suc steps) n text h = go (ltb n 10)
-    (onto-short k steps (n / 10) (digit (n % 10) ∷ text) (tenth-below n (10 ^ suc k) (subst (λ (p : ℕ). n < p) (pow-suc 10 (suc k)) h)))
-  where
-    go : (t : Bool) → length (decimalOnto steps (n / 10) (digit (n % 10) ∷ text)) ≤ length (digit (n % 10) ∷ text) + suc k
-        → length {A = ℕ} (elim t [ true ↦ digit n ∷ text | false ↦ decimalOnto steps (n / 10) (digit (n % 10) ∷ text) ]) ≤ length text + suc (suc k)
-    go true l = omega arith
-    go false l = omega arith
+pub number-plain : (n : Number) → n .negative ≡ false → decimal (n .size) ≡ numberText n
+unfolding numberText
+number-plain n e = sym (ap (λ (b : Bool). cond b (MINUS ∷ decimal (n .size)) (decimal (n .size))) e)
 
--- ten digits and a sign
-pub number-short : (n : Number) → n .size ≤ 2 ^ 31 → length (numberText n) ≤ 11
-unfolding numberText decimal
+number-short : (n : Number) → n .size ≤ 2 ^ 31 → length (numberText n) < largestPlace
+unfolding numberText
 number-short n h = go (n .negative)
   where
-    ten : length (decimal (n .size)) ≤ 10
-    ten = onto-short 9 (n .size) (n .size) [] (omega arith)
+    go : (b : Bool) → length (cond b (MINUS ∷ decimal (n .size)) (decimal (n .size))) < largestPlace
+    go true = omega (arith, decimal-short (n .size))
+    go false = omega (arith, decimal-short (n .size))
 
-    go : (t : Bool) → length (cond t (MINUS ∷ decimal (n .size)) (decimal (n .size))) ≤ 11
-    go true = omega (arith, ten)
-    go false = omega (arith, ten)
-
-pub signed-size : (z : ℤ) → mag z < 2 ^ 31 → signed z .size ≤ 2 ^ 31
+signed-size : (z : ℤ) → mag z < 2 ^ 31 → signed z .size ≤ 2 ^ 31
 unfolding signed
 signed-size (pos n) h = omega arith
 signed-size (negsuc n) h = omega arith
 
-pub signed-short : (z : ℤ) → SFits w32 z → length (numberText (signed z)) ≤ 11
-signed-short z f = number-short (signed z) (signed-size z (f .sfits))
+-- at the right of its column, with the length from a first run
+module _ (z : ℤ) (f : SFits w32 z) (n : Number) (same : n ≡ signed z) {none none′ : List ℕ} {len : ℕ} (first : Sunk none 0 (numberText n) none′ len) where
+  is-short : length (numberText n) < largestPlace
+  is-short = number-short n (subst (λ (m : Number). m .size ≤ 2 ^ 31) (sym same) (signed-size z (f .sfits)))
 
--- ---- columns
+  pub right-whole : {out : List ℕ} {at k : ℕ} {m₁ : List ℕ} {a : ℕ} {m₂ : List ℕ} {b : ℕ} {last : List ℕ} {r : ℕ} → k ≡ 15 - len → Sunk out at (replicate k SPACE) m₁ a
+      → Sunk m₁ a (numberText n) m₂ b → Sunk m₂ b (SPACE ∷ []) last r → Sunk out at (rightColumn (numberText (signed z))) last r
+  unfolding rightColumn
+  right-whole e p q s =
+      let l : 15 - len ≡ 15 - length (numberText n) = ap (λ (m : ℕ). 15 - m) (place-length (numberText n) len (first .ends) is-short) in
+      sunk-text
+      (ap (λ (m : Number). replicate (15 - length (numberText m)) SPACE ++ numberText m ++ SPACE ∷ []) same)
+      (sunk-then (sunk-then (sunk-text (ap (λ (m : ℕ). replicate m SPACE) (e ∙ l)) p) q) s)
 
-pub take-blanks : (n m : ℕ) → n ≤ m → take n (blanks m) ≡ blanks n
-take-blanks zero m h = refl
-take-blanks (suc n) zero h = absurd (let z : ⊥ = omega arith in z)
-take-blanks (suc n) (suc m) h = ap (λ (l : List ℕ). SPACE ∷ l) (take-blanks n m (omega arith))
+-- ---- by the report
 
-pub column-put : (text bytes : List ℕ) (start : ℕ) → length text ≤ 11 → PutBefore (blanks 12) 11 text bytes start → _≡_ {A = Column} (record { bytes = bytes; start = start }) (columnOf text)
-unfolding columnOf
-column-put text bytes start h p =
-    let b : bytes ≡ blanks (11 - length text) ++ text ++ SPACE ∷ [] =
-    p .holds ∙ ap (λ (l : List ℕ). l ++ (text ++ SPACE ∷ [])) (take-blanks (11 - length text) 12 (omega arith)) ∙ sym (append-assoc (blanks (11 - length text)) text (SPACE ∷ [])) in
-    ap (λ (l : List ℕ). record { bytes = l; start = start }) b
-    ∙ ap (λ (s : ℕ). record { bytes = blanks (11 - length text) ++ text ++ SPACE ∷ []; start = s }) (p .starts)
+module _ {out : List ℕ} {at : ℕ} {out′ : List ℕ} {r : ℕ} (x : Float) (report : MicroReport) (e : report ≡ microReportOf x) where
+  pub millionths-by : Sunk out at (reportText x report) out′ r → Sunk out at (millionthsText x) out′ r
+  unfolding millionthsText
+  millionths-by s = sunk-text (ap (reportText x) e) s
+
+  pub column-by : Sunk out at (rightColumn (cond (isOver report) (spelledText x) (reportText x report))) out′ r → Sunk out at (numberColumn x) out′ r
+  unfolding numberColumn impulseText millionthsText
+  column-by s = sunk-text (ap (λ (m : MicroReport). rightColumn (cond (isOver m) (spelledText x) (reportText x m))) e) s
 
 -- ---- what is Over
 

@@ -4,7 +4,6 @@ use mathlib.Core.Bool.{false, cond}
 use mathlib.Core.List.{List, [], _∷_, _++_}
 use lib.Dec.{eqb}
 use lib.Ieee.{Float, binary32, toBits}
-use lib.ListN.{length}
 use Rattle.rows.specs.declared.joint_velocity_constraint.WritebackId.{WritebackId}
 use Rattle.texts.specs.Ascii.{ascii, COMMA, CR, LF}
 use Rattle.texts.specs.Hex.{hexWord}
@@ -14,7 +13,6 @@ use Rattle.study_text.specs.Number.{millionthsText}
 use Rattle.study_text.specs.Rules.{ruleOf}
 use Rattle.catalogue.specs.Text.{idText}
 use Rattle.study_text.specs.Words.{boundOf, numberOf, definitionText}
-use Rattle.study_text.specs.Row.{areNames}
 use Rattle.study_text.specs.declared.rules.Rule.{Rule}
 use Rattle.study_text.specs.declared.words.Bound.{Bound}
 use Rattle.study_text.specs.declared.words.Bound.the-variants.{Low, High, No}
@@ -73,7 +71,6 @@ csvStanding residual bound rule = csvNumber residual ++ csvRule bound rule
 unfoldable pub csvValues : WritebackId → Rule → Float → Float → Float → Float → List ℕ
 csvValues id rule impulse low high residual = csvId id ++ csvNumbers impulse low high ++ csvStanding residual (boundOf impulse low high) rule
 
--- the line; none where a name is longer than a study's can be
+-- the line
 unfoldable pub csvText : List ℕ → List ℕ → List ℕ → WritebackId → ℕ → Float → Float → Float → Float → List ℕ
-csvText joint body1 body2 id coupled impulse low high residual =
-    cond (areNames (length joint) (length body1) (length body2)) (csvNames joint body1 body2 ++ csvValues id (ruleOf id coupled) impulse low high residual) []
+csvText joint body1 body2 id coupled impulse low high residual = csvNames joint body1 body2 ++ csvValues id (ruleOf id coupled) impulse low high residual

@@ -1,12 +1,10 @@
 -- A joint's reaction as a record of comma-separated values: each number in millionths, as a decimal, and its bits.
 use Prim.Native.Nat.{ℕ}
-use mathlib.Core.Bool.{Bool, cond}
-use mathlib.Core.List.{List, [], _++_}
+use mathlib.Core.Bool.{Bool}
+use mathlib.Core.List.{List, _++_}
 use lib.Ieee.{Float}
-use lib.ListN.{length}
 use Rattle.rows.specs.declared.reaction.Reaction.{Reaction}
 use Rattle.texts.specs.Ascii.{ascii}
-use Rattle.study_text.specs.Row.{areNames}
 use Rattle.study_text.specs.Words.{motorsText}
 use Rattle.study_text.specs.Csv.{field, csvNames, csvNumber, csvNumbers}
 
@@ -23,10 +21,9 @@ csvTurned angular swept motors = csvNumber angular ++ field (motorsText swept mo
 unfoldable pub csvReactionValues : Reaction → Bool → ℕ → List ℕ
 csvReactionValues r swept motors = csvForces r ++ csvTurned (r .impulses .body2 .angular) swept motors
 
--- the line; none where a name is longer than a study's can be
+-- the line
 unfoldable pub csvReactionText : List ℕ → List ℕ → List ℕ → Reaction → Bool → ℕ → List ℕ
-csvReactionText joint body1 body2 r swept motors =
-    cond (areNames (length joint) (length body1) (length body2)) (csvNames joint body1 body2 ++ csvReactionValues r swept motors) []
+csvReactionText joint body1 body2 r swept motors = csvNames joint body1 body2 ++ csvReactionValues r swept motors
 
 -- an empty line, which parts these records from the rows, and their heading
 unfoldable pub csvReactionHeading : List ℕ

@@ -10,6 +10,5 @@ pub mod CsvReaction
 pub mod Heading
 pub mod Citations
 pub mod Says
-pub mod Named
 pub mod Velocity
 pub mod Residual

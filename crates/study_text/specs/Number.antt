@@ -12,7 +12,6 @@ use Rattle.floats.specs.declared.micro_report.MicroReport.the-variants.{Whole, 
 use Rattle.decimals.specs.Spelled.{spelledText}
 use Rattle.motor_table.specs.Text.{numberText}
 use Rattle.motor_table.specs.declared.whole_number.Number.{Number}
-use Rattle.study_text.specs.declared.number.Column.{Column}
 
 abbrev pub blanks : ℕ → List ℕ
 blanks n = replicate n SPACE
@@ -63,6 +62,6 @@ impulseText x = cond (isOver (microReportOf x)) (spelledText x) (millionthsText 
 unfoldable pub rightColumn : List ℕ → List ℕ
 rightColumn text = atRight 15 text ++ SPACE ∷ []
 
--- ---- how the program makes millionths: the text at the right of 11 bytes and a blank, and where it starts
-unfoldable pub columnOf : List ℕ → Column
-columnOf text = record { bytes = atRight 11 text ++ SPACE ∷ []; start = 11 - length text }
+-- an impulse or a bound in its column
+unfoldable pub numberColumn : Float → List ℕ
+numberColumn x = rightColumn (impulseText x)

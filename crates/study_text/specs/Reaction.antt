@@ -1,13 +1,13 @@
 -- A joint's reaction, and how many of its motors ran out of force, a line under the table's rows: what the rows of the joint together gave its two bodies, with the definition (rows, `reactionOf`).
 use Prim.Native.Nat.{ℕ}
-use mathlib.Core.Bool.{Bool, cond}
-use mathlib.Core.List.{List, [], _++_}
+use mathlib.Core.Bool.{Bool}
+use mathlib.Core.List.{List, _++_}
 use lib.Ieee.{Float}
-use lib.ListN.{length}
 use Rattle.rows.specs.declared.reaction.Reaction.{Reaction}
 use Rattle.texts.specs.Ascii.{ascii}
+use Rattle.study_text.specs.Number.{numberColumn}
 use Rattle.study_text.specs.Words.{motorsText}
-use Rattle.study_text.specs.Row.{column, numberColumn, numbersText, namesText, areNames}
+use Rattle.study_text.specs.Row.{column, numbersText, namesText}
 
 -- what body 1 got: the linear impulse in the world, the same along frame 1's axes; the moment at frame 2's place, and what turned body 1 about its centre of mass
 unfoldable pub forcesText : Reaction → List ℕ
@@ -22,12 +22,9 @@ turnedText angular swept motors = numberColumn angular ++ column 6 (motorsText s
 unfoldable pub reactionValues : Reaction → Bool → ℕ → List ℕ
 reactionValues r swept motors = forcesText r ++ turnedText (r .impulses .body2 .angular) swept motors
 
-unfoldable pub reactionLine : List ℕ → List ℕ → List ℕ → Reaction → Bool → ℕ → List ℕ
-reactionLine joint body1 body2 r swept motors = namesText joint body1 body2 ++ reactionValues r swept motors
-
--- the line; none where a name is longer than a study's can be
+-- the line
 unfoldable pub reactionText : List ℕ → List ℕ → List ℕ → Reaction → Bool → ℕ → List ℕ
-reactionText joint body1 body2 r swept motors = cond (areNames (length joint) (length body1) (length body2)) (reactionLine joint body1 body2 r swept motors) []
+reactionText joint body1 body2 r swept motors = namesText joint body1 body2 ++ reactionValues r swept motors
 
 -- the line above these lines, and what stands below them
 unfoldable pub reactionHeading : List ℕ

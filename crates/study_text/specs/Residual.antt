@@ -6,7 +6,6 @@ use Rattle.rows.specs.declared.joint_velocity_constraint.WritebackId.{Writeback
 use Rattle.texts.specs.Ascii.{ascii}
 use Rattle.decimals.specs.Spelled.{spelledText}
 use Rattle.catalogue.specs.Text.{idText}
-use Rattle.study_text.specs.Named.{namedText}
 
 -- the row's id, and the change as a decimal in the row's unit
 unfoldable pub changeText : WritebackId → Float → List ℕ
@@ -14,4 +13,4 @@ changeText id x = ascii " " ++ idText id ++ ascii " has the largest residual: " 
 
 -- after the name of the row's joint
 abbrev pub residualText : List ℕ → WritebackId → Float → List ℕ
-residualText joint id x = namedText joint (changeText id x)
+residualText joint id x = joint ++ changeText id x

@@ -1,14 +1,11 @@
 -- A line of a study's table, as text.
-use Prim.Native.Nat.{ℕ, _-_}
-use mathlib.Core.Bool.{Bool, cond, _&&_}
+use Prim.Native.Nat.{ℕ}
 use mathlib.Core.List.{List, [], _∷_, _++_}
-use lib.Dec.{leb}
 use lib.Ieee.{Float}
-use lib.ListN.{length}
 use Rattle.rows.specs.declared.joint_velocity_constraint.WritebackId.{WritebackId}
 use Rattle.texts.specs.Ascii.{LF, SPACE}
 use Rattle.decimals.specs.Spelled.{spelledText}
-use Rattle.study_text.specs.Number.{filled, impulseText, rightColumn}
+use Rattle.study_text.specs.Number.{filled, numberColumn, rightColumn}
 use Rattle.study_text.specs.Rules.{ruleOf}
 use Rattle.catalogue.specs.Text.{idText}
 use Rattle.study_text.specs.Words.{boundOf, boundText, numberOf, definitionText}
@@ -18,10 +15,6 @@ use Rattle.study_text.specs.declared.words.Bound.{Bound}
 -- a text filled up with blanks to w bytes, and one blank more
 unfoldable pub column : ℕ → List ℕ → List ℕ
 column w text = filled w text ++ SPACE ∷ []
-
--- an impulse or a bound: its millionths, or the number itself
-unfoldable pub numberColumn : Float → List ℕ
-numberColumn x = rightColumn (impulseText x)
 
 -- the names of the joint and its two bodies
 unfoldable pub namesText : List ℕ → List ℕ → List ℕ → List ℕ
@@ -47,19 +40,5 @@ ruleText rule = column 3 (numberOf rule) ++ definitionText rule ++ LF ∷ []
 unfoldable pub lineWith : List ℕ → List ℕ → List ℕ → WritebackId → Rule → Float → Float → Float → Float → List ℕ
 lineWith joint body1 body2 id rule impulse low high residual = namesText joint body1 body2 ++ valuesText id impulse low high residual ++ ruleText rule
 
-abbrev pub rowLine : List ℕ → List ℕ → List ℕ → WritebackId → ℕ → Float → Float → Float → Float → List ℕ
-rowLine joint body1 body2 id coupled impulse low high residual = lineWith joint body1 body2 id (ruleOf id coupled) impulse low high residual
-
--- ---- what a caller is given
-
--- places in a study's text are numbers of 32 bits, so no name of it is longer
-abbrev pub longestName : ℕ
-longestName = 0xffffffff
-
-abbrev pub areNames : ℕ → ℕ → ℕ → Bool
-areNames a b c = leb a longestName && leb b longestName && leb c longestName
-
--- the line; none where a name is longer than a study's can be
 unfoldable pub rowText : List ℕ → List ℕ → List ℕ → WritebackId → ℕ → Float → Float → Float → Float → List ℕ
-rowText joint body1 body2 id coupled impulse low high residual =
-    cond (areNames (length joint) (length body1) (length body2)) (rowLine joint body1 body2 id coupled impulse low high residual) []
+rowText joint body1 body2 id coupled impulse low high residual = lineWith joint body1 body2 id (ruleOf id coupled) impulse low high residual

@@ -4,7 +4,6 @@ use mathlib.Core.List.{List, _++_}
 use lib.Ieee.{Float}
 use Rattle.texts.specs.Ascii.{ascii}
 use Rattle.study_text.specs.Number.{millionthsText}
-use Rattle.study_text.specs.Named.{namedText}
 
 unfoldable pub movesText : Float → Float → List ℕ
 movesText x y = ascii " moves " ++ millionthsText x ++ ascii " " ++ millionthsText y ++ ascii " millionths of m/s, turns "
@@ -17,4 +16,4 @@ motionText x y angular = movesText x y ++ turnsText angular
 
 -- the body's name and its velocity
 abbrev pub velocityText : List ℕ → Float → Float → Float → List ℕ
-velocityText name x y angular = namedText name (motionText x y angular)
+velocityText name x y angular = name ++ motionText x y angular

@@ -4,13 +4,10 @@ use mathlib.Core.Bool.{Bool, cond}
 use mathlib.Core.List.{List}
 use lib.Dec.{eqb}
 use lib.Ieee.{Float, eq}
-use lib.ListN.{length}
 use Rattle.texts.specs.Ascii.{ascii}
-use Rattle.study_text.specs.Number.{filled}
 use Rattle.study_text.specs.Definitions.{definitionOf}
 use Rattle.study_text.specs.declared.rules.Rule.{Rule}
 use Rattle.study_text.specs.declared.rules.Rule.the-variants.{Motor2, Motor0, Motor1, MotorF, Dof2, Dof0, Dof1, Limit2, Limit0, Limit1, LimitF}
-use Rattle.study_text.specs.declared.words.Word.{Word}
 use Rattle.study_text.specs.declared.words.Bound.{Bound}
 use Rattle.study_text.specs.declared.words.Bound.the-variants.{Low, High, No}
 
@@ -45,6 +42,8 @@ numberOf LimitF = ascii "2.7"
 abbrev pub definitionText : Rule → List ℕ
 definitionText rule = definitionOf rule .name
 
--- a word at the left of 20 bytes, and its length
-abbrev pub wordOf : List ℕ → Word
-wordOf text = record { bytes = filled 20 text; len = length text }
+-- where a program finds a bound's word in its table
+abbrev pub boundIndex : Bound → ℕ
+boundIndex Low = 0
+boundIndex High = 1
+boundIndex No = 2

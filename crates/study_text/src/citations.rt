@@ -1,156 +1,60 @@
 // The rules that a table cites, in words below it.
 ghost use mathlib.Core.Path.{_≡_};
 ghost use mathlib.Core.List.{flatMap};
-ghost use Prim.Native.Nat.{_+_, _≤_};
-ghost use lib.ListN.{length, getD};
-ghost use Rattle.texts.specs.Written.{written, Put};
+ghost use lib.ListN.{getD};
+ghost use Rattle.texts.specs.Sink.{Sunk, Wrote};
 ghost use Rattle.study_text.specs.declared.rules.Rule.the-variants.{LimitF};
-ghost use Rattle.study_text.specs.Words.{wordOf};
 ghost use Rattle.study_text.specs.Citations.{wordsText, rustText, citedWords, citedSource, citation, rules, citedIn, rulesText};
-use crate::row::put_definition;
 use crate::rules::Rule;
 use crate::rules::rule_index;
-use crate::words::Word;
-use crate::words::number_word;
-use crate::words::put_word;
+use crate::words::put_definition;
+use crate::words::put_rule_number;
 use rows::generic_joint::has_axis;
-use texts::put::put_text;
-use texts::put::write_text;
+use texts::sink::has_room;
+use texts::sink::length_to;
+use texts::sink::put_entry;
+use texts::sink::put_text;
 
 // ---- one rule
 
 fn put_words(out: &mut [u8], at: usize, rule: Rule) -> usize
-    requires { ⌜ at + length (wordsText rule) ≤ length (now out) ⌝ }
-    ensures { λ r. ⌜ Put (now (out .entry)) at (wordsText rule) (now (out .exit)) r ⌝ }
+    ensures { λ r. ⌜ Sunk (now (out .entry)) at (wordsText rule) (now (out .exit)) r ⌝ }
 {
-    match rule {
-        Rule::Motor2 => put_text(
-            &mut *out,
-            at,
-            b"Motor(2), angular motor: driven, not locked, not coupled. It drives the relative turning to its targets; bounds plus and minus maximum force times dt.",
-        ),
-        Rule::Motor0 => put_text(
-            &mut *out,
-            at,
-            b"Motor(0), motor along x: driven, not locked, not coupled. It drives the relative motion to its targets; bounds plus and minus maximum force times dt.",
-        ),
-        Rule::Motor1 => put_text(
-            &mut *out,
-            at,
-            b"Motor(1), motor along y: driven, not locked, not coupled. It drives the relative motion to its targets; bounds plus and minus maximum force times dt.",
-        ),
-        Rule::MotorF => put_text(
-            &mut *out,
-            at,
-            b"Motor(F), coupled motor: a driven axis that is not locked is coupled; the lowest coupled axis gives its numbers. Bounds plus and minus maximum force times dt.",
-        ),
-        Rule::Dof2 => put_text(
-            &mut *out,
-            at,
-            b"Dof(2), angular lock: locked. It takes the relative turning away, and the angle's error at the joint's softness; bounds are the largest number, either way.",
-        ),
-        Rule::Dof0 => put_text(
-            &mut *out,
-            at,
-            b"Dof(0), lock along x: locked. It takes the relative motion away, and the distance at the joint's softness; bounds are the largest number, either way.",
-        ),
-        Rule::Dof1 => put_text(
-            &mut *out,
-            at,
-            b"Dof(1), lock along y: locked. It takes the relative motion away, and the distance at the joint's softness; bounds are the largest number, either way.",
-        ),
-        Rule::Limit2 => put_text(
-            &mut *out,
-            at,
-            b"Limit(2), angular limit: limited, not locked, not coupled. The angle from the limit's centre is kept within half the range; inside, the bounds are 0 and 0, and a side opens where its end is touched or passed.",
-        ),
-        Rule::Limit0 => put_text(
-            &mut *out,
-            at,
-            b"Limit(0), limit along x: limited, not locked, not coupled. Inside its two ends the bounds are 0 and 0, and a side opens where its end is touched or passed.",
-        ),
-        Rule::Limit1 => put_text(
-            &mut *out,
-            at,
-            b"Limit(1), limit along y: limited, not locked, not coupled. Inside its two ends the bounds are 0 and 0, and a side opens where its end is touched or passed.",
-        ),
-        Rule::LimitF => put_text(
-            &mut *out,
-            at,
-            b"Limit(F), coupled limit: x or y is coupled and the lowest of these is limited and not locked. The distance over the coupled axes is kept below the upper end; bounds 0 and infinity.",
-        ),
-    }
+    let index = rule_index(rule);
+    put_entry(
+        &mut *out,
+        at,
+        b"Motor(2), angular motor: driven, not locked, not coupled. It drives the relative turning to its targets; bounds plus and minus maximum force times dt.\nMotor(0), motor along x: driven, not locked, not coupled. It drives the relative motion to its targets; bounds plus and minus maximum force times dt.\nMotor(1), motor along y: driven, not locked, not coupled. It drives the relative motion to its targets; bounds plus and minus maximum force times dt.\nMotor(F), coupled motor: a driven axis that is not locked is coupled; the lowest coupled axis gives its numbers. Bounds plus and minus maximum force times dt.\nDof(2), angular lock: locked. It takes the relative turning away, and the angle's error at the joint's softness; bounds are the largest number, either way.\nDof(0), lock along x: locked. It takes the relative motion away, and the distance at the joint's softness; bounds are the largest number, either way.\nDof(1), lock along y: locked. It takes the relative motion away, and the distance at the joint's softness; bounds are the largest number, either way.\nLimit(2), angular limit: limited, not locked, not coupled. The angle from the limit's centre is kept within half the range; inside, the bounds are 0 and 0, and a side opens where its end is touched or passed.\nLimit(0), limit along x: limited, not locked, not coupled. Inside its two ends the bounds are 0 and 0, and a side opens where its end is touched or passed.\nLimit(1), limit along y: limited, not locked, not coupled. Inside its two ends the bounds are 0 and 0, and a side opens where its end is touched or passed.\nLimit(F), coupled limit: x or y is coupled and the lowest of these is limited and not locked. The distance over the coupled axes is kept below the upper end; bounds 0 and infinity.\n",
+        index as usize,
+    )
 }
 
 // The Rust function that makes the row.
-fn rust_word(rule: Rule) -> Word
-    ensures { λ r. ⌜ r ≡ wordOf (rustText rule) ⌝ }
+fn put_rust(out: &mut [u8], at: usize, rule: Rule) -> usize
+    ensures { λ r. ⌜ Sunk (now (out .entry)) at (rustText rule) (now (out .exit)) r ⌝ }
 {
-    match rule {
-        Rule::Motor2 => Word {
-            bytes: *b"motor_angular       ",
-            len: 13,
-        },
-        Rule::Motor0 => Word {
-            bytes: *b"motor_linear        ",
-            len: 12,
-        },
-        Rule::Motor1 => Word {
-            bytes: *b"motor_linear        ",
-            len: 12,
-        },
-        Rule::MotorF => Word {
-            bytes: *b"motor_linear_coupled",
-            len: 20,
-        },
-        Rule::Dof2 => Word {
-            bytes: *b"lock_angular        ",
-            len: 12,
-        },
-        Rule::Dof0 => Word {
-            bytes: *b"lock_linear         ",
-            len: 11,
-        },
-        Rule::Dof1 => Word {
-            bytes: *b"lock_linear         ",
-            len: 11,
-        },
-        Rule::Limit2 => Word {
-            bytes: *b"limit_angular       ",
-            len: 13,
-        },
-        Rule::Limit0 => Word {
-            bytes: *b"limit_linear        ",
-            len: 12,
-        },
-        Rule::Limit1 => Word {
-            bytes: *b"limit_linear        ",
-            len: 12,
-        },
-        Rule::LimitF => Word {
-            bytes: *b"limit_linear_coupled",
-            len: 20,
-        },
-    }
+    let index = rule_index(rule);
+    put_entry(
+        &mut *out,
+        at,
+        b"motor_angular\nmotor_linear\nmotor_linear\nmotor_linear_coupled\nlock_angular\nlock_linear\nlock_linear\nlimit_angular\nlimit_linear\nlimit_linear\nlimit_linear_coupled\n",
+        index as usize,
+    )
 }
 
 fn put_cited_words(out: &mut [u8], at: usize, rule: Rule) -> usize
-    requires { ⌜ at + length (citedWords rule) ≤ length (now out) ⌝ }
-    ensures { λ r. ⌜ Put (now (out .entry)) at (citedWords rule) (now (out .exit)) r ⌝ }
+    ensures { λ r. ⌜ Sunk (now (out .entry)) at (citedWords rule) (now (out .exit)) r ⌝ }
 {
-    let number = number_word(rule);
     let a = put_text(&mut *out, at, b"  ");
-    let b = put_word(&mut *out, a, number);
+    let b = put_rule_number(&mut *out, a, rule);
     let c = put_text(&mut *out, b, b"  ");
     let d = put_words(&mut *out, c, rule);
     put_text(&mut *out, d, b"\n")
 }
 
 fn put_cited_source(out: &mut [u8], at: usize, rule: Rule) -> usize
-    requires { ⌜ at + length (citedSource rule) ≤ length (now out) ⌝ }
-    ensures { λ r. ⌜ Put (now (out .entry)) at (citedSource rule) (now (out .exit)) r ⌝ }
+    ensures { λ r. ⌜ Sunk (now (out .entry)) at (citedSource rule) (now (out .exit)) r ⌝ }
 {
-    let rust = rust_word(rule);
     let a = put_text(&mut *out, at, b"       Definition ");
     let b = put_definition(&mut *out, a, rule);
     let c = put_text(
@@ -158,13 +62,12 @@ fn put_cited_source(out: &mut [u8], at: usize, rule: Rule) -> usize
         b,
         b" in crates/rows/specs/Makers.antt, after the Rust's ",
     );
-    let d = put_word(&mut *out, c, rust);
+    let d = put_rust(&mut *out, c, rule);
     put_text(&mut *out, d, b" in joint_constraint_helper.rs.\n")
 }
 
 fn put_citation(out: &mut [u8], at: usize, rule: Rule) -> usize
-    requires { ⌜ at + length (citation rule) ≤ length (now out) ⌝ }
-    ensures { λ r. ⌜ Put (now (out .entry)) at (citation rule) (now (out .exit)) r ⌝ }
+    ensures { λ r. ⌜ Sunk (now (out .entry)) at (citation rule) (now (out .exit)) r ⌝ }
 {
     let a = put_cited_words(&mut *out, at, rule);
     put_cited_source(&mut *out, a, rule)
@@ -192,8 +95,7 @@ fn rule_at(i: usize) -> Rule
 }
 
 fn put_cited_in(out: &mut [u8], at: usize, used: u32, rule: Rule) -> usize
-    requires { ⌜ at + length (citedIn used rule) ≤ length (now out) ⌝ }
-    ensures { λ r. ⌜ Put (now (out .entry)) at (citedIn used rule) (now (out .exit)) r ⌝ }
+    ensures { λ r. ⌜ Sunk (now (out .entry)) at (citedIn used rule) (now (out .exit)) r ⌝ }
 {
     if has_axis(used, rule_index(rule) as usize) {
         return put_citation(&mut *out, at, rule);
@@ -202,8 +104,7 @@ fn put_cited_in(out: &mut [u8], at: usize, used: u32, rule: Rule) -> usize
 }
 
 fn put_all(out: &mut [u8], at: usize, used: u32) -> usize
-    requires { ⌜ at + length (flatMap (citedIn used) rules) ≤ length (now out) ⌝ }
-    ensures { λ r. ⌜ Put (now (out .entry)) at (flatMap (citedIn used) rules) (now (out .exit)) r ⌝ }
+    ensures { λ r. ⌜ Sunk (now (out .entry)) at (flatMap (citedIn used) rules) (now (out .exit)) r ⌝ }
 {
     let mut i: usize = 0;
     let mut end = at;
@@ -214,13 +115,12 @@ fn put_all(out: &mut [u8], at: usize, used: u32) -> usize
     end
 }
 
-fn put_rules(out: &mut [u8], at: usize, used: u32) -> usize
-    requires { ⌜ at + length (rulesText used) ≤ length (now out) ⌝ }
-    ensures { λ r. ⌜ Put (now (out .entry)) at (rulesText used) (now (out .exit)) r ⌝ }
+fn put_rules(out: &mut [u8], used: u32) -> usize
+    ensures { λ r. ⌜ Sunk (now (out .entry)) 0 (rulesText used) (now (out .exit)) r ⌝ }
 {
     let a = put_text(
         &mut *out,
-        at,
+        0,
         b"impulses and bounds in millionths of N s (x, y) or N m s (angle). A number with a point is not in millionths but in the unit itself: the residual, and what is 2147.483648 or more in size. rules:\n",
     );
     put_all(&mut *out, a, used)
@@ -231,18 +131,24 @@ fn put_rules(out: &mut [u8], at: usize, used: u32) -> usize
 // Writes a rule, cited in full, to the front of `out` and answers the length. Where `out` is shorter nothing is written, and the length is
 // answered all the same.
 pub fn write_rule(out: &mut [u8], rule: Rule) -> usize
-    ensures { λ r. ⌜ (r ≡ length (citation rule)) × (now (out .exit) ≡ written (now (out .entry)) (citation rule)) ⌝ }
+    ensures { λ r. ⌜ Wrote (now (out .entry)) (citation rule) (now (out .exit)) r ⌝ }
 {
-    let mut kept = [0u8; 384];
-    let n = put_citation(&mut kept, 0, rule);
-    write_text(&mut *out, &kept[..n])
+    let mut none = [0u8; 1];
+    let len = put_citation(&mut none, 0, rule);
+    if has_room(len, out.len()) {
+        return put_citation(&mut *out, 0, rule);
+    }
+    length_to(len)
 }
 
 // The same of what stands below a table: a line on units, and the rules that it cites, each once. Bit i of `used` stands for rule i.
 pub fn write_rules(out: &mut [u8], used: u32) -> usize
-    ensures { λ r. ⌜ (r ≡ length (rulesText used)) × (now (out .exit) ≡ written (now (out .entry)) (rulesText used)) ⌝ }
+    ensures { λ r. ⌜ Wrote (now (out .entry)) (rulesText used) (now (out .exit)) r ⌝ }
 {
-    let mut kept = [0u8; 4608];
-    let n = put_rules(&mut kept, 0, used);
-    write_text(&mut *out, &kept[..n])
+    let mut none = [0u8; 1];
+    let len = put_rules(&mut none, used);
+    if has_room(len, out.len()) {
+        return put_rules(&mut *out, used);
+    }
+    length_to(len)
 }

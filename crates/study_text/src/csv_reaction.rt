@@ -1,24 +1,20 @@
 // A joint's reaction as a record of comma-separated values.
 ghost use mathlib.Core.Path.{_≡_};
-ghost use Prim.Native.Nat.{_+_, _≤_};
-ghost use lib.ListN.{length};
-ghost use Rattle.texts.specs.Written.{written, Put};
-ghost use Rattle.study_text.specs.Words.{motorsText};
-ghost use Rattle.study_text.specs.Csv.{field};
-ghost use Rattle.study_text.specs.CsvReaction.{csvForces, csvTurned, csvReactionValues, csvReactionText, csvReactionHeading};
+ghost use Rattle.texts.specs.Sink.{Sunk, Wrote};
+ghost use Rattle.study_text.specs.CsvReaction.{csvForces, csvTurned, csvReactionText, csvReactionHeading};
+use crate::csv::put_csv_names;
 use crate::csv::put_csv_number;
 use crate::csv::put_csv_numbers;
-use crate::csv::put_csv_row;
-use crate::csv::put_word;
-use crate::row::are_names;
-use crate::words::motors_word;
+use crate::words::motors_digit;
 use rows::reaction::Reaction;
-use texts::put::put_text;
-use texts::put::write_text;
+use texts::sink::has_room;
+use texts::sink::length_to;
+use texts::sink::put_byte;
+use texts::sink::put_text;
+use texts::sink::write_text;
 
 fn put_csv_forces(out: &mut [u8], at: usize, reaction: Reaction) -> usize
-    requires { ⌜ at + length (csvForces reaction) ≤ length (now out) ⌝ }
-    ensures { λ r. ⌜ Put (now (out .entry)) at (csvForces reaction) (now (out .exit)) r ⌝ }
+    ensures { λ r. ⌜ Sunk (now (out .entry)) at (csvForces reaction) (now (out .exit)) r ⌝ }
 {
     let force = reaction.impulses.body1.linear;
     let along = reaction.along;
@@ -32,28 +28,30 @@ fn put_csv_forces(out: &mut [u8], at: usize, reaction: Reaction) -> usize
     )
 }
 
-fn put_csv_motors(out: &mut [u8], at: usize, swept: bool, motors: u8) -> usize
-    requires { ⌜ at + length (field (motorsText swept motors)) ≤ length (now out) ⌝ }
-    ensures { λ r. ⌜ Put (now (out .entry)) at (field (motorsText swept motors)) (now (out .exit)) r ⌝ }
-{
-    put_word(&mut *out, at, motors_word(swept, motors))
-}
-
 fn put_csv_turned(out: &mut [u8], at: usize, angular: f32, swept: bool, motors: u8) -> usize
-    requires { ⌜ at + length (csvTurned angular swept motors) ≤ length (now out) ⌝ }
-    ensures { λ r. ⌜ Put (now (out .entry)) at (csvTurned angular swept motors) (now (out .exit)) r ⌝ }
+    ensures { λ r. ⌜ Sunk (now (out .entry)) at (csvTurned angular swept motors) (now (out .exit)) r ⌝ }
 {
+    let digit = motors_digit(swept, motors);
     let a = put_csv_number(&mut *out, at, angular);
-    let b = put_csv_motors(&mut *out, a, swept, motors);
-    put_text(&mut *out, b, b"reactionOf\r\n")
+    let b = put_byte(&mut *out, a, digit);
+    let c = put_byte(&mut *out, b, b',');
+    put_text(&mut *out, c, b"reactionOf\r\n")
 }
 
-fn put_csv_reaction(out: &mut [u8], at: usize, reaction: Reaction, swept: bool, motors: u8) -> usize
-    requires { ⌜ at + length (csvReactionValues reaction swept motors) ≤ length (now out) ⌝ }
-    ensures { λ r. ⌜ Put (now (out .entry)) at (csvReactionValues reaction swept motors) (now (out .exit)) r ⌝ }
+fn put_csv_reaction(
+    out: &mut [u8],
+    joint: &[u8],
+    body1: &[u8],
+    body2: &[u8],
+    reaction: Reaction,
+    swept: bool,
+    motors: u8,
+) -> usize
+    ensures { λ r. ⌜ Sunk (now (out .entry)) 0 (csvReactionText (now (joint .entry)) (now (body1 .entry)) (now (body2 .entry)) reaction swept motors) (now (out .exit)) r ⌝ }
 {
-    let a = put_csv_forces(&mut *out, at, reaction);
-    put_csv_turned(&mut *out, a, reaction.impulses.body2.angular, swept, motors)
+    let a = put_csv_names(&mut *out, 0, joint, body1, body2);
+    let b = put_csv_forces(&mut *out, a, reaction);
+    put_csv_turned(&mut *out, b, reaction.impulses.body2.angular, swept, motors)
 }
 
 // As `write_reaction`, with the line as comma-separated values.
@@ -66,25 +64,19 @@ pub fn write_csv_reaction(
     swept: bool,
     motors: u8,
 ) -> usize
-    ensures { λ r. ⌜ (r ≡ length (csvReactionText (now (joint .entry)) (now (body1 .entry)) (now (body2 .entry)) reaction swept motors))
-        × (now (out .exit) ≡ written (now (out .entry)) (csvReactionText (now (joint .entry)) (now (body1 .entry)) (now (body2 .entry)) reaction swept motors)) ⌝ }
+    ensures { λ r. ⌜ Wrote (now (out .entry)) (csvReactionText (now (joint .entry)) (now (body1 .entry)) (now (body2 .entry)) reaction swept motors) (now (out .exit)) r ⌝ }
 {
-    if are_names(joint.len(), body1.len(), body2.len()) {
-        let mut values = [0u8; 320];
-        let n = put_csv_reaction(&mut values, 0, reaction, swept, motors);
-        let len = joint.len() + body1.len() + body2.len() + 3 + n;
-        if len <= out.len() {
-            put_csv_row(&mut *out, 0, joint, body1, body2, &values[..n]);
-            return len;
-        }
-        return len;
+    let mut none = [0u8; 1];
+    let len = put_csv_reaction(&mut none, joint, body1, body2, reaction, swept, motors);
+    if has_room(len, out.len()) {
+        return put_csv_reaction(&mut *out, joint, body1, body2, reaction, swept, motors);
     }
-    0
+    length_to(len)
 }
 
 // An empty line and the heading of these records.
 pub fn write_csv_reaction_heading(out: &mut [u8]) -> usize
-    ensures { λ r. ⌜ (r ≡ length csvReactionHeading) × (now (out .exit) ≡ written (now (out .entry)) csvReactionHeading) ⌝ }
+    ensures { λ r. ⌜ Wrote (now (out .entry)) csvReactionHeading (now (out .exit)) r ⌝ }
 {
     write_text(
         &mut *out,

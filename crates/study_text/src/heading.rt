@@ -1,13 +1,12 @@
 // The first line of the table. Each function writes it to the front of `out` and answers its length; where `out` is shorter nothing is written,
 // and the length is answered all the same.
 ghost use mathlib.Core.Path.{_≡_};
-ghost use lib.ListN.{length};
-ghost use Rattle.texts.specs.Written.{written};
+ghost use Rattle.texts.specs.Sink.{Wrote};
 ghost use Rattle.study_text.specs.Heading.{heading, csvHeading};
-use texts::put::write_text;
+use texts::sink::write_text;
 
 pub fn write_heading(out: &mut [u8]) -> usize
-    ensures { λ r. ⌜ (r ≡ length heading) × (now (out .exit) ≡ written (now (out .entry)) heading) ⌝ }
+    ensures { λ r. ⌜ Wrote (now (out .entry)) heading (now (out .exit)) r ⌝ }
 {
     write_text(
         &mut *out,
@@ -16,7 +15,7 @@ pub fn write_heading(out: &mut [u8]) -> usize
 }
 
 pub fn write_csv_heading(out: &mut [u8]) -> usize
-    ensures { λ r. ⌜ (r ≡ length csvHeading) × (now (out .exit) ≡ written (now (out .entry)) csvHeading) ⌝ }
+    ensures { λ r. ⌜ Wrote (now (out .entry)) csvHeading (now (out .exit)) r ⌝ }
 {
     write_text(
         &mut *out,

@@ -4,7 +4,6 @@ pub mod citations;
 pub mod csv;
 pub mod csv_reaction;
 pub mod heading;
-mod named;
 pub mod number;
 pub mod reaction;
 pub mod residual;

@@ -1,26 +1,22 @@
 // A number in millionths: the micro report in decimal, or a word where there is none; and an impulse or a bound, which is spelled in full where it has no millionths.
+// Each function puts a text in from `at` on and answers where it ends.
 ghost use mathlib.Core.Path.{_≡_};
-ghost use Prim.Native.Nat.{_+_, _≤_};
+ghost use Prim.Native.Nat.{_-_};
 ghost use lib.ListN.{length};
-ghost use Rattle.texts.specs.Written.{Put};
-ghost use Rattle.study_text.specs.Number.{signed, overText, millionthsText, columnOf, isOver, rightColumn};
+ghost use Rattle.texts.specs.Sink.{Sunk};
+ghost use Rattle.study_text.specs.Number.{signed, overText, millionthsText, numberColumn, rightColumn};
 ghost use Rattle.motor_table.specs.Text.{numberText};
-ghost use Rattle.floats.specs.MicroReport.{microReportOf};
 ghost use Rattle.decimals.specs.Spelled.{spelledText};
 use decimals::spelled::spelled;
 use floats::bits::Parts;
 use floats::bits::parts_of;
 use floats::micro_report::MicroReport;
 use floats::micro_report::micro_report;
-use motor_table::text::put_number;
 use motor_table::whole_number::Number;
-use texts::put::put_text;
-
-// A text at the right of 11 bytes and a blank, and where it starts.
-pub struct Column {
-    pub bytes: [u8; 12],
-    pub start: usize,
-}
+use texts::sink::put_blanks;
+use texts::sink::put_byte;
+use texts::sink::put_decimal;
+use texts::sink::put_text;
 
 fn signed(n: i32) -> Number
     ensures { λ r. ⌜ r ≡ signed n ⌝ }
@@ -38,72 +34,49 @@ fn signed(n: i32) -> Number
     }
 }
 
-fn whole_column(n: i32) -> Column
-    ensures { λ r. ⌜ r ≡ columnOf (numberText (signed n)) ⌝ }
+// A minus before a negative number, and its digits.
+fn put_number(out: &mut [u8], at: usize, n: Number) -> usize
+    ensures { λ r. ⌜ Sunk (now (out .entry)) at (numberText n) (now (out .exit)) r ⌝ }
 {
-    let number = signed(n);
-    let mut bytes = [b' '; 12];
-    let start = put_number(&mut bytes, 11, number);
-    Column { bytes, start }
+    let negative = n.negative;
+    let size = n.size;
+    if negative {
+        let a = put_byte(&mut *out, at, b'-');
+        return put_decimal(&mut *out, a, size);
+    }
+    put_decimal(&mut *out, at, size)
 }
 
-fn over_column(x: f32) -> Column
-    ensures { λ r. ⌜ r ≡ columnOf (overText x) ⌝ }
+fn put_over(out: &mut [u8], at: usize, x: f32) -> usize
+    ensures { λ r. ⌜ Sunk (now (out .entry)) at (overText x) (now (out .exit)) r ⌝ }
 {
     let parts = parts_of(x);
     match parts {
         Parts::Infinite(negative) => {
             if negative {
-                return Column {
-                    bytes: *b"       -inf ",
-                    start: 7,
-                };
+                return put_text(&mut *out, at, b"-inf");
             }
-            Column {
-                bytes: *b"        inf ",
-                start: 8,
-            }
+            put_text(&mut *out, at, b"inf")
         }
-        Parts::Finite(_, _, _) => Column {
-            bytes: *b"       over ",
-            start: 7,
-        },
-        Parts::Nan => Column {
-            bytes: *b"       over ",
-            start: 7,
-        },
+        Parts::Finite(_, _, _) => put_text(&mut *out, at, b"over"),
+        Parts::Nan => put_text(&mut *out, at, b"over"),
     }
 }
 
-pub fn number_column(x: f32) -> Column
-    ensures { λ r. ⌜ r ≡ columnOf (millionthsText x) ⌝ }
+pub fn put_millionths(out: &mut [u8], at: usize, x: f32) -> usize
+    ensures { λ r. ⌜ Sunk (now (out .entry)) at (millionthsText x) (now (out .exit)) r ⌝ }
 {
     let report = micro_report(x);
     match report {
-        MicroReport::Whole(n) => whole_column(n),
-        MicroReport::Over => over_column(x),
-        MicroReport::Nan => Column {
-            bytes: *b"        nan ",
-            start: 8,
-        },
+        MicroReport::Whole(n) => put_number(&mut *out, at, signed(n)),
+        MicroReport::Over => put_over(&mut *out, at, x),
+        MicroReport::Nan => put_text(&mut *out, at, b"nan"),
     }
 }
 
-// The number put in from `at` on, without blanks; answers where it ends.
-pub fn put_millionths(out: &mut [u8], at: usize, x: f32) -> usize
-    requires { ⌜ at + length (millionthsText x) ≤ length (now out) ⌝ }
-    ensures { λ r. ⌜ Put (now (out .entry)) at (millionthsText x) (now (out .exit)) r ⌝ }
-{
-    let number = number_column(x);
-    let bytes = number.bytes;
-    let start = number.start;
-    put_text(&mut *out, at, &bytes[start..11])
-}
-
-// The number as a decimal that reads as it, put in from `at` on; answers where it ends.
+// The number as a decimal that reads as it.
 pub fn put_spelled(out: &mut [u8], at: usize, x: f32) -> usize
-    requires { ⌜ at + length (spelledText x) ≤ length (now out) ⌝ }
-    ensures { λ r. ⌜ Put (now (out .entry)) at (spelledText x) (now (out .exit)) r ⌝ }
+    ensures { λ r. ⌜ Sunk (now (out .entry)) at (spelledText x) (now (out .exit)) r ⌝ }
 {
     let word = spelled(x);
     let bytes = word.bytes;
@@ -113,20 +86,26 @@ pub fn put_spelled(out: &mut [u8], at: usize, x: f32) -> usize
 
 // ---- at the right of 15 bytes, and a blank
 
-fn put_right(out: &mut [u8], at: usize, text: &[u8]) -> usize
-    requires { ⌜ (length (now text) ≤ 15) × (at + length (rightColumn (now text)) ≤ length (now out)) ⌝ }
-    ensures { λ r. ⌜ Put (now (out .entry)) at (rightColumn (now (text .entry))) (now (out .exit)) r ⌝ }
+fn blanks_before(len: usize) -> usize
+    ensures { λ r. ⌜ r ≡ 15 - len ⌝ }
 {
-    let n = 15 - text.len();
-    let blanks = [b' '; 15];
-    let a = put_text(&mut *out, at, &blanks[..n]);
+    if len < 15 {
+        return 15 - len;
+    }
+    0
+}
+
+fn put_right(out: &mut [u8], at: usize, text: &[u8]) -> usize
+    ensures { λ r. ⌜ Sunk (now (out .entry)) at (rightColumn (now (text .entry))) (now (out .exit)) r ⌝ }
+{
+    let n = blanks_before(text.len());
+    let a = put_blanks(&mut *out, at, n);
     let b = put_text(&mut *out, a, text);
-    put_text(&mut *out, b, b" ")
+    put_byte(&mut *out, b, b' ')
 }
 
 pub(crate) fn put_right_spelled(out: &mut [u8], at: usize, x: f32) -> usize
-    requires { ⌜ at + length (rightColumn (spelledText x)) ≤ length (now out) ⌝ }
-    ensures { λ r. ⌜ Put (now (out .entry)) at (rightColumn (spelledText x)) (now (out .exit)) r ⌝ }
+    ensures { λ r. ⌜ Sunk (now (out .entry)) at (rightColumn (spelledText x)) (now (out .exit)) r ⌝ }
 {
     let word = spelled(x);
     let bytes = word.bytes;
@@ -134,23 +113,26 @@ pub(crate) fn put_right_spelled(out: &mut [u8], at: usize, x: f32) -> usize
     put_right(&mut *out, at, &bytes[..len])
 }
 
-pub(crate) fn put_right_millionths(out: &mut [u8], at: usize, x: f32) -> usize
-    requires { ⌜ at + length (rightColumn (millionthsText x)) ≤ length (now out) ⌝ }
-    ensures { λ r. ⌜ Put (now (out .entry)) at (rightColumn (millionthsText x)) (now (out .exit)) r ⌝ }
+// A first run tells the length.
+fn put_right_whole(out: &mut [u8], at: usize, n: i32) -> usize
+    ensures { λ r. ⌜ Sunk (now (out .entry)) at (rightColumn (numberText (signed n))) (now (out .exit)) r ⌝ }
 {
-    let number = number_column(x);
-    let bytes = number.bytes;
-    let start = number.start;
-    put_right(&mut *out, at, &bytes[start..11])
+    let number = signed(n);
+    let mut none = [0u8; 1];
+    let len = put_number(&mut none, 0, number);
+    let a = put_blanks(&mut *out, at, blanks_before(len));
+    let b = put_number(&mut *out, a, number);
+    put_byte(&mut *out, b, b' ')
 }
 
-pub(crate) fn is_over(x: f32) -> bool
-    ensures { λ r. ⌜ r ≡ isOver (microReportOf x) ⌝ }
+// An impulse or a bound: its millionths, or the number itself where it has none.
+pub(crate) fn put_number_column(out: &mut [u8], at: usize, x: f32) -> usize
+    ensures { λ r. ⌜ Sunk (now (out .entry)) at (numberColumn x) (now (out .exit)) r ⌝ }
 {
     let report = micro_report(x);
     match report {
-        MicroReport::Whole(_) => false,
-        MicroReport::Over => true,
-        MicroReport::Nan => false,
+        MicroReport::Whole(n) => put_right_whole(&mut *out, at, n),
+        MicroReport::Over => put_right_spelled(&mut *out, at, x),
+        MicroReport::Nan => put_right(&mut *out, at, b"nan"),
     }
 }

@@ -1,24 +1,20 @@
 // A joint's reaction, a line under the table's rows: what its rows together gave its two bodies.
 ghost use mathlib.Core.Path.{_≡_};
-ghost use Prim.Native.Nat.{_+_, _-_, _≤_};
-ghost use lib.ListN.{length};
-ghost use Rattle.texts.specs.Written.{written, Put};
-ghost use Rattle.study_text.specs.Words.{motorsText};
-ghost use Rattle.study_text.specs.Row.{column, longestName};
-ghost use Rattle.study_text.specs.Reaction.{forcesText, turnedText, reactionValues, reactionLine, reactionText, reactionHeading, reactionNotes};
-use crate::row::are_names;
-use crate::row::names_length;
+ghost use Rattle.texts.specs.Sink.{Sunk, Wrote};
+ghost use Rattle.study_text.specs.Reaction.{forcesText, turnedText, reactionText, reactionHeading, reactionNotes};
+use crate::number::put_number_column;
 use crate::row::put_names;
-use crate::row::put_number;
 use crate::row::put_numbers;
-use crate::words::motors_word;
+use crate::words::motors_digit;
 use rows::reaction::Reaction;
-use texts::put::put_text;
-use texts::put::write_text;
+use texts::sink::has_room;
+use texts::sink::length_to;
+use texts::sink::put_byte;
+use texts::sink::put_text;
+use texts::sink::write_text;
 
 fn put_forces(out: &mut [u8], at: usize, reaction: Reaction) -> usize
-    requires { ⌜ at + length (forcesText reaction) ≤ length (now out) ⌝ }
-    ensures { λ r. ⌜ Put (now (out .entry)) at (forcesText reaction) (now (out .exit)) r ⌝ }
+    ensures { λ r. ⌜ Sunk (now (out .entry)) at (forcesText reaction) (now (out .exit)) r ⌝ }
 {
     let force = reaction.impulses.body1.linear;
     let along = reaction.along;
@@ -32,41 +28,18 @@ fn put_forces(out: &mut [u8], at: usize, reaction: Reaction) -> usize
     )
 }
 
-fn put_motors(out: &mut [u8], at: usize, swept: bool, motors: u8) -> usize
-    requires { ⌜ at + length (column 6 (motorsText swept motors)) ≤ length (now out) ⌝ }
-    ensures { λ r. ⌜ Put (now (out .entry)) at (column 6 (motorsText swept motors)) (now (out .exit)) r ⌝ }
-{
-    let word = motors_word(swept, motors);
-    let bytes = word.bytes;
-    put_text(&mut *out, at, &bytes[..7])
-}
-
 fn put_turned(out: &mut [u8], at: usize, angular: f32, swept: bool, motors: u8) -> usize
-    requires { ⌜ at + length (turnedText angular swept motors) ≤ length (now out) ⌝ }
-    ensures { λ r. ⌜ Put (now (out .entry)) at (turnedText angular swept motors) (now (out .exit)) r ⌝ }
+    ensures { λ r. ⌜ Sunk (now (out .entry)) at (turnedText angular swept motors) (now (out .exit)) r ⌝ }
 {
-    let a = put_number(&mut *out, at, angular);
-    let b = put_motors(&mut *out, a, swept, motors);
-    put_text(&mut *out, b, b"reactionOf\n")
-}
-
-fn put_reaction_values(
-    out: &mut [u8],
-    at: usize,
-    reaction: Reaction,
-    swept: bool,
-    motors: u8,
-) -> usize
-    requires { ⌜ at + length (reactionValues reaction swept motors) ≤ length (now out) ⌝ }
-    ensures { λ r. ⌜ Put (now (out .entry)) at (reactionValues reaction swept motors) (now (out .exit)) r ⌝ }
-{
-    let a = put_forces(&mut *out, at, reaction);
-    put_turned(&mut *out, a, reaction.impulses.body2.angular, swept, motors)
+    let digit = motors_digit(swept, motors);
+    let a = put_number_column(&mut *out, at, angular);
+    let b = put_byte(&mut *out, a, digit);
+    let c = put_text(&mut *out, b, b"      ");
+    put_text(&mut *out, c, b"reactionOf\n")
 }
 
 fn put_reaction(
     out: &mut [u8],
-    at: usize,
     joint: &[u8],
     body1: &[u8],
     body2: &[u8],
@@ -74,16 +47,15 @@ fn put_reaction(
     swept: bool,
     motors: u8,
 ) -> usize
-    requires { ⌜ at + length (reactionLine (now joint) (now body1) (now body2) reaction swept motors) ≤ length (now out) ⌝ }
-    ensures { λ r. ⌜ Put (now (out .entry)) at (reactionLine (now (joint .entry)) (now (body1 .entry)) (now (body2 .entry)) reaction swept motors) (now (out .exit)) r ⌝ }
+    ensures { λ r. ⌜ Sunk (now (out .entry)) 0 (reactionText (now (joint .entry)) (now (body1 .entry)) (now (body2 .entry)) reaction swept motors) (now (out .exit)) r ⌝ }
 {
-    let a = put_names(&mut *out, at, joint, body1, body2);
-    put_reaction_values(&mut *out, a, reaction, swept, motors)
+    let a = put_names(&mut *out, 0, joint, body1, body2);
+    let b = put_forces(&mut *out, a, reaction);
+    put_turned(&mut *out, b, reaction.impulses.body2.angular, swept, motors)
 }
 
 // Writes the line of a joint's reaction to the front of `out` and answers its length: the joint and its bodies by name, the numbers, how many of its motors
-// the last round found low or high if a round was swept, the definition. Where `out` is shorter nothing is
-// written, and the length is answered all the same. Where a name is longer than a study's can be there is no line: 0 is answered.
+// the last round found low or high if a round was swept, the definition. Where `out` is shorter nothing is written, and the length is answered all the same.
 pub fn write_reaction(
     out: &mut [u8],
     joint: &[u8],
@@ -93,23 +65,19 @@ pub fn write_reaction(
     swept: bool,
     motors: u8,
 ) -> usize
-    ensures { λ r. ⌜ (r ≡ length (reactionText (now (joint .entry)) (now (body1 .entry)) (now (body2 .entry)) reaction swept motors))
-        × (now (out .exit) ≡ written (now (out .entry)) (reactionText (now (joint .entry)) (now (body1 .entry)) (now (body2 .entry)) reaction swept motors)) ⌝ }
+    ensures { λ r. ⌜ Wrote (now (out .entry)) (reactionText (now (joint .entry)) (now (body1 .entry)) (now (body2 .entry)) reaction swept motors) (now (out .exit)) r ⌝ }
 {
-    if are_names(joint.len(), body1.len(), body2.len()) {
-        let len = names_length(joint.len(), body1.len(), body2.len()) + 130;
-        if len <= out.len() {
-            put_reaction(&mut *out, 0, joint, body1, body2, reaction, swept, motors);
-            return len;
-        }
-        return len;
+    let mut none = [0u8; 1];
+    let len = put_reaction(&mut none, joint, body1, body2, reaction, swept, motors);
+    if has_room(len, out.len()) {
+        return put_reaction(&mut *out, joint, body1, body2, reaction, swept, motors);
     }
-    0
+    length_to(len)
 }
 
 // The heading of these lines.
 pub fn write_reaction_heading(out: &mut [u8]) -> usize
-    ensures { λ r. ⌜ (r ≡ length reactionHeading) × (now (out .exit) ≡ written (now (out .entry)) reactionHeading) ⌝ }
+    ensures { λ r. ⌜ Wrote (now (out .entry)) reactionHeading (now (out .exit)) r ⌝ }
 {
     write_text(
         &mut *out,
@@ -119,7 +87,7 @@ pub fn write_reaction_heading(out: &mut [u8]) -> usize
 
 // What their numbers are, in words.
 pub fn write_reaction_notes(out: &mut [u8]) -> usize
-    ensures { λ r. ⌜ (r ≡ length reactionNotes) × (now (out .exit) ≡ written (now (out .entry)) reactionNotes) ⌝ }
+    ensures { λ r. ⌜ Wrote (now (out .entry)) reactionNotes (now (out .exit)) r ⌝ }
 {
     write_text(
         &mut *out,

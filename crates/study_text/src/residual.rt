@@ -1,27 +1,16 @@
 // How far from settled a table's rows are, as the line below it says.
 ghost use mathlib.Core.Path.{_≡_};
-ghost use Prim.Native.Nat.{_+_, _≤_};
-ghost use lib.ListN.{length};
-ghost use Rattle.texts.specs.Written.{written, Put};
-ghost use Rattle.catalogue.specs.Text.{idText};
+ghost use Rattle.texts.specs.Sink.{Sunk, Wrote};
 ghost use Rattle.study_text.specs.Residual.{changeText, residualText};
-use crate::named::write_named;
 use crate::number::put_spelled;
-use crate::words::id_word;
-use crate::words::put_word;
+use catalogue::text::put_id;
 use rows::joint_velocity_constraint::WritebackId;
-use texts::put::put_text;
-
-fn put_id(out: &mut [u8], at: usize, id: WritebackId) -> usize
-    requires { ⌜ at + length (idText id) ≤ length (now out) ⌝ }
-    ensures { λ r. ⌜ Put (now (out .entry)) at (idText id) (now (out .exit)) r ⌝ }
-{
-    put_word(&mut *out, at, id_word(id))
-}
+use texts::sink::has_room;
+use texts::sink::length_to;
+use texts::sink::put_text;
 
 fn put_change(out: &mut [u8], at: usize, id: WritebackId, x: f32) -> usize
-    requires { ⌜ at + length (changeText id x) ≤ length (now out) ⌝ }
-    ensures { λ r. ⌜ Put (now (out .entry)) at (changeText id x) (now (out .exit)) r ⌝ }
+    ensures { λ r. ⌜ Sunk (now (out .entry)) at (changeText id x) (now (out .exit)) r ⌝ }
 {
     let a = put_text(&mut *out, at, b" ");
     let b = put_id(&mut *out, a, id);
@@ -30,12 +19,22 @@ fn put_change(out: &mut [u8], at: usize, id: WritebackId, x: f32) -> usize
     put_text(&mut *out, d, b"\n")
 }
 
-// Writes the line of the row whose impulse one more step would change most, as `write_named` does: the name of its joint, its id, and the change.
-pub fn write_residual(out: &mut [u8], joint: &[u8], id: WritebackId, x: f32) -> usize
-    ensures { λ r. ⌜ (r ≡ length (residualText (now (joint .entry)) id x))
-        × (now (out .exit) ≡ written (now (out .entry)) (residualText (now (joint .entry)) id x)) ⌝ }
+fn put_residual(out: &mut [u8], joint: &[u8], id: WritebackId, x: f32) -> usize
+    ensures { λ r. ⌜ Sunk (now (out .entry)) 0 (residualText (now (joint .entry)) id x) (now (out .exit)) r ⌝ }
 {
-    let mut change = [0u8; 128];
-    let n = put_change(&mut change, 0, id, x);
-    write_named(&mut *out, joint, &change[..n])
+    let a = put_text(&mut *out, 0, joint);
+    put_change(&mut *out, a, id, x)
+}
+
+// Writes the line of the row whose impulse one more step would change most to the front of `out` and answers its length: the name of its joint, its id, and
+// the change. Where `out` is shorter nothing is written, and the length is answered all the same.
+pub fn write_residual(out: &mut [u8], joint: &[u8], id: WritebackId, x: f32) -> usize
+    ensures { λ r. ⌜ Wrote (now (out .entry)) (residualText (now (joint .entry)) id x) (now (out .exit)) r ⌝ }
+{
+    let mut none = [0u8; 1];
+    let len = put_residual(&mut none, joint, id, x);
+    if has_room(len, out.len()) {
+        return put_residual(&mut *out, joint, id, x);
+    }
+    length_to(len)
 }

@@ -1,30 +1,16 @@
-// The words of a line, each at the left of 20 bytes.
+// The words of a line, each put in from `at` on; a word that goes by a number is an entry of a table. Each function answers where its word ends.
 ghost use mathlib.Core.Path.{_≡_};
-ghost use mathlib.Core.Bool.{true};
-ghost use Prim.Native.Nat.{_+_, _≤_};
-ghost use lib.ListN.{length, take};
-ghost use Rattle.texts.specs.Written.{Put};
+ghost use mathlib.Core.List.{[], _∷_};
+ghost use Rattle.texts.specs.Sink.{Sunk};
 ghost use Rattle.catalogue.specs.Text.{idText};
-ghost use Rattle.study_text.specs.Words.{numberOf, definitionText, boundOf, boundText, motorsText, wordOf};
+ghost use Rattle.study_text.specs.Words.{boundIndex, numberOf, definitionText, boundOf, boundText, motorsText};
+ghost use Rattle.study_text.specs.Row.{column};
 use crate::rules::Rule;
-use catalogue::text::axis_digit;
+use crate::rules::rule_index;
+use catalogue::text::kind_index;
+use catalogue::text::put_id;
 use rows::joint_velocity_constraint::WritebackId;
-use texts::put::put_text;
-
-pub struct Word {
-    pub bytes: [u8; 20],
-    pub len: usize,
-}
-
-// A word put in from `at` on; answers where it ends.
-pub fn put_word(out: &mut [u8], at: usize, w: Word) -> usize
-    requires { ⌜ (w .len ≤ length (w .bytes)) × (at + length (take (w .len) (w .bytes)) ≤ length (now out)) ⌝ }
-    ensures { λ r. ⌜ Put (now (out .entry)) at (take (w .len) (w .bytes)) (now (out .exit)) r ⌝ }
-{
-    let bytes = w.bytes;
-    let len = w.len;
-    put_text(&mut *out, at, &bytes[..len])
-}
+use texts::sink::put_entry;
 
 // The bound that an impulse stands at.
 pub enum Bound {
@@ -33,27 +19,16 @@ pub enum Bound {
     No,
 }
 
-pub fn id_word(id: WritebackId) -> Word
-    ensures { λ r. ⌜ r ≡ wordOf (idText id) ⌝ }
+// An id in its column.
+pub(crate) fn put_id_column(out: &mut [u8], at: usize, id: WritebackId) -> usize
+    ensures { λ r. ⌜ Sunk (now (out .entry)) at (column 6 (idText id)) (now (out .exit)) r ⌝ }
 {
-    match id {
-        WritebackId::Dof(axis) => {
-            let mut bytes = *b"Dof0                ";
-            bytes[3] = axis_digit(axis);
-            Word { bytes, len: 4 }
-        }
-        WritebackId::Limit(axis) => {
-            let mut bytes = *b"Limit0              ";
-            bytes[5] = axis_digit(axis);
-            Word { bytes, len: 6 }
-        }
-        WritebackId::Motor(axis) => {
-            let mut bytes = *b"Motor0              ";
-            bytes[5] = axis_digit(axis);
-            Word { bytes, len: 6 }
-        }
-    }
+    let kind = kind_index(id);
+    let a = put_id(&mut *out, at, id);
+    put_entry(&mut *out, a, b"   \n \n \n", kind)
 }
+
+// ---- a bound
 
 pub fn bound_of(impulse: f32, low: f32, high: f32) -> Bound
     ensures { λ r. ⌜ r ≡ boundOf impulse low high ⌝ }
@@ -70,165 +45,68 @@ pub fn bound_of(impulse: f32, low: f32, high: f32) -> Bound
     Bound::No
 }
 
-pub fn bound_word(bound: Bound) -> Word
-    ensures { λ r. ⌜ r ≡ wordOf (boundText bound) ⌝ }
+pub(crate) fn bound_index(bound: Bound) -> usize
+    ensures { λ r. ⌜ r ≡ boundIndex bound ⌝ }
 {
     match bound {
-        Bound::Low => Word {
-            bytes: *b"low                 ",
-            len: 3,
-        },
-        Bound::High => Word {
-            bytes: *b"high                ",
-            len: 4,
-        },
-        Bound::No => Word {
-            bytes: *b"-                   ",
-            len: 1,
-        },
+        Bound::Low => 0,
+        Bound::High => 1,
+        Bound::No => 2,
     }
 }
 
-fn count_word(motors: u8) -> Word
-    ensures { λ r. ⌜ r ≡ wordOf (motorsText true motors) ⌝ }
+pub(crate) fn put_bound(out: &mut [u8], at: usize, bound: Bound) -> usize
+    ensures { λ r. ⌜ Sunk (now (out .entry)) at (column 4 (boundText bound)) (now (out .exit)) r ⌝ }
 {
-    if motors == 0 {
-        return Word {
-            bytes: *b"0                   ",
-            len: 1,
-        };
-    }
-    if motors == 1 {
-        return Word {
-            bytes: *b"1                   ",
-            len: 1,
-        };
-    }
-    if motors == 2 {
-        return Word {
-            bytes: *b"2                   ",
-            len: 1,
-        };
-    }
-    Word {
-        bytes: *b"3                   ",
-        len: 1,
-    }
+    let index = bound_index(bound);
+    put_entry(&mut *out, at, b"low  \nhigh \n-    \n", index)
 }
+
+// ---- motors
 
 // How many of a joint's motors the last round found low or high, if a round was swept.
-pub fn motors_word(swept: bool, motors: u8) -> Word
-    ensures { λ r. ⌜ r ≡ wordOf (motorsText swept motors) ⌝ }
+pub fn motors_digit(swept: bool, motors: u8) -> u8
+    ensures { λ r. ⌜ r ∷ [] ≡ motorsText swept motors ⌝ }
 {
     if swept {
-        return count_word(motors);
+        if motors == 0 {
+            return b'0';
+        }
+        if motors == 1 {
+            return b'1';
+        }
+        if motors == 2 {
+            return b'2';
+        }
+        return b'3';
     }
-    Word {
-        bytes: *b"-                   ",
-        len: 1,
-    }
+    b'-'
 }
 
+// ---- a rule
+
 // The rule's number in the table.
-pub fn number_word(rule: Rule) -> Word
-    ensures { λ r. ⌜ r ≡ wordOf (numberOf rule) ⌝ }
+pub fn put_rule_number(out: &mut [u8], at: usize, rule: Rule) -> usize
+    ensures { λ r. ⌜ Sunk (now (out .entry)) at (numberOf rule) (now (out .exit)) r ⌝ }
 {
-    match rule {
-        Rule::Motor2 => Word {
-            bytes: *b"1.1                 ",
-            len: 3,
-        },
-        Rule::Motor0 => Word {
-            bytes: *b"1.2                 ",
-            len: 3,
-        },
-        Rule::Motor1 => Word {
-            bytes: *b"1.3                 ",
-            len: 3,
-        },
-        Rule::MotorF => Word {
-            bytes: *b"1.4                 ",
-            len: 3,
-        },
-        Rule::Dof2 => Word {
-            bytes: *b"2.1                 ",
-            len: 3,
-        },
-        Rule::Dof0 => Word {
-            bytes: *b"2.2                 ",
-            len: 3,
-        },
-        Rule::Dof1 => Word {
-            bytes: *b"2.3                 ",
-            len: 3,
-        },
-        Rule::Limit2 => Word {
-            bytes: *b"2.4                 ",
-            len: 3,
-        },
-        Rule::Limit0 => Word {
-            bytes: *b"2.5                 ",
-            len: 3,
-        },
-        Rule::Limit1 => Word {
-            bytes: *b"2.6                 ",
-            len: 3,
-        },
-        Rule::LimitF => Word {
-            bytes: *b"2.7                 ",
-            len: 3,
-        },
-    }
+    let index = rule_index(rule);
+    put_entry(
+        &mut *out,
+        at,
+        b"1.1\n1.2\n1.3\n1.4\n2.1\n2.2\n2.3\n2.4\n2.5\n2.6\n2.7\n",
+        index as usize,
+    )
 }
 
 // The definition that makes the row.
-pub fn definition_word(rule: Rule) -> Word
-    ensures { λ r. ⌜ r ≡ wordOf (definitionText rule) ⌝ }
+pub fn put_definition(out: &mut [u8], at: usize, rule: Rule) -> usize
+    ensures { λ r. ⌜ Sunk (now (out .entry)) at (definitionText rule) (now (out .exit)) r ⌝ }
 {
-    match rule {
-        Rule::Motor2 => Word {
-            bytes: *b"motorAngularOf      ",
-            len: 14,
-        },
-        Rule::Motor0 => Word {
-            bytes: *b"motorLinearOf       ",
-            len: 13,
-        },
-        Rule::Motor1 => Word {
-            bytes: *b"motorLinearOf       ",
-            len: 13,
-        },
-        Rule::MotorF => Word {
-            bytes: *b"motorLinearCoupledOf",
-            len: 20,
-        },
-        Rule::Dof2 => Word {
-            bytes: *b"lockAngularOf       ",
-            len: 13,
-        },
-        Rule::Dof0 => Word {
-            bytes: *b"lockLinearOf        ",
-            len: 12,
-        },
-        Rule::Dof1 => Word {
-            bytes: *b"lockLinearOf        ",
-            len: 12,
-        },
-        Rule::Limit2 => Word {
-            bytes: *b"limitAngularOf      ",
-            len: 14,
-        },
-        Rule::Limit0 => Word {
-            bytes: *b"limitLinearOf       ",
-            len: 13,
-        },
-        Rule::Limit1 => Word {
-            bytes: *b"limitLinearOf       ",
-            len: 13,
-        },
-        Rule::LimitF => Word {
-            bytes: *b"limitLinearCoupledOf",
-            len: 20,
-        },
-    }
+    let index = rule_index(rule);
+    put_entry(
+        &mut *out,
+        at,
+        b"motorAngularOf\nmotorLinearOf\nmotorLinearOf\nmotorLinearCoupledOf\nlockAngularOf\nlockLinearOf\nlockLinearOf\nlimitAngularOf\nlimitLinearOf\nlimitLinearOf\nlimitLinearCoupledOf\n",
+        index as usize,
+    )
 }

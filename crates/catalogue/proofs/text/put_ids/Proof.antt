@@ -1,26 +1,24 @@
--- `put_ids` meets its contract: after `next` ids, the slice holds their texts from `at` on.
+-- `put_ids` meets its contract: after `next` ids, these are written.
 use Prim.Native.Nat.{_-_, _≤_}
+use mathlib.Core.Path.{ap, _∙_}
 use mathlib.Core.List.{flatMap}
 use native.Mathlib.Omega.{arith}
+use lib.ListN.{length, take}
+use Rattle.texts.specs.Sink.{Sunk}
+use Rattle.texts.proofs.SinkLaws.{put-length}
+use Rattle.catalogue.proofs.TextLaws.{sunk-first, named, named-sunk, ids-few, ids-turn, ids-end}
 use borrow.Author.Needs.{needs}
-use lib.ListN.{take}
-use Rattle.texts.specs.Written.{Put}
-use Rattle.texts.proofs.PutLaws.{put-length}
-use Rattle.catalogue.proofs.TextLaws.{named, put-first, ids-few, ids-room, ids-turn, ids-end}
 use Rattle.catalogue.proofs.text.put_ids.Statement.{statement}
 use Rattle.catalogue.proofs.text.put_ids.Tie as tie
 
 abbrev Inv-loop : tie.InvT-loop
-Inv-loop out₀ at all count next₀ end₀ out next end = (next ≤ count) × Put out₀ at (flatMap named (take next (take count all))) out end
+Inv-loop out₀ at all count next₀ end₀ out next end = (next ≤ count) × Sunk out₀ at (flatMap named (take next (take count all))) out end
 
 abbrev μ-loop : tie.MeasureT-loop
 μ-loop out₀ at all count next₀ end₀ out next end = count - next
 
-row-ids-requires : tie.Need-row-ids-requires Inv-loop μ-loop
-row-ids-requires c κs = search needs
-
 loop-holds : tie.Need-loop-holds Inv-loop μ-loop
-loop-holds c = (omega arith, put-first named (take (c .before .row-ids .result .len) (c .before .row-ids .result .ids)) _ _)
+loop-holds c = (omega arith, sunk-first named (take (c .before .row-ids .result .len) (c .before .row-ids .result .ids)))
 
 mul-named : tie.Need-mul-named Inv-loop μ-loop
 mul-named c = omega (arith, ids-few (c .before .before .before .before .before .args .k) (c .before .before .before .row-ids .ensures))
@@ -28,23 +26,14 @@ mul-named c = omega (arith, ids-few (c .before .before .before .before .before .
 array-copy-out-named : tie.Need-array-copy-out-named Inv-loop μ-loop
 array-copy-out-named c = omega (arith, ids-few (c .before .before .before .before .before .args .k) (c .before .before .before .row-ids .ensures))
 
-put-id-requires : tie.Need-put-id-requires Inv-loop μ-loop
-put-id-requires c κs = ids-room (c .before .before .before .before .before .before .before .args .k) (c .before .before .before .before .before .row-ids .ensures) _ _ (c .before .before .before .before .before .before .before .pre) _ _ _ (c .before .before .before .loop .inv .1) (c .before .before .loop-test .taken)
-
-add-next : tie.Need-add-next Inv-loop μ-loop
-add-next c = omega arith
-
-loop-less : tie.Need-loop-less Inv-loop μ-loop
-loop-less c = omega arith
-
 loop-again : tie.Need-loop-again Inv-loop μ-loop
-loop-again c = (omega arith, ids-turn (c .before .before .before .before .before .before .before .before .before .before .args .k) (c .before .before .before .before .before .before .before .before .row-ids .ensures) _ _ (c .before .before .before .before .before .before .before .before .before .before .pre) _ _ _ (c .before .before .before .before .before .before .loop .inv .1) (c .before .before .before .before .before .loop-test .taken) _ _ (c .before .before .put-id .ensures))
+loop-again c = (omega arith, ids-turn (c .before .before .before .before .before .before .before .before .before .before .before .before .before .before .args .k) (c .before .before .before .before .before .before .before .before .before .before .before .before .row-ids .ensures) _ (c .before .before .before .before .before .before .before .before .before .before .loop .inv .1) (c .before .before .before .before .before .before .before .before .before .loop-test .taken) (named-sunk _ (c .before .before .before .before .before .before .put-byte .ensures) (c .before .before .put-id .ensures)))
 
 same-length : tie.Need-same-length Inv-loop μ-loop
-same-length c = put-length _ _ _ _ _ (ids-end (c .before .before .before .before .before .args .k) (c .before .before .before .row-ids .ensures) _ _ (c .before .before .before .before .before .pre) _ _ _ (c .before .loop .inv .1) (c .loop-test .left)) (c .before .before .before .before .before .pre)
+same-length c = ap length (c .before .loop .inv .1 .holds) ∙ put-length _ _ _
 
 returns : tie.Need-returns Inv-loop μ-loop
-returns c = ids-end (c .before .before .before .before .before .args .k) (c .before .before .before .row-ids .ensures) _ _ (c .before .before .before .before .before .pre) _ _ _ (c .before .loop .inv .1) (c .loop-test .left)
+returns c = ids-end (c .before .before .before .before .before .args .k) (c .before .before .before .row-ids .ensures) _ (c .before .loop .inv .1) (c .loop-test .left)
 
 pub put-ids-spec : {M : Type 1} → statement M
 put-ids-spec =
@@ -52,13 +41,14 @@ put-ids-spec =
     (tie.spec
     Inv-loop
     μ-loop
-    row-ids-requires
+    (λ c κs. search needs)
     loop-holds
     mul-named
     array-copy-out-named
-    put-id-requires
-    add-next
-    loop-less
+    (λ c κs. search needs)
+    (λ c κs. search needs)
+    (λ c. search needs)
+    (λ c. search needs)
     loop-again
     same-length
     returns)

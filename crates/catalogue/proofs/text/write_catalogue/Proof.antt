@@ -1,26 +1,25 @@
--- `write_catalogue` meets its contract: the text where it fits, and else nothing.
-use native.Mathlib.Omega.{arith}
-use Rattle.texts.proofs.PutLaws.{not-written}
+-- `write_catalogue` meets its contract: a first run tells the length.
+use mathlib.Core.Path.{sym, _∙_}
+use Rattle.texts.proofs.SinkLaws.{wrote-there, wrote-nothing}
 use borrow.Author.Needs.{needs}
 use Rattle.catalogue.proofs.text.write_catalogue.Statement.{statement}
 use Rattle.catalogue.proofs.text.write_catalogue.Tie as tie
 
-catalogue-length-requires : tie.Need-catalogue-length-requires
-catalogue-length-requires c κs = search needs
-
-put-catalogue-requires : tie.Need-put-catalogue-requires
-put-catalogue-requires c κs = search needs
-
-same-length : tie.Need-same-length
-same-length c = search needs
-
 returns : tie.Need-returns
-returns c = search needs
+returns c = wrote-there (c .before .before .before .before .before .before .before .put-catalogue .ensures) _ (sym (c .before .before .before .before .before .has-room .ensures) ∙ c .before .before .before .before .if1 .taken) (c .before .before .put-catalogue2 .ensures)
 
 returns-2 : tie.Need-returns-2
-returns-2 c = (c .before .catalogue-length .ensures, not-written _ _ (omega (arith, c .before .catalogue-length .ensures, c .if1 .left)))
+returns-2 c = wrote-nothing (c .before .before .before .before .put-catalogue .ensures) _ (sym (c .before .before .has-room .ensures) ∙ c .before .if1 .left) (c .length-to .ensures)
 
 pub write-catalogue-spec : {M : Type 1} → statement M
 write-catalogue-spec =
     tie.close
-    (tie.spec catalogue-length-requires put-catalogue-requires same-length returns returns-2)
+    (tie.spec
+    (λ c. search needs)
+    (λ c κs. search needs)
+    (λ c κs. search needs)
+    (λ c κs. search needs)
+    (λ c. search needs)
+    returns
+    (λ c κs. search needs)
+    returns-2)

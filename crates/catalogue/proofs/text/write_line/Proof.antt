@@ -1,32 +1,25 @@
--- `write_line` meets its contract: the line where it fits, and else nothing.
-use mathlib.Core.Path.{sym, ap, _∙_}
-use native.Mathlib.Omega.{arith}
-use lib.ListN.{length}
-use Rattle.texts.proofs.PutLaws.{not-written, empty-written}
-use Rattle.catalogue.proofs.TextLaws.{there-line, no-line, line-written}
+-- `write_line` meets its contract: a first run tells the length.
+use mathlib.Core.Path.{sym, _∙_}
+use Rattle.texts.proofs.SinkLaws.{wrote-there, wrote-nothing}
 use borrow.Author.Needs.{needs}
 use Rattle.catalogue.proofs.text.write_line.Statement.{statement}
 use Rattle.catalogue.proofs.text.write_line.Tie as tie
 
 returns : tie.Need-returns
-returns c = (sym (ap length (no-line _ (c .if1 .taken))), empty-written _ _ (no-line _ (c .if1 .taken)))
-
-line-length-requires : tie.Need-line-length-requires
-line-length-requires c κs = search needs
-
-put-line-requires : tie.Need-put-line-requires
-put-line-requires c κs = search needs
-
-same-length : tie.Need-same-length
-same-length c = search needs
+returns c = wrote-there (c .before .before .before .before .before .before .before .put-line-at .ensures) _ (sym (c .before .before .before .before .before .has-room .ensures) ∙ c .before .before .before .before .if1 .taken) (c .before .before .put-line-at2 .ensures)
 
 returns-2 : tie.Need-returns-2
-returns-2 c = (c .before .before .before .before .before .line-length .ensures ∙ sym (ap length (there-line _ (c .before .before .before .before .before .before .if1 .left))), line-written _ _ _ (c .before .before .before .before .before .before .if1 .left) _ (c .before .before .before .before .before .line-length .ensures) (c .before .before .before .before .if2 .taken) _ (c .before .before .put-line .ensures))
-
-returns-3 : tie.Need-returns-3
-returns-3 c = let e = c .before .line-length .ensures ∙ sym (ap length (there-line _ (c .before .before .if1 .left))) in (e, not-written _ _ (omega (arith, c .if2 .left)))
+returns-2 c = wrote-nothing (c .before .before .before .before .put-line-at .ensures) _ (sym (c .before .before .has-room .ensures) ∙ c .before .if1 .left) (c .length-to .ensures)
 
 pub write-line-spec : {M : Type 1} → statement M
 write-line-spec =
     tie.close
-    (tie.spec returns line-length-requires put-line-requires same-length returns-2 returns-3)
+    (tie.spec
+    (λ c. search needs)
+    (λ c κs. search needs)
+    (λ c κs. search needs)
+    (λ c κs. search needs)
+    (λ c. search needs)
+    returns
+    (λ c κs. search needs)
+    returns-2)

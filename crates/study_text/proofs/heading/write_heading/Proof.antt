@@ -4,18 +4,9 @@ use borrow.Author.Needs.{needs}
 use Rattle.study_text.proofs.heading.write_heading.Statement.{statement}
 use Rattle.study_text.proofs.heading.write_heading.Tie as tie
 
-slice-aggregate-write-text : tie.Need-slice-aggregate-write-text
-slice-aggregate-write-text c = search needs
-
-write-text-requires : tie.Need-write-text-requires
-write-text-requires c κs = search needs
-
-same-length : tie.Need-same-length
-same-length c = search needs
-
 returns : tie.Need-returns
 unfolding heading
 returns c = c .before .before .write-text .ensures
 
 pub write-heading-spec : {M : Type 1} → statement M
-write-heading-spec = tie.close (tie.spec slice-aggregate-write-text write-text-requires same-length returns)
+write-heading-spec = tie.close (tie.spec (λ c. search needs) (λ c κs. search needs) (λ c. search needs) returns)

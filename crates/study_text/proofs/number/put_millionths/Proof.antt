@@ -1,42 +1,41 @@
 -- `put_millionths` meets its contract.
-use mathlib.Core.Path.{ap}
-use native.Mathlib.Omega.{arith}
-use lib.ListN.{length}
-use Rattle.texts.proofs.PutLaws.{put-text}
-use Rattle.study_text.proofs.CsvLaws.{number-start, number-inside, number-part}
+use mathlib.Core.Path.{sym, ap, _∙_}
+use Rattle.texts.proofs.SinkLaws.{sunk-text}
+use Rattle.motor_table.specs.Text.{numberText}
+use Rattle.study_text.specs.Number.{signed, reportText}
+use Rattle.study_text.proofs.NumberLaws.{read, millionths-by}
 use borrow.Author.Needs.{needs}
 use Rattle.study_text.proofs.number.put_millionths.Statement.{statement}
 use Rattle.study_text.proofs.number.put_millionths.Tie as tie
 
-number-column-requires : tie.Need-number-column-requires
-number-column-requires c κs = search needs
-
-sub-put-text : tie.Need-sub-put-text
-sub-put-text c = number-start (c .before .before .before .before .args .x) (c .before .before .number-column .ensures)
-
-part-put-text-start : tie.Need-part-put-text-start
-part-put-text-start c = number-start (c .before .before .before .before .before .args .x) (c .before .before .before .number-column .ensures)
-
-part-put-text-end : tie.Need-part-put-text-end
-part-put-text-end c = number-inside (c .before .before .before .before .before .args .x) (c .before .before .before .number-column .ensures)
-
-put-text-requires : tie.Need-put-text-requires
-put-text-requires c κs = omega (arith, ap length (number-part (c .before .before .before .before .before .before .args .x) (c .before .before .before .before .number-column .ensures)), c .before .before .before .before .before .before .pre)
-
-same-length : tie.Need-same-length
-same-length c = search needs
-
 returns : tie.Need-returns
-returns c = put-text (number-part (c .before .before .before .before .before .before .before .before .before .args .x) (c .before .before .before .before .before .before .before .number-column .ensures)) (c .before .before .put-text .ensures)
+unfolding reportText
+returns c = let z = c .before .before .before .before .before .before .report .given .0 .0 in millionths-by (c .before .before .before .before .before .before .before .before .before .before .args .x) _ (sym (c .before .before .before .before .before .before .report .given .1) ∙ c .before .before .before .before .before .before .before .before .micro-report .ensures) (sunk-text (ap numberText (c .before .before .before .signed .ensures ∙ ap signed (read z (record { sfits = c .before .before .before .before .before .known-told .given .0 .1 })))) (c .before .before .put-number .ensures))
+
+returns-2 : tie.Need-returns-2
+unfolding reportText
+returns-2 c = millionths-by (c .before .before .before .before .before .before .before .before .args .x) _ (sym (c .before .before .before .before .enum-told .given .1) ∙ c .before .before .before .before .before .before .micro-report .ensures) (c .before .before .put-over .ensures)
+
+returns-3 : tie.Need-returns-3
+unfolding reportText
+returns-3 c = millionths-by (c .before .before .before .before .before .before .before .before .before .args .x) _ (sym (c .before .before .before .before .before .enum-told2 .given .1) ∙ c .before .before .before .before .before .before .before .micro-report .ensures) (c .before .before .put-text .ensures)
 
 pub put-millionths-spec : {M : Type 1} → statement M
 put-millionths-spec =
     tie.close
     (tie.spec
-    number-column-requires
-    sub-put-text
-    part-put-text-start
-    part-put-text-end
-    put-text-requires
-    same-length
-    returns)
+    (λ c κs. search needs)
+    (λ c. search needs)
+    (λ c κs. search needs)
+    (λ c κs. search needs)
+    (λ c. search needs)
+    (λ c κs. search needs)
+    (λ c. search needs)
+    (λ c. search needs)
+    (λ c κs. search needs)
+    (λ c. search needs)
+    returns
+    (λ c. search needs)
+    returns-2
+    (λ c. search needs)
+    returns-3)

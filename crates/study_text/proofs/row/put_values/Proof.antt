@@ -1,32 +1,25 @@
--- `put_values` meets its contract: the id, the numbers, and where the impulse stands.
-use Rattle.catalogue.specs.Text.{idText}
-use Rattle.study_text.specs.Words.{boundOf}
-use Rattle.study_text.specs.Row.{column, numbersText, standingText, valuesText}
-use Rattle.study_text.proofs.RowLaws.{first-room, second-room, third-room, put-three}
+-- `put_values` meets its contract.
+use mathlib.Core.Path.{ap}
+use Rattle.texts.proofs.SinkLaws.{sunk-then, sunk-text}
+use Rattle.study_text.specs.Words.{boundText}
+use Rattle.study_text.specs.Row.{column, standingText, valuesText}
+use Rattle.study_text.specs.declared.words.Bound.{Bound}
 use borrow.Author.Needs.{needs}
 use Rattle.study_text.proofs.row.put_values.Statement.{statement}
 use Rattle.study_text.proofs.row.put_values.Tie as tie
 
-put-id-requires : tie.Need-put-id-requires
-unfolding valuesText
-put-id-requires c κs = let a = c .before .before .args in first-room (a .out .now) (a .at) (column 6 (idText (a .id))) (numbersText (a .impulse) (a .low) (a .high)) (standingText (a .residual) (boundOf (a .impulse) (a .low) (a .high))) (c .before .before .pre)
-
-put-numbers-requires : tie.Need-put-numbers-requires
-unfolding valuesText
-put-numbers-requires c κs = let a = c .before .before .before .before .before .before .args in second-room (a .out .now) (a .at) (column 6 (idText (a .id))) (numbersText (a .impulse) (a .low) (a .high)) (standingText (a .residual) (boundOf (a .impulse) (a .low) (a .high))) (c .before .before .before .before .before .before .pre) _ _ (c .before .before .before .put-id .ensures)
-
-put-standing-requires : tie.Need-put-standing-requires
-unfolding valuesText
-put-standing-requires c κs = let a = c .before .before .before .before .before .before .before .before .before .before .args in third-room (a .out .now) (a .at) (column 6 (idText (a .id))) (numbersText (a .impulse) (a .low) (a .high)) (standingText (a .residual) (boundOf (a .impulse) (a .low) (a .high))) (c .before .before .before .before .before .before .before .before .before .before .pre) _ _ (c .before .before .before .before .before .before .before .put-id .ensures) _ _ (c .before .before .before .put-numbers .ensures)
-
-same-length : tie.Need-same-length
-same-length c = search needs
-
 returns : tie.Need-returns
-unfolding valuesText
-returns c = let a = c .before .before .before .before .before .before .before .before .before .before .before .before .before .args in put-three (a .out .now) (a .at) (column 6 (idText (a .id))) (numbersText (a .impulse) (a .low) (a .high)) (standingText (a .residual) (boundOf (a .impulse) (a .low) (a .high))) (c .before .before .before .before .before .before .before .before .before .before .before .before .before .pre) _ _ (c .before .before .before .before .before .before .before .before .before .before .put-id .ensures) _ _ (c .before .before .before .before .before .before .put-numbers .ensures) _ _ (c .before .before .put-standing .ensures)
+unfolding valuesText standingText
+returns c = sunk-then (sunk-then (c .before .before .before .before .before .before .before .before .before .before .before .before .before .before .put-id-column .ensures) (c .before .before .before .before .before .before .before .before .before .before .put-numbers .ensures)) (sunk-then (c .before .before .before .before .before .before .put-right-spelled .ensures) (sunk-text (ap (λ (b : Bound). column 4 (boundText b)) (c .before .before .before .before .before .before .before .before .before .before .before .before .before .before .before .before .bound-of .ensures)) (c .before .before .put-bound .ensures)))
 
 pub put-values-spec : {M : Type 1} → statement M
 put-values-spec =
     tie.close
-    (tie.spec put-id-requires put-numbers-requires put-standing-requires same-length returns)
+    (tie.spec
+    (λ c κs. search needs)
+    (λ c κs. search needs)
+    (λ c κs. search needs)
+    (λ c κs. search needs)
+    (λ c κs. search needs)
+    (λ c. search needs)
+    returns)

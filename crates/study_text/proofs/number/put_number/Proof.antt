@@ -1,0 +1,24 @@
+-- `put_number` meets its contract.
+use Rattle.texts.proofs.SinkLaws.{sunk-then, sunk-text}
+use Rattle.study_text.proofs.NumberLaws.{number-minus, number-plain}
+use borrow.Author.Needs.{needs}
+use Rattle.study_text.proofs.number.put_number.Statement.{statement}
+use Rattle.study_text.proofs.number.put_number.Tie as tie
+
+returns : tie.Need-returns
+returns c = sunk-text (number-minus (c .before .before .before .before .before .before .before .before .before .before .args .n) (c .before .before .before .before .before .before .before .before .if1 .taken)) (sunk-then (c .before .before .before .before .before .before .put-byte .ensures) (c .before .before .put-decimal .ensures))
+
+returns-2 : tie.Need-returns-2
+returns-2 c = sunk-text (number-plain (c .before .before .before .before .before .before .args .n) (c .before .before .before .before .if1 .left)) (c .before .before .put-decimal2 .ensures)
+
+pub put-number-spec : {M : Type 1} → statement M
+put-number-spec =
+    tie.close
+    (tie.spec
+    (λ c κs. search needs)
+    (λ c κs. search needs)
+    (λ c. search needs)
+    returns
+    (λ c κs. search needs)
+    (λ c. search needs)
+    returns-2)
