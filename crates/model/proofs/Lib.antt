@@ -13,6 +13,8 @@ pub mod FirstRows
 pub mod NewMasks
 pub mod PlanarRules
 pub mod PlanarLaws
+pub mod RefusalPlaceLaws
+pub mod PlaceSearch
 pub mod StoredFirsts
 pub mod FirstRowsUnread
 pub mod StudyPair

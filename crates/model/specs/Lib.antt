@@ -9,6 +9,7 @@ pub mod Refusals
 pub mod MotorTargets
 pub mod Answers
 pub mod Planar
+pub mod RefusalPlace
 pub mod FirstRows
 pub mod Studies
 pub mod SweepMomentum

@@ -7,6 +7,7 @@ pub mod header;
 mod joint_rows;
 pub mod layout;
 pub mod reactions;
+pub mod refusal_place;
 mod refusals;
 pub mod single_records;
 mod store;

@@ -104,7 +104,7 @@ pub fn new_masks_fit(masks: Masks) -> bool
     true
 }
 
-fn present_or_world(bodies: &[f32], i: u32) -> bool
+pub fn present_or_world(bodies: &[f32], i: u32) -> bool
     ensures { λ r. ⌜ r ≡ presentOrWorld plane (now (bodies .entry)) i ⌝ }
 {
     if i == WORLD {
@@ -168,7 +168,7 @@ fn finite_from(s: &[f32], o: usize, n: usize) -> bool
 }
 
 // A NaN alone differs from itself.
-fn is_nan(x: f32) -> bool
+pub fn is_nan(x: f32) -> bool
     ensures { λ r. ⌜ r ≡ isNan x ⌝ }
 {
     x != x
@@ -353,7 +353,7 @@ fn all_finite(
 
 // ---- rule 12
 
-fn angle_fits(center: LimitCenter) -> bool
+pub fn angle_fits(center: LimitCenter) -> bool
     ensures { λ r. ⌜ r ≡ angleFits center ⌝ }
 {
     match center {
