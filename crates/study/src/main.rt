@@ -106,7 +106,7 @@ fn copy(from: &[f32], at: usize, to: &mut [f32]) {
     }
 }
 
-fn header_of(draft: &[f32]) -> Header {
+pub fn header_of(draft: &[f32]) -> Header {
     Header {
         params: IntegrationParameters {
             dt: number_at(draft, 0),

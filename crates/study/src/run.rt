@@ -11,7 +11,6 @@ use crate::out::err_number;
 use crate::out::is_lost;
 use crate::out::out_part;
 use crate::place::say_place;
-use crate::refusals::Counts;
 use crate::refusals::say_rule;
 use crate::refusals::say_where;
 use crate::repeated::either;
@@ -801,11 +800,21 @@ fn say_all(
     bodies: &[f32],
     words: &[u32],
     numbers: &[f32],
-    c: Counts,
+    call: usize,
     k: u32,
 ) {
-    say_refused(name, text, k, c.call);
-    say_where(text, names, origins, settings, bodies, words, numbers, c, k);
+    say_refused(name, text, k, call);
+    say_where(
+        text,
+        names,
+        origins,
+        settings,
+        bodies,
+        words,
+        numbers,
+        call,
+        k,
+    );
 }
 
 // Loads and runs nothing.
@@ -824,11 +833,6 @@ pub fn check_study(
 ) -> u32 {
     let done = run_load(header, bodies, words, numbers, rows);
     if done.refused != 0 {
-        let c = Counts {
-            bodies: read.bodies,
-            joints: read.joints,
-            call: read.calls,
-        };
         say_all(
             name,
             text,
@@ -838,7 +842,7 @@ pub fn check_study(
             bodies,
             words,
             numbers,
-            c,
+            read.calls,
             done.refused,
         );
     }
@@ -1113,7 +1117,6 @@ pub fn run_study(
         bodies,
         words,
         numbers,
-        st,
         r,
     );
     r
@@ -1129,7 +1132,6 @@ fn say_ended(
     bodies: &[f32],
     words: &[u32],
     numbers: &[f32],
-    st: State,
     r: Run,
 ) {
     if r.refused == 0 {
@@ -1139,11 +1141,6 @@ fn say_ended(
         return;
     }
     let w = next_word(text, r.at);
-    let c = Counts {
-        bodies: st.bodies,
-        joints: st.joints,
-        call: w.start,
-    };
     say_all(
         name,
         text,
@@ -1153,7 +1150,7 @@ fn say_ended(
         bodies,
         words,
         numbers,
-        c,
+        w.start,
         r.refused,
     );
 }
