@@ -16,6 +16,7 @@ from __future__ import annotations
 
 import ctypes
 import os
+import re
 from typing import List, NamedTuple, Union
 
 import katydidzinc as kz
@@ -94,10 +95,20 @@ kz._lib.katydidzinc_read_study.argtypes, kz._lib.katydidzinc_read_study.restype 
 kz._lib.katydidzinc_write_study.argtypes, kz._lib.katydidzinc_write_study.restype = (ctypes.c_float,) * 3 + _slice * 4, ctypes.c_size_t
 
 
+# a file's name in quotes, which may hold what starts a comment elsewhere
+_quoted = re.compile(rb'[ \t\r]*set_targets[ \t\r]+"[^"]*"')
+
+
+def _uncommented(line: bytes) -> bytes:
+    name = _quoted.match(line)
+    at = name.end() if name else 0
+    return (line[:at] + line[at:].split(b"#")[0]).strip(b" \t\r")
+
+
 def _call_lines(text: bytes, at: int) -> List[CallLine]:
     """The lines from a place on that hold a word, without comments."""
     first = text.count(b"\n", 0, at) + 1
-    lines = ((first + i, line.split(b"#")[0].strip(b" \t\r")) for i, line in enumerate(text[at:].split(b"\n")))
+    lines = ((first + i, _uncommented(line)) for i, line in enumerate(text[at:].split(b"\n")))
     return [CallLine(number, _decoded(words)) for number, words in lines if words]
 
 

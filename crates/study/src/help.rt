@@ -38,7 +38,7 @@ Then the calls, in order:
 
   load; place BODY X Y ANGLE (or COS SIN); build [warm C] [substep N]; warm_start; sweep N;
   settle TOLERANCE [ROUNDS]; remove_bias; write_back; read_rows JOINT; read_velocity BODY;
-  frame [warm C] sweeps N substeps N (moves the bodies by dt); set_targets FILE (motor targets, RFC 4180, beside the study); masks JOINT [lock AXES] [limit AXES] [motor AXES] [couple AXES];
+  frame [warm C] sweeps N substeps N (moves the bodies by dt); set_targets FILE (motor targets, RFC 4180, beside the study; a name with blanks in quotes); masks JOINT [lock AXES] [limit AXES] [motor AXES] [couple AXES];
   table; table csv; repeat N .. end
 
 What is left out has the Rust's default. Numbers are decimals, f32 bits as 0x3F800000, inf and -inf.

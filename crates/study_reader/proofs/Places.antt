@@ -1,21 +1,22 @@
 -- Places in the text: where a word starts and ends, and what the line of a call names, is in the text or at its end.
 use Prim.Native.Nat.{ℕ, zero, suc, _+_, _-_, _≤_, _<_}
-use mathlib.Core.Path.{_≡_, refl}
+use mathlib.Core.Path.{_≡_, refl, sym}
 use mathlib.Core.Bool.{Bool, true, false, cond, not}
 use mathlib.Core.List.{List, [], _∷_}
 use native.Mathlib.Omega.{arith}
+use borrow.Author.Tests.{ne-eqb, eqb-true}
 use lib.Dec.{eqb, ltb}
 use lib.Ieee.{Float}
-use lib.ListN.{length, drop, length-drop}
+use lib.ListN.{length, drop, getD, length-drop}
 use Rattle.decimals.specs.declared.number.Reading.{Reading}
 use Rattle.decimals.specs.declared.number.Reading.the-variants.{Number, TooManyDigits, NotANumber}
 use Rattle.texts.specs.Ascii.{ascii, LF}
-use Rattle.study_reader.specs.Words.{isBlank, endsWord, runOf, lineCount, afterBlanks, nextWord, isEmpty, nextLine, isWord, wholeOf}
+use Rattle.study_reader.specs.Words.{isBlank, endsWord, runOf, lineCount, afterBlanks, nextWord, isEmpty, QUOTE, isQuote, nextLine, isWord, wholeOf}
 use Rattle.study_reader.specs.Numbers.{numberIn}
 use Rattle.study_reader.specs.Names.{ABSENT, findBody, findJoint}
-use Rattle.study_reader.specs.Faults.{faultNested, faultNoRepeat}
+use Rattle.study_reader.specs.Faults.{faultFileName, faultNested, faultNoRepeat}
 use Rattle.study_reader.specs.Keywords.{readRowsKeyword, readVelocityKeyword, setTargetsKeyword, repeatKeyword, endKeyword, tableKeyword, masksKeyword, frameKeyword, settleKeyword, placeKeyword, buildKeyword, sweepKeyword}
-use Rattle.study_reader.specs.Calls.{noMask, bareCall, wrong, withWord, withNumber, withPlace, withPose, withRotation, withWarm, withSweeps, first, second, ofNumber, ofWhole, ofNamed, readBody, readSubstep, rotationOf, poseOf, placeOf, substepOf, buildOf, readSubsteps, substepsOf, afterRounds, readSweeps, sweepsOf, frameOf, csvOf, readMost, mostOf, settleOf, fileOf, readRepeat, readEnd, withMask, withAxes, maskNamed, bitsOf, ofBits, maskWord, maskStep, maskSteps, otherArguments, arguments, readCall}
+use Rattle.study_reader.specs.Calls.{noMask, bareCall, wrong, withWord, withNumber, withPlace, withPose, withRotation, withWarm, withSweeps, first, second, ofNumber, ofWhole, ofNamed, readBody, readSubstep, rotationOf, poseOf, placeOf, substepOf, buildOf, readSubsteps, substepsOf, afterRounds, readSweeps, sweepsOf, frameOf, csvOf, readMost, mostOf, settleOf, quotedOf, fileOf, readRepeat, readEnd, withMask, withAxes, maskNamed, bitsOf, ofBits, maskWord, maskStep, maskSteps, otherArguments, arguments, readCall}
 use Rattle.study_reader.specs.declared.words.Word.{Word}
 use Rattle.study_reader.specs.declared.words.Whole.{Whole}
 use Rattle.study_reader.specs.declared.calls.Line.{Line}
@@ -41,6 +42,11 @@ unfolding lineCount
 line-some [] h = h
 line-some (b ∷ bs) h = by-cases (eqb b LF) (λ e. rw e (omega arith)) (λ e. rw e (omega arith))
 
+getD-inside : (l : List ℕ) (n b : ℕ) → (b ≡ 0 → ⊥) → getD l n 0 ≡ b → n < length l
+getD-inside [] n b h e = absurd (h (sym e))
+getD-inside (x ∷ l) zero b h e = omega arith
+getD-inside (x ∷ l) (suc n) b h e = omega (arith, getD-inside l n b h e)
+
 module _ (text : List ℕ) (at : ℕ) where
   pub start-inside : at ≤ length text → nextWord text at .start ≤ length text
   unfolding nextWord
@@ -51,6 +57,15 @@ module _ (text : List ℕ) (at : ℕ) where
   end-inside h =
       let from = afterBlanks text at in
       omega (arith, run-short isBlank (drop at text), length-drop at text, run-short (λ b. not (endsWord b)) (drop from text), length-drop from text)
+
+  -- past the end of the text no quote stands
+  pub quote-inside : isQuote text at ≡ true → at < length text
+  unfolding isQuote
+  quote-inside e = getD-inside text at QUOTE (λ z. omega (arith, z)) (eqb-true _ _ e)
+
+  pub no-quote : length text ≤ at → false ≡ isQuote text at
+  unfolding isQuote
+  no-quote h = sym (ne-eqb _ _ (λ e. omega (arith, getD-inside text at QUOTE (λ z. omega (arith, z)) e)))
 
   pub next-line-inside : at ≤ length text → nextLine text at ≤ length text
   unfolding nextLine
@@ -170,9 +185,18 @@ module _ (text : List ℕ) where
   unfolding settleOf
   within-settle l v s e h = within-number l v (numberIn text v) _ s h (λ x. within-most (withPose l x (l .y) (v .end)) (record { at = e; fault = h .fault }))
 
-  within-file : (l : Line) (w : Word) → w .start ≤ length text → w .end ≤ length text → Within text l → Within text (fileOf l w)
+  within-quoted : (l : Line) (place : ℕ) (w : Word) → place ≤ length text → Within text l → Within text (quotedOf text l place w)
+  unfolding quotedOf
+  within-quoted l place w s h =
+      let no : Within text (wrong l faultFileName place) = record { at = h .at; fault = s } in
+      within-cond (isEmpty w) _ _ no
+      (by-cases (isQuote text (w .end)) (λ e. rw e (record { at = omega (arith, quote-inside text (w .end) e); fault = h .fault })) (λ e. rw e no))
+
+  within-file : (l : Line) (w : Word) → w .start ≤ length text → w .end ≤ length text → Within text l → Within text (fileOf text l w)
   unfolding fileOf
-  within-file l w s e h = within-cond (isEmpty w) _ _ (record { at = h .at; fault = s }) (record { at = e; fault = h .fault })
+  within-file l w s e h =
+      within-cond (isEmpty w) _ _ (record { at = h .at; fault = s })
+      (within-cond (isQuote text (w .start)) _ _ (within-quoted l (w .start) _ s h) (record { at = e; fault = h .fault }))
 
   within-bits : (l : Line) (w : Word) (b : Whole) → w .start ≤ length text → w .end ≤ length text → Within text l → Within text (ofBits l w b)
   unfolding ofBits

@@ -1,7 +1,7 @@
 -- The line of a call: its keyword, and the arguments that stand after it.
 use mathlib.Core.Bool.{Bool, true, false, cond}
 use mathlib.Core.List.{List}
-use Prim.Native.Nat.{ℕ, zero, suc, _-_}
+use Prim.Native.Nat.{ℕ, zero, suc, _+_, _-_}
 use lib.Bits.{bitOr}
 use lib.Dec.{eqb, ltb}
 use lib.Ieee.{Float}
@@ -13,7 +13,7 @@ use Rattle.decimals.specs.declared.number.Reading.the-variants.{Number, TooMany
 use Rattle.texts.specs.Ascii.{ascii}
 use Rattle.rows.specs.declared.generic_joint.Masks.{Masks}
 use Rattle.study_reader.specs.Faults.{faultNumber, faultDigits, faultNoBody, faultNoJoint, faultWholeNumber, faultNoRepeat, faultNested, faultWarm, faultCsv, faultFileName, faultMask, faultSubsteps}
-use Rattle.study_reader.specs.Words.{nextWord, isEmpty, isWord, wholeOf}
+use Rattle.study_reader.specs.Words.{nextWord, isEmpty, isQuote, quotedWord, isWord, wholeOf}
 use Rattle.study_reader.specs.Numbers.{numberIn}
 use Rattle.study_reader.specs.Names.{ABSENT, findBody, findJoint}
 use Rattle.study_reader.specs.Keywords.{placeKeyword, buildKeyword, sweepKeyword, readRowsKeyword, readVelocityKeyword, setTargetsKeyword, repeatKeyword, endKeyword, tableKeyword, masksKeyword, frameKeyword, settleKeyword, callKeyword, axisOf, itemKeyword, lockKeyword, motorModelKeyword}
@@ -221,12 +221,21 @@ settleOf text l v = ofNumber l v (numberIn text v) (λ x. readMost text (withPos
 abbrev pub readSettle : List ℕ → Line → Line
 readSettle text l = settleOf text l (first text l)
 
--- `set_targets FILE`
-unfoldable pub fileOf : Line → Word → Line
-fileOf l w = cond (isEmpty w) (wrong l faultFileName (w .start)) (withWord l w)
+-- a name in quotes, whose first stands at a place: at least one byte, and a quote after it
+unfoldable pub quotedOf : List ℕ → Line → ℕ → Word → Line
+quotedOf text l place w =
+    cond (isEmpty w) (wrong l faultFileName place) (cond (isQuote text (w .end)) (withPlace (withWord l w) (w .end + 1)) (wrong l faultFileName place))
+
+abbrev pub readQuoted : List ℕ → Line → ℕ → Line
+readQuoted text l place = quotedOf text l place (quotedWord text (place + 1))
+
+-- `set_targets FILE`, or the name in quotes
+unfoldable pub fileOf : List ℕ → Line → Word → Line
+fileOf text l w =
+    cond (isEmpty w) (wrong l faultFileName (w .start)) (cond (isQuote text (w .start)) (readQuoted text l (w .start)) (withWord l w))
 
 abbrev pub readFile : List ℕ → Line → Line
-readFile text l = fileOf l (first text l)
+readFile text l = fileOf text l (first text l)
 
 -- the mask that a word names, in the order of document 01: `lock`, `limit`, `motor`, `couple`
 unfoldable pub maskNamed : List ℕ → Word → ℕ

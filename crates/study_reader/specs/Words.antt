@@ -5,7 +5,7 @@ use mathlib.Core.List.{List, [], _∷_}
 use mathlib.Core.Option.{Option, none, some}
 use Prim.Native.Nat.{ℕ, suc, _+_, _-_}
 use lib.Dec.{leb, eqb}
-use lib.ListN.{take, drop}
+use lib.ListN.{take, drop, getD}
 use Rattle.motor_table.specs.WholeNumber.{digitsAfter}
 use Rattle.texts.specs.Ascii.{ascii, LF}
 use Rattle.study_reader.specs.declared.words.Word.{Word}
@@ -56,6 +56,26 @@ nextWord text at = record { start = afterBlanks text at; end = afterBytes text (
 
 unfoldable pub isEmpty : Word → Bool
 isEmpty w = leb (w .end) (w .start)
+
+-- ---- words in quotes, which may hold blanks and `#`
+
+abbrev pub QUOTE : ℕ
+QUOTE = 34
+
+-- a quote, or the end of the line
+unfoldable pub endsQuoted : ℕ → Bool
+endsQuoted b = has (ascii "\"\n") b
+
+abbrev pub afterQuoted : List ℕ → ℕ → ℕ
+afterQuoted text at = at + runOf (λ b. not (endsQuoted b)) (drop at text)
+
+-- a quote stands at a place; past the end of the text none does
+unfoldable pub isQuote : List ℕ → ℕ → Bool
+isQuote text at = eqb (getD text at 0) QUOTE
+
+-- the bytes up to the next quote, or the end of the line
+abbrev pub quotedWord : List ℕ → ℕ → Word
+quotedWord text at = record { start = at; end = afterQuoted text at }
 
 -- where the next line starts
 unfoldable pub nextLine : List ℕ → ℕ → ℕ

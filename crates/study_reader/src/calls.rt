@@ -1,6 +1,8 @@
 // The line of a call: what it asks for.
 ghost use mathlib.Core.Path.{_≡_};
-ghost use Rattle.study_reader.specs.Calls.{bareCall, wrong, withWord, withNumber, withPlace, withPose, withRotation, withWarm, withCsv, withSweeps, readWhole, readBody, readJoint, readPose, readRotation, readBuild, readSubstep, readSubsteps, afterRounds, readSweeps, readFrame, readCsv, readMost, readSettle, readFile, readRepeat, readEnd, readPlace, withBits, masksWith, withMask, withAxes, maskNamed, bitOf, bitsOf, maskWord, maskStep, readMasks, otherArguments, readCall};
+ghost use Prim.Native.Nat.{_<_};
+ghost use lib.ListN.{length};
+ghost use Rattle.study_reader.specs.Calls.{bareCall, wrong, withWord, withNumber, withPlace, withPose, withRotation, withWarm, withCsv, withSweeps, readWhole, readBody, readJoint, readPose, readRotation, readBuild, readSubstep, readSubsteps, afterRounds, readSweeps, readFrame, readCsv, readMost, readSettle, readQuoted, readFile, readRepeat, readEnd, readPlace, withBits, masksWith, withMask, withAxes, maskNamed, bitOf, bitsOf, maskWord, maskStep, readMasks, otherArguments, readCall};
 use crate::faults::CSV;
 use crate::faults::FILE_NAME;
 use crate::faults::MASK;
@@ -38,7 +40,9 @@ use crate::words::Whole;
 use crate::words::Word;
 use crate::words::is;
 use crate::words::is_empty;
+use crate::words::is_quote;
 use crate::words::next_word;
+use crate::words::quoted_word;
 use crate::words::whole_number;
 use floats::sin_cos::rotation_from_angle;
 use rows::generic_joint::Masks;
@@ -412,12 +416,30 @@ fn read_settle(text: &[u8], l: Line) -> Line
     read_most(text, with_pose(l, value_of(x), l.y, v.end))
 }
 
+// A name between the quote at a place and another.
+fn read_quoted(text: &[u8], l: Line, at: usize) -> Line
+    requires { ⌜ at < length (now text) ⌝ }
+    ensures { λ r. ⌜ r ≡ readQuoted (now (text .entry)) l at ⌝ }
+{
+    let w = quoted_word(text, at + 1);
+    if is_empty(w) {
+        return wrong(l, FILE_NAME, at);
+    }
+    if is_quote(text, w.end) {
+        return with_place(with_word(l, w), w.end + 1);
+    }
+    wrong(l, FILE_NAME, at)
+}
+
 fn read_file(text: &[u8], l: Line) -> Line
     ensures { λ r. ⌜ r ≡ readFile (now (text .entry)) l ⌝ }
 {
     let w = next_word(text, l.at);
     if is_empty(w) {
         return wrong(l, FILE_NAME, w.start);
+    }
+    if is_quote(text, w.start) {
+        return read_quoted(text, l, w.start);
     }
     with_word(l, w)
 }

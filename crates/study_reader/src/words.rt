@@ -3,7 +3,7 @@
 ghost use mathlib.Core.Path.{_≡_};
 ghost use Prim.Native.Nat.{_+_};
 ghost use lib.ListN.{drop};
-ghost use Rattle.study_reader.specs.Words.{has, sameBytes, isBlank, endsWord, afterBlanks, afterBytes, nextWord, isEmpty, nextLine, bytesOf, isWord, sameWords, holdsByte, feedsIn, columnAfter, lineOf, columnOf, wholeNumber, wholeOf};
+ghost use Rattle.study_reader.specs.Words.{has, sameBytes, isBlank, endsWord, afterBlanks, afterBytes, nextWord, isEmpty, endsQuoted, afterQuoted, isQuote, quotedWord, nextLine, bytesOf, isWord, sameWords, holdsByte, feedsIn, columnAfter, lineOf, columnOf, wholeNumber, wholeOf};
 
 // The bytes from `start` to before `end`; none of them where the line holds no more words.
 pub struct Word {
@@ -67,7 +67,7 @@ fn same_bytes(a: &[u8], b: &[u8]) -> bool
     true
 }
 
-// ---- words and lines
+// ---- words
 
 fn after_blanks(text: &[u8], from: usize) -> usize
     ensures { λ r. ⌜ r ≡ afterBlanks (now (text .entry)) from ⌝ }
@@ -109,6 +109,51 @@ pub fn is_empty(w: Word) -> bool
 {
     w.end <= w.start
 }
+
+// ---- words in quotes
+
+// A quote, or the end of the line.
+fn ends_quoted(b: u8) -> bool
+    ensures { λ r. ⌜ r ≡ endsQuoted b ⌝ }
+{
+    if b == b'"' {
+        return true;
+    }
+    b == b'\n'
+}
+
+fn after_quoted(text: &[u8], from: usize) -> usize
+    ensures { λ r. ⌜ r ≡ afterQuoted (now (text .entry)) from ⌝ }
+{
+    let mut at = from;
+    while at < text.len() {
+        if ends_quoted(text[at]) {
+            return at;
+        }
+        at += 1;
+    }
+    at
+}
+
+// A quote stands at a place.
+pub fn is_quote(text: &[u8], at: usize) -> bool
+    ensures { λ r. ⌜ r ≡ isQuote (now (text .entry)) at ⌝ }
+{
+    if at < text.len() {
+        return text[at] == b'"';
+    }
+    false
+}
+
+// The bytes from a place up to the next quote, or the end of the line.
+pub fn quoted_word(text: &[u8], start: usize) -> Word
+    ensures { λ r. ⌜ r ≡ quotedWord (now (text .entry)) start ⌝ }
+{
+    let end = after_quoted(text, start);
+    Word { start, end }
+}
+
+// ---- lines
 
 // Where the next line starts.
 pub fn next_line(text: &[u8], from: usize) -> usize

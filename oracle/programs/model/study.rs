@@ -144,6 +144,25 @@ fn words(line: &[u8]) -> Vec<(usize, Vec<u8>)> {
     found
 }
 
+/// The words of a line whose second may be a file's name in quotes: the bytes between them are one word. Without bytes where the line holds one quote alone.
+fn with_quoted(line: &[u8]) -> Vec<(usize, Vec<u8>)> {
+    let mut found = words(line);
+    if found.len() < 2 || found[0].1 != b"set_targets" || found[1].1[0] != b'"' {
+        return found;
+    }
+    let from = found[1].0 + 1;
+    let name = line[from..].split(|&b| b == b'"').next().unwrap().to_vec();
+    let end = from + name.len() + 1;
+    found.truncate(1);
+    if end > line.len() {
+        found.push((from - 1, Vec::new()));
+        return found;
+    }
+    found.push((from - 1, name));
+    found.extend(words(&line[end..]).into_iter().map(|(at, w)| (end + at, w)));
+    found
+}
+
 /// Where a line's comment or end is, past its last word's blanks.
 fn line_end(line: &[u8], from: usize) -> usize {
     let mut at = from;
@@ -413,7 +432,9 @@ impl Draft {
                 2
             }
             "set_targets" => {
-                l.words.get(1).ok_or(l.column(1))?;
+                if l.word(1).is_empty() {
+                    return Err(l.column(1));
+                }
                 2
             }
             "repeat" => {
@@ -488,7 +509,7 @@ fn read(text: &[u8]) -> Result<Draft, (usize, usize)> {
     let mut repeat_column = 0;
     for (i, line) in text.split(|&b| b == b'\n').enumerate() {
         let l = Line {
-            words: words(line),
+            words: with_quoted(line),
             text: line.to_vec(),
         };
         if l.words.is_empty() {

@@ -150,7 +150,7 @@ fn damage(d: &mut Draw, text: &[u8]) -> Vec<u8> {
         let end = (at + 1 + d.below(12) as usize).min(t.len());
         match d.below(7) {
             0 => t[at] ^= 1 << d.below(8),
-            1 => t[at] = b" \t\r\n#-+.e0179xyabdl"[d.below(19) as usize],
+            1 => t[at] = b" \t\r\n#\"-+.e0179xyabdl"[d.below(20) as usize],
             2 => {
                 t.drain(at..end);
             }
