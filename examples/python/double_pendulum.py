@@ -4,9 +4,9 @@ energy by frames of 1, 4 and 16 substeps, which is lost the less the more there 
     tools/library && PYTHONPATH=python python3 examples/python/double_pendulum.py [--energy FILE.png] [--impulses FILE.png] [--animation FILE.gif]
 """
 
-import argparse
 import math
 
+import drawing
 import katydidzinc as kz
 
 FRAMES, DT, SUBSTEPS, SWEEPS, WARM = 1280, 1.0 / 64.0, (1, 4, 16), 8, 1.0
@@ -53,10 +53,7 @@ def off(motion):
 
 
 def main():
-    parser = argparse.ArgumentParser(description="a double pendulum")
-    for what in ("--energy", "--impulses", "--animation"):
-        parser.add_argument(what, metavar="FILE")
-    wanted = parser.parse_args()
+    pictures = drawing.wanted("a double pendulum")
     print(f"two rods of {LENGTH:g} m from {math.degrees(START):g} degrees, {FRAMES} frames of {DT:g} s")
     curves = []
     for substeps in SUBSTEPS:
@@ -70,21 +67,7 @@ def main():
         print(f"  energy: {found[0]:.4f} J at the start, at most {max(found):.4f}, {found[-1]:.4f} at the end")
         print(f"  pins: at most {1000.0 * off(motion):.4f} mm off")
         print(f"  the lower rod ends at {float(x):.4f}, {float(y):.4f} m")
-    if wanted.energy:
-        from matplotlib.figure import Figure
-
-        figure = Figure(figsize=(9.0, 4.0), layout="constrained")
-        axes = figure.subplots()
-        for substeps, motion, found in curves:
-            axes.plot(motion.time, found, linewidth=0.8, label=f"{substeps} substeps")
-        axes.set_xlabel("time, the frame's number times dt [s]")
-        axes.set_ylabel("energy [J]")
-        axes.legend()
-        figure.savefig(wanted.energy)
-    if wanted.impulses:
-        curves[-1][1].plot(wanted.impulses)
-    if wanted.animation:
-        curves[-1][1].animate(wanted.animation)
+    drawing.draw(pictures, curves[-1][1], [(f"{substeps} substeps", motion.time, found) for substeps, motion, found in curves])
 
 
 main()
