@@ -787,10 +787,10 @@ class Table(List[TableRow]):
     """The rows of a built study, a TableRow each; as text by str(), as comma-separated values by csv(), as a frame of pandas by to_pandas()."""
 
     def __str__(self) -> str:
-        lines = ["joint       body 1    body 2    row        impulse  lower bound upper bound at   rule"]
+        lines = ["joint       body 1    body 2    row    unit           impulse lower bound upper bound at   rule"]
         for r in self:
             numbers = " ".join(f"{_shown(x):>11}" for x in (r.impulse, r.lower, r.upper))
-            lines.append(f"{r.joint:<11} {r.body1:<9} {r.body2:<9} {r.id:<6} {numbers} {r.at or '-':<4} {r.rule} {r.definition}")
+            lines.append(f"{r.joint:<11} {r.body1:<9} {r.body2:<9} {r.id:<6} {'1e-6 ' + r.unit:<10} {numbers} {r.at or '-':<4} {r.rule} {r.definition}")
         return "\n".join(lines) + "\n"
 
     def csv(self) -> str:

@@ -317,6 +317,7 @@ class Calls(unittest.TestCase):
         self.assertEqual([r.unit for r in table], ["N*m*s", "N*s", "N*s", "N*m*s"])
         self.assertEqual([r.definition for r in table], ["motorAngularOf", "lockLinearOf", "lockLinearOf", "limitAngularOf"])
         self.assertEqual(len(str(table).splitlines()), 5)
+        self.assertEqual([line[39:49].strip() for line in str(table).splitlines()], ["unit"] + [f"1e-6 {r.unit}" for r in table])
         lines = table.csv().split("\r\n")
         self.assertEqual(len(lines), 6)
         self.assertEqual({line.count(",") for line in lines[:5]}, {13})
