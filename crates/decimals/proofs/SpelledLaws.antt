@@ -9,14 +9,15 @@ use native.Mathlib.Omega.{arith}
 use borrow.Author.Tests.{le-leb, lt-leb, eqb-true, ne-eqb}
 use lib.Dec.{T, leb, ltb, eqb, lit≤, lit<}
 use lib.Pow.{pow-mono, pow-pos, shl-lt}
-use lib.ListN.{length, take, drop, replicate, getD, length-append, List·getD-append, List·getD-eq-default}
+use lib.ListN.{length, take, drop, replicate, getD, length-append, length-replicate, List·getD-append, List·getD-eq-default}
 use lib.Seq.{take-at}
 use lib.Ieee.{Float, nan, inf, fin, binary32, fits, ofBits, toBits}
 use lib.Ieee.Nearest.{closest}
 use lib.Ieee.Bits.{ofBits-toBits, ofBits-fits}
 use lib.Ieee.Fits.{round-fits, cond-fits, inf-fits}
 use Rattle.texts.specs.Ascii.{PLUS, MINUS, POINT, SPACE}
-use Rattle.texts.specs.Written.{Put}
+use Rattle.texts.specs.Sink.{Sunk}
+use Rattle.texts.proofs.SinkLaws.{put-there, end-there}
 use Rattle.texts.specs.Hex.{hexWord}
 use Rattle.floats.specs.Bits.{unitsOf, partsOf}
 use Rattle.floats.specs.declared.bits.Parts.the-variants.{Nan, Infinite}
@@ -123,17 +124,17 @@ abbrev of : List ℕ → ℕ → Spelling
 of bytes len = record { bytes = bytes; len = len }
 
 module _ (t bytes : List ℕ) (n k : ℕ) (long : length t ≡ k) where
-  pub plain-is : drop k (replicate 15 SPACE) ≡ replicate (15 - k) SPACE → Put (replicate 15 SPACE) 0 t bytes n → of bytes n ≡ spelled t
+  pub plain-is : k ≤ 15 → drop k (replicate 15 SPACE) ≡ replicate (15 - k) SPACE → Sunk (replicate 15 SPACE) 0 t bytes n → of bytes n ≡ spelled t
   unfolding spelled
-  plain-is filled p =
-      ap (λ (l : List ℕ). of l n) (p .holds ∙ ap (λ (j : ℕ). t ++ drop j (replicate 15 SPACE)) (zero-add (length t) ∙ long) ∙ ap (λ (l : List ℕ). t ++ l) filled ∙ ap (λ (j : ℕ). t ++ replicate (15 - j) SPACE) (sym long))
-      ∙ ap (of (t ++ replicate (15 - length t) SPACE)) (p .ends ∙ zero-add (length t))
+  plain-is few filled p =
+      ap (λ (l : List ℕ). of l n) (p .holds ∙ put-there (replicate 15 SPACE) 0 t (omega (arith, length-replicate {A = ℕ} 15 SPACE)) (omega arith) ∙ ap (λ (j : ℕ). t ++ drop j (replicate 15 SPACE)) (zero-add (length t) ∙ long) ∙ ap (λ (l : List ℕ). t ++ l) filled ∙ ap (λ (j : ℕ). t ++ replicate (15 - j) SPACE) (sym long))
+      ∙ ap (of (t ++ replicate (15 - length t) SPACE)) (p .ends ∙ end-there 0 t (omega arith) ∙ zero-add (length t))
 
-  pub minus-is : drop k (replicate 14 SPACE) ≡ replicate (14 - k) SPACE → Put (MINUS ∷ replicate 14 SPACE) 1 t bytes n → of bytes n ≡ spelled (MINUS ∷ t)
+  pub minus-is : k ≤ 14 → drop k (replicate 14 SPACE) ≡ replicate (14 - k) SPACE → Sunk (MINUS ∷ replicate 14 SPACE) 1 t bytes n → of bytes n ≡ spelled (MINUS ∷ t)
   unfolding spelled
-  minus-is filled p =
-      ap (λ (l : List ℕ). of l n) (p .holds ∙ ap (λ (j : ℕ). MINUS ∷ t ++ drop j (MINUS ∷ replicate 14 SPACE)) (one-more (length t) ∙ ap suc long) ∙ ap (λ (l : List ℕ). MINUS ∷ t ++ l) filled ∙ ap (λ (j : ℕ). MINUS ∷ t ++ replicate j SPACE) room)
-      ∙ ap (of (MINUS ∷ t ++ replicate (15 - suc (length t)) SPACE)) (p .ends ∙ one-more (length t))
+  minus-is few filled p =
+      ap (λ (l : List ℕ). of l n) (p .holds ∙ put-there (MINUS ∷ replicate 14 SPACE) 1 t (omega (arith, length-replicate {A = ℕ} 14 SPACE)) (omega arith) ∙ ap (λ (j : ℕ). MINUS ∷ t ++ drop j (MINUS ∷ replicate 14 SPACE)) (one-more (length t) ∙ ap suc long) ∙ ap (λ (l : List ℕ). MINUS ∷ t ++ l) filled ∙ ap (λ (j : ℕ). MINUS ∷ t ++ replicate j SPACE) room)
+      ∙ ap (of (MINUS ∷ t ++ replicate (15 - suc (length t)) SPACE)) (p .ends ∙ end-there 1 t (omega arith) ∙ one-more (length t))
     where
       one-more : (j : ℕ) → 1 + j ≡ suc j
       one-more j = omega arith

@@ -19,7 +19,7 @@ use crate::text::number_text;
 use floats::bits::Parts;
 use floats::bits::parts_of;
 use floats::bits::to_bits;
-use texts::put::put_text;
+use texts::sink::put_text;
 
 // Nine digits, and how many places were dropped for them.
 pub struct Nine {

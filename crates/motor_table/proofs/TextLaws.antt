@@ -1,18 +1,15 @@
--- The texts of numbers and records, their lengths, and records put in from the last to the first.
+-- The texts of numbers and records, their lengths, and the records that are left from one on.
 use mathlib.Core.Path.{_≡_, refl, sym, ap, _∙_}
 use mathlib.Core.Bool.{Bool, true, false, cond, _&&_}
 use mathlib.Core.List.{List, [], _∷_, _++_}
 use Prim.Native.Nat.{ℕ, zero, suc, _+_, _-_, _*_, _/_, _^_, _≤_, _<_}
 use native.Mathlib.Nat.{div-add-mod', sub-zero}
-use native.Mathlib.Numerals.{add-one}
 use native.Mathlib.Omega.{arith}
 use borrow.Author.Tests.{le-ltb, le-leb, lt-leb, leb-true}
 use lib.Dec.{leb, ltb}
 use lib.ListN.{length, length-append}
 use Rattle.texts.specs.Ascii.{MINUS}
-use Rattle.texts.specs.Before.{PutBefore}
 use Rattle.texts.specs.Digits.{decimal}
-use Rattle.texts.proofs.BeforeLaws.{put-then, put-room}
 use Rattle.texts.proofs.DigitsLaws.{decimal-short}
 use Rattle.motor_table.specs.WholeNumber.{largestSize}
 use Rattle.motor_table.specs.Text.{numberText, fieldText, lastFieldText, recordText, textOf, wordNumber, entryAt, entriesFrom, recordsIn, entriesOf, isSized}
@@ -37,10 +34,10 @@ number-short n = go (n .negative)
     go true = omega (arith, decimal-short (n .size))
     go false = omega (arith, decimal-short (n .size))
 
-pub field-length : (n : Number) → length (fieldText n) ≡ length (numberText n) + 1
+field-length : (n : Number) → length (fieldText n) ≡ length (numberText n) + 1
 field-length n = length-append (numberText n) _
 
-pub last-field-length : (n : Number) → length (lastFieldText n) ≡ length (numberText n) + 2
+last-field-length : (n : Number) → length (lastFieldText n) ≡ length (numberText n) + 2
 last-field-length n = length-append (numberText n) _
 
 pub record-length : (e : Entry) → length (recordText e) ≡ length (numberText (e .joint)) + length (numberText (e .axis)) + length (numberText (e .thousandths)) + 4
@@ -50,7 +47,7 @@ record-length e =
     let b = length-append (fieldText (e .axis)) (lastFieldText (e .thousandths)) in
     omega (arith, field-length (e .joint), field-length (e .axis), last-field-length (e .thousandths))
 
-pub record Sized (e : Entry) : Type 0 where
+record Sized (e : Entry) : Type 0 where
   pub joint : e .joint .size ≤ largestSize
   pub axis : e .axis .size ≤ largestSize
   pub thousandths : e .thousandths .size ≤ largestSize
@@ -59,7 +56,7 @@ both : (a b : Bool) → (a && b) ≡ true → (a ≡ true) × (b ≡ true)
 both true b h = (refl, h)
 both false b h = (h, cc)
 
-pub sized-parts : (e : Entry) → isSized e ≡ true → Sized e
+sized-parts : (e : Entry) → isSized e ≡ true → Sized e
 sized-parts e h =
     let p = both (leb (e .joint .size) largestSize && leb (e .axis .size) largestSize) (leb (e .thousandths .size) largestSize) h in
     let q = both (leb (e .joint .size) largestSize) (leb (e .axis .size) largestSize) (p .0) in
@@ -91,34 +88,7 @@ high-word w h k =
     ap (λ (n : ℕ). record { negative = true; size = n }) e
     ∙ sym (ap (λ (b : Bool). cond b (record { negative = false; size = w }) (record { negative = true; size = 2 ^ 32 - w })) t)
 
--- ---- the parts of a record, from its end
-module _ (e : Entry) (out : List ℕ) (end : ℕ) (fits : length (recordText e) ≤ end) (inside : end ≤ length out) where
-  last-room : length (lastFieldText (e .thousandths)) + length (fieldText (e .axis)) + length (fieldText (e .joint)) ≤ end
-  last-room =
-      omega (arith, record-length e, field-length (e .joint), field-length (e .axis), last-field-length (e .thousandths))
-
-  pub put-last-room : length (lastFieldText (e .thousandths)) ≤ end
-  put-last-room = omega (arith, last-room)
-
-  module _ (m₁ : List ℕ) (a₁ : ℕ) (p₁ : PutBefore out end (lastFieldText (e .thousandths)) m₁ a₁) where
-    pub put-axis-room : (length (fieldText (e .axis)) ≤ a₁) × (a₁ ≤ length m₁)
-    put-axis-room = put-room out end _ m₁ a₁ _ p₁ (omega (arith, last-room)) inside
-
-    module _ (m₂ : List ℕ) (a₂ : ℕ) (p₂ : PutBefore m₁ a₁ (fieldText (e .axis)) m₂ a₂) where
-      two : PutBefore out end (fieldText (e .axis) ++ lastFieldText (e .thousandths)) m₂ a₂
-      two = put-then out end _ m₁ a₁ _ m₂ a₂ p₁ p₂ (omega (arith, last-room)) inside
-
-      two-length : length (fieldText (e .axis) ++ lastFieldText (e .thousandths)) ≡ length (fieldText (e .axis)) + length (lastFieldText (e .thousandths))
-      two-length = length-append (fieldText (e .axis)) (lastFieldText (e .thousandths))
-
-      pub put-joint-room : (length (fieldText (e .joint)) ≤ a₂) × (a₂ ≤ length m₂)
-      put-joint-room = put-room out end _ m₂ a₂ _ two (omega (arith, last-room, two-length)) inside
-
-      pub put-record : (last : List ℕ) (r : ℕ) → PutBefore m₂ a₂ (fieldText (e .joint)) last r → PutBefore out end (recordText e) last r
-      unfolding recordText
-      put-record last r p₃ = put-then out end _ m₂ a₂ _ last r two p₃ (omega (arith, last-room, two-length)) inside
-
--- ---- records from the last to the first
+-- ---- the records from one on
 
 pub rest-text : List ℕ → ℕ → List ℕ
 rest-text ws k = textOf (entriesFrom ws k (recordsIn ws - k))
@@ -133,35 +103,11 @@ pub rest-all : (ws : List ℕ) → rest-text ws 0 ≡ textOf (entriesOf ws)
 unfolding rest-text
 rest-all ws = ap (λ (n : ℕ). textOf (entriesFrom ws 0 n)) (sub-zero (recordsIn ws))
 
-rest-more : (ws : List ℕ) (k : ℕ) → k < recordsIn ws → rest-text ws k ≡ recordText (entryAt ws k) ++ rest-text ws (k + 1)
+pub rest-more : (ws : List ℕ) (k : ℕ) → k < recordsIn ws → rest-text ws k ≡ recordText (entryAt ws k) ++ rest-text ws (k + 1)
 unfolding rest-text entriesFrom textOf
 rest-more ws k h =
     let z : recordsIn ws - k ≡ suc (recordsIn ws - (k + 1)) = omega arith in
     ap (λ (n : ℕ). textOf (entriesFrom ws k n)) z
-
-pub rest-turn : (ws : List ℕ) (k : ℕ) → 0 < k → k ≤ recordsIn ws → rest-text ws (k - 1) ≡ recordText (entryAt ws (k - 1)) ++ rest-text ws k
-rest-turn ws k h l =
-    let z : k - 1 + 1 ≡ k = omega arith in
-    rest-more ws (k - 1) (omega arith) ∙ ap (λ (j : ℕ). recordText (entryAt ws (k - 1)) ++ rest-text ws j) z
-
-rest-shorter : (ws : List ℕ) (k : ℕ) → k ≤ recordsIn ws → length (rest-text ws k) ≤ length (rest-text ws 0)
-rest-shorter ws zero h = omega arith
-rest-shorter ws (suc k) h =
-    let e : rest-text ws k ≡ recordText (entryAt ws k) ++ rest-text ws (suc k) =
-    rest-more ws k (omega arith) ∙ ap (λ (j : ℕ). recordText (entryAt ws k) ++ rest-text ws j) (add-one k) in
-    omega
-    (arith, rest-shorter ws k (omega arith), ap length e, length-append (recordText (entryAt ws k)) (rest-text ws (suc k)))
-
-pub rest-room : (ws : List ℕ) (k end : ℕ) → 0 < k → k ≤ recordsIn ws → length (textOf (entriesOf ws)) ≤ end
-    → length (recordText (entryAt ws (k - 1))) + length (rest-text ws k) ≤ end
-rest-room ws k end h l f =
-    omega (
-      arith,
-      rest-shorter ws (k - 1) (omega arith),
-      ap length (rest-turn ws k h l),
-      length-append (recordText (entryAt ws (k - 1))) (rest-text ws k),
-      ap length (rest-all ws),
-    )
 
 pub thirds : (n : ℕ) → (n / 3) * 3 ≤ n
 thirds n = omega (arith, div-add-mod' n 3)

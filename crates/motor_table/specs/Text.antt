@@ -70,6 +70,11 @@ granting joints (suc left) (e ∷ es) =
 abbrev pub tableOf : ℕ → List Entry → Table
 tableOf joints es = granting joints mostRecords es
 
+-- the number with which it is refused, or 0
+abbrev pub refusalIn : Table → ℕ
+refusalIn (granted es) = 0
+refusalIn (refused k) = k
+
 -- ---- what the writer answers and leaves
 
 -- the text's length, where n bytes went before, or the refusal

@@ -1,22 +1,20 @@
-// Writing a table: numbers in, one spelling out. Text is put in from its end, so that digits come in the order in which division
-// gives them.
-ghost use mathlib.Core.Bool.{true};
+// Writing a table: numbers in, one spelling out. Each function that puts a text in does so from `at` on, as far as there is room, and answers where it
+// ends.
 ghost use mathlib.Core.Path.{_≡_};
-ghost use mathlib.Core.List.{[], _∷_, _++_};
-ghost use Prim.Native.Nat.{_+_, _-_, _*_, _≤_, _<_};
+ghost use Prim.Native.Nat.{_+_, _*_, _≤_};
 ghost use lib.ListN.{length};
-ghost use Rattle.texts.specs.Ascii.{CR, LF};
-ghost use Rattle.texts.specs.Before.{PutBefore};
-ghost use Rattle.texts.specs.Digits.{decimal};
-ghost use Rattle.motor_table.specs.Text.{numberText, recordText, textOf, wordNumber, entryAt, entriesFrom, entriesOf, recordsIn, isSized, tableOf, writtenAnswer, writtenText, fieldText, lastFieldText};
+ghost use Rattle.texts.specs.Sink.{Sunk};
+ghost use Rattle.motor_table.specs.Text.{numberText, fieldText, recordText, textOf, wordNumber, entryAt, entriesOf, isSized, tableOf, refusalIn, writtenAnswer, writtenText};
 use crate::record::Entry;
 use crate::record::is_present;
 use crate::table::MOST_RECORDS;
 use crate::whole_number::LARGEST_SIZE;
 use crate::whole_number::Number;
-use texts::digits::decimal_length;
-use texts::digits::put_byte;
-use texts::digits::put_digits;
+use texts::sink::has_room;
+use texts::sink::length_to;
+use texts::sink::put_byte;
+use texts::sink::put_decimal;
+use texts::sink::put_text;
 
 pub enum Written {
     // the text's length
@@ -74,118 +72,74 @@ fn is_sized(e: Entry) -> bool
     thousandths.size <= LARGEST_SIZE
 }
 
-// ---- lengths
-
-fn number_length(n: Number) -> usize
-    ensures { λ r. ⌜ r ≡ length (numberText n) ⌝ }
-{
-    let digits = decimal_length(n.size);
-    if n.negative {
-        return digits + 1;
-    }
-    digits
-}
-
-fn entry_length(e: Entry) -> usize
-    requires { ⌜ isSized e ≡ true ⌝ }
-    ensures { λ r. ⌜ r ≡ length (recordText e) ⌝ }
-{
-    let joint = e.joint;
-    let axis = e.axis;
-    let thousandths = e.thousandths;
-    let a = number_length(joint);
-    let b = number_length(axis);
-    let c = number_length(thousandths);
-    a + b + c + 4
-}
-
-// The length of the table's text, or the number with which the table is refused: the first faulty record decides.
-pub fn text_length(table: &[u32], joints: u32) -> Written
-    ensures { λ r. ⌜ r ≡ writtenAnswer 0 (tableOf joints (entriesOf (now (table .entry)))) ⌝ }
+// The number with which a table is refused, or 0: the first faulty record decides.
+fn table_refusal(table: &[u32], joints: u32) -> u32
+    ensures { λ r. ⌜ r ≡ refusalIn (tableOf joints (entriesOf (now (table .entry)))) ⌝ }
 {
     let count = table.len() / 3;
     let mut k: usize = 0;
-    let mut sum: usize = 0;
     while k < count {
         if k == MOST_RECORDS as usize {
-            return Written::Refused(13);
+            return 13;
         }
         let e = entry_at(table, k);
         if !is_sized(e) {
-            return Written::Refused(14);
+            return 14;
         }
         if !is_present(joints, e) {
-            return Written::Refused(15);
+            return 15;
         }
-        sum += entry_length(e);
         k += 1;
     }
-    Written::Length(sum)
+    0
 }
 
-// ---- text out: each function puts a text in front of `end` and answers where it starts
+// ---- text out
 
-pub fn put_number(out: &mut [u8], end: usize, n: Number) -> usize
-    requires { ⌜ (length (numberText n) ≤ end) × (end ≤ length (now out)) ⌝ }
-    ensures { λ r. ⌜ PutBefore (now (out .entry)) end (numberText n) (now (out .exit)) r ⌝ }
+// A minus before a negative number, and its digits.
+pub fn put_number(out: &mut [u8], at: usize, n: Number) -> usize
+    ensures { λ r. ⌜ Sunk (now (out .entry)) at (numberText n) (now (out .exit)) r ⌝ }
 {
     let negative = n.negative;
     let size = n.size;
     if negative {
-        let at = put_digits(&mut *out, end, size);
-        return put_byte(&mut *out, at, b'-');
+        let a = put_byte(&mut *out, at, b'-');
+        return put_decimal(&mut *out, a, size);
     }
-    put_digits(&mut *out, end, size)
+    put_decimal(&mut *out, at, size)
 }
 
-fn put_crlf(out: &mut [u8], end: usize) -> usize
-    requires { ⌜ (2 ≤ end) × (end ≤ length (now out)) ⌝ }
-    ensures { λ r. ⌜ PutBefore (now (out .entry)) end (CR ∷ LF ∷ []) (now (out .exit)) r ⌝ }
+fn put_field(out: &mut [u8], at: usize, n: Number) -> usize
+    ensures { λ r. ⌜ Sunk (now (out .entry)) at (fieldText n) (now (out .exit)) r ⌝ }
 {
-    let at = put_byte(&mut *out, end, b'\n');
-    put_byte(&mut *out, at, b'\r')
+    let a = put_number(&mut *out, at, n);
+    put_byte(&mut *out, a, b',')
 }
 
-fn put_field(out: &mut [u8], end: usize, n: Number) -> usize
-    requires { ⌜ (length (fieldText n) ≤ end) × (end ≤ length (now out)) ⌝ }
-    ensures { λ r. ⌜ PutBefore (now (out .entry)) end (fieldText n) (now (out .exit)) r ⌝ }
-{
-    let at = put_byte(&mut *out, end, b',');
-    put_number(&mut *out, at, n)
-}
-
-fn put_last_field(out: &mut [u8], end: usize, n: Number) -> usize
-    requires { ⌜ (length (lastFieldText n) ≤ end) × (end ≤ length (now out)) ⌝ }
-    ensures { λ r. ⌜ PutBefore (now (out .entry)) end (lastFieldText n) (now (out .exit)) r ⌝ }
-{
-    let at = put_crlf(&mut *out, end);
-    put_number(&mut *out, at, n)
-}
-
-fn put_entry(out: &mut [u8], end: usize, e: Entry) -> usize
-    requires { ⌜ (length (recordText e) ≤ end) × (end ≤ length (now out)) ⌝ }
-    ensures { λ r. ⌜ PutBefore (now (out .entry)) end (recordText e) (now (out .exit)) r ⌝ }
+fn put_record(out: &mut [u8], at: usize, e: Entry) -> usize
+    ensures { λ r. ⌜ Sunk (now (out .entry)) at (recordText e) (now (out .exit)) r ⌝ }
 {
     let joint = e.joint;
     let axis = e.axis;
     let thousandths = e.thousandths;
-    let at = put_last_field(&mut *out, end, thousandths);
-    let before = put_field(&mut *out, at, axis);
-    put_field(&mut *out, before, joint)
+    let a = put_field(&mut *out, at, joint);
+    let b = put_field(&mut *out, a, axis);
+    let c = put_number(&mut *out, b, thousandths);
+    put_text(&mut *out, c, b"\r\n")
 }
 
-fn put_table(table: &[u32], out: &mut [u8], end: usize) -> usize
-    requires { ⌜ (length (textOf (entriesOf (now table))) ≤ end) × (end ≤ length (now out)) ⌝ }
-    ensures { λ r. ⌜ PutBefore (now (out .entry)) end (textOf (entriesOf (now (table .entry)))) (now (out .exit)) r ⌝ }
+fn put_table(table: &[u32], out: &mut [u8]) -> usize
+    ensures { λ r. ⌜ Sunk (now (out .entry)) 0 (textOf (entriesOf (now (table .entry)))) (now (out .exit)) r ⌝ }
 {
-    let mut k = table.len() / 3;
-    let mut at = end;
-    while 0 < k {
-        k -= 1;
+    let count = table.len() / 3;
+    let mut k: usize = 0;
+    let mut end: usize = 0;
+    while k < count {
         let e = entry_at(table, k);
-        at = put_entry(&mut *out, at, e);
+        end = put_record(&mut *out, end, e);
+        k += 1;
     }
-    at
+    end
 }
 
 // Writes a table's text to the front of `out` and answers its length, or writes nothing: where `out` is shorter than the text,
@@ -194,15 +148,14 @@ pub fn write_table(table: &[u32], joints: u32, out: &mut [u8]) -> Written
     ensures { λ r. ⌜ (r ≡ writtenAnswer 0 (tableOf joints (entriesOf (now (table .entry)))))
         × (now (out .exit) ≡ writtenText (now (out .entry)) (tableOf joints (entriesOf (now (table .entry))))) ⌝ }
 {
-    let answer = text_length(table, joints);
-    match answer {
-        Written::Refused(k) => Written::Refused(k),
-        Written::Length(n) => {
-            if n <= out.len() {
-                put_table(table, &mut *out, n);
-                return Written::Length(n);
-            }
-            Written::Length(n)
-        }
+    let refusal = table_refusal(table, joints);
+    if 0 < refusal {
+        return Written::Refused(refusal);
     }
+    let mut none = [0u8; 1];
+    let len = put_table(table, &mut none);
+    if has_room(len, out.len()) {
+        return Written::Length(put_table(table, &mut *out));
+    }
+    Written::Length(length_to(len))
 }

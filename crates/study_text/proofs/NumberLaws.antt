@@ -20,13 +20,12 @@ use Rattle.floats.specs.declared.bits.Parts.{Parts}
 use Rattle.floats.specs.declared.bits.Parts.the-variants as parts
 use Rattle.floats.specs.declared.micro_report.MicroReport.{MicroReport}
 use Rattle.decimals.specs.Spelled.{spelledText}
-use Rattle.texts.specs.Ascii.{MINUS, SPACE}
-use Rattle.texts.specs.Digits.{decimal}
+use Rattle.texts.specs.Ascii.{SPACE}
 use Rattle.texts.specs.Sink.{largestPlace, Sunk}
-use Rattle.texts.proofs.DigitsLaws.{decimal-short}
 use Rattle.texts.proofs.SinkLaws.{sunk-then, sunk-text, place-length}
 use Rattle.motor_table.specs.Text.{numberText}
 use Rattle.motor_table.specs.declared.whole_number.Number.{Number}
+use Rattle.motor_table.proofs.TextLaws.{number-short}
 use Rattle.study_text.specs.Number.{signed, overText, reportText, millionthsText, isOver, impulseText, rightColumn, numberColumn}
 
 -- ---- sign and size
@@ -93,22 +92,6 @@ module _ (z : ℤ) (f : SFits w32 z) (b : Bool) (t : ltZ (toZ w32 (ofZ w32 z)) (
 
 -- ---- a whole number's text
 
-pub number-minus : (n : Number) → n .negative ≡ true → MINUS ∷ decimal (n .size) ≡ numberText n
-unfolding numberText
-number-minus n e = sym (ap (λ (b : Bool). cond b (MINUS ∷ decimal (n .size)) (decimal (n .size))) e)
-
-pub number-plain : (n : Number) → n .negative ≡ false → decimal (n .size) ≡ numberText n
-unfolding numberText
-number-plain n e = sym (ap (λ (b : Bool). cond b (MINUS ∷ decimal (n .size)) (decimal (n .size))) e)
-
-number-short : (n : Number) → n .size ≤ 2 ^ 31 → length (numberText n) < largestPlace
-unfolding numberText
-number-short n h = go (n .negative)
-  where
-    go : (b : Bool) → length (cond b (MINUS ∷ decimal (n .size)) (decimal (n .size))) < largestPlace
-    go true = omega (arith, decimal-short (n .size))
-    go false = omega (arith, decimal-short (n .size))
-
 signed-size : (z : ℤ) → mag z < 2 ^ 31 → signed z .size ≤ 2 ^ 31
 unfolding signed
 signed-size (pos n) h = omega arith
@@ -117,7 +100,7 @@ signed-size (negsuc n) h = omega arith
 -- at the right of its column, with the length from a first run
 module _ (z : ℤ) (f : SFits w32 z) (n : Number) (same : n ≡ signed z) {none none′ : List ℕ} {len : ℕ} (first : Sunk none 0 (numberText n) none′ len) where
   is-short : length (numberText n) < largestPlace
-  is-short = number-short n (subst (λ (m : Number). m .size ≤ 2 ^ 31) (sym same) (signed-size z (f .sfits)))
+  is-short = omega (arith, number-short n, ap (λ (m : Number). m .size) same, signed-size z (f .sfits))
 
   pub right-whole : {out : List ℕ} {at k : ℕ} {m₁ : List ℕ} {a : ℕ} {m₂ : List ℕ} {b : ℕ} {last : List ℕ} {r : ℕ} → k ≡ 15 - len → Sunk out at (replicate k SPACE) m₁ a
       → Sunk m₁ a (numberText n) m₂ b → Sunk m₂ b (SPACE ∷ []) last r → Sunk out at (rightColumn (numberText (signed z))) last r

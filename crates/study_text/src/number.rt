@@ -12,10 +12,10 @@ use floats::bits::Parts;
 use floats::bits::parts_of;
 use floats::micro_report::MicroReport;
 use floats::micro_report::micro_report;
+use motor_table::text::put_number;
 use motor_table::whole_number::Number;
 use texts::sink::put_blanks;
 use texts::sink::put_byte;
-use texts::sink::put_decimal;
 use texts::sink::put_text;
 
 fn signed(n: i32) -> Number
@@ -32,19 +32,6 @@ fn signed(n: i32) -> Number
         negative: false,
         size: n as u32,
     }
-}
-
-// A minus before a negative number, and its digits.
-fn put_number(out: &mut [u8], at: usize, n: Number) -> usize
-    ensures { λ r. ⌜ Sunk (now (out .entry)) at (numberText n) (now (out .exit)) r ⌝ }
-{
-    let negative = n.negative;
-    let size = n.size;
-    if negative {
-        let a = put_byte(&mut *out, at, b'-');
-        return put_decimal(&mut *out, a, size);
-    }
-    put_decimal(&mut *out, at, size)
 }
 
 fn put_over(out: &mut [u8], at: usize, x: f32) -> usize

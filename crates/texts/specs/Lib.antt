@@ -1,6 +1,5 @@
 pub mod Ascii
 pub mod Written
-pub mod Before
 pub mod Digits
 pub mod Hex
 pub mod Sink

@@ -1,5 +1,6 @@
 -- `bits_spelled` meets its contract.
 use mathlib.Core.Path.{_≡_, refl, ap, _∙_}
+use native.Mathlib.Omega.{arith}
 use lib.ListN.{length}
 use Rattle.decimals.specs.Spelled.{spelled}
 use Rattle.decimals.proofs.SpelledLaws.{plain-is}
@@ -23,7 +24,7 @@ returns : tie.Need-returns
 returns c =
     let t = c .before .before .before .before .number-text in
     let long : length (t .result) ≡ 10 = search needs in
-    plain-is (t .result) _ _ 10 long refl (c .before .put-text .ensures) ∙ ap spelled (t .ensures)
+    plain-is (t .result) _ _ 10 long (omega arith) refl (c .before .put-text .ensures) ∙ ap spelled (t .ensures)
 
 pub bits-spelled-spec : {M : Type 1} → statement M
 bits-spelled-spec =

@@ -1,5 +1,6 @@
 -- `signed_text` meets its contract.
 use mathlib.Core.Path.{_≡_, refl, sym, ap, _∙_}
+use native.Mathlib.Omega.{arith}
 use lib.ListN.{length}
 use mathlib.Core.Bool.{Bool}
 use Rattle.decimals.specs.Spelled.{signedText, spelled}
@@ -21,7 +22,7 @@ returns : tie.Need-returns
 returns c =
     let a = c .before .before .before .before .before .before .before .args in
     let long : length (a .t2) ≡ 14 = search needs in
-    minus-is (a .t2) _ _ 14 long refl (c .before .put-text .ensures) ∙ ap (λ (b : Bool). spelled (signedText b (a .t2))) (sym (c .before .before .before .before .before .before .if1 .taken))
+    minus-is (a .t2) _ _ 14 long (omega arith) refl (c .before .put-text .ensures) ∙ ap (λ (b : Bool). spelled (signedText b (a .t2))) (sym (c .before .before .before .before .before .before .if1 .taken))
 
 slice-aggregate-put-text-3 : tie.Need-slice-aggregate-put-text-3
 slice-aggregate-put-text-3 c = search needs
@@ -36,7 +37,7 @@ returns-2 : tie.Need-returns-2
 returns-2 c =
     let a = c .before .before .before .before .before .args in
     let long : length (a .t2) ≡ 14 = search needs in
-    plain-is (a .t2) _ _ 14 long refl (c .before .put-text2 .ensures) ∙ ap (λ (b : Bool). spelled (signedText b (a .t2))) (sym (c .before .before .before .before .if1 .left))
+    plain-is (a .t2) _ _ 14 long (omega arith) refl (c .before .put-text2 .ensures) ∙ ap (λ (b : Bool). spelled (signedText b (a .t2))) (sym (c .before .before .before .before .if1 .left))
 
 pub signed-text-spec : {M : Type 1} → statement M
 signed-text-spec =

@@ -1,22 +1,17 @@
--- `put_field` meets its contract: what follows the number, and the number in front of it.
-use native.Mathlib.Omega.{arith}
-use Rattle.texts.proofs.BeforeLaws.{put-then, put-room}
-use Rattle.motor_table.proofs.TextLaws.{field-length}
+-- `put_field` meets its contract.
+use Rattle.texts.proofs.SinkLaws.{sunk-then}
 use borrow.Author.Needs.{needs}
 use Rattle.motor_table.proofs.text.put_field.Statement.{statement}
 use Rattle.motor_table.proofs.text.put_field.Tie as tie
 
-put-byte-requires : tie.Need-put-byte-requires
-put-byte-requires c κs = (omega (arith, field-length (c .before .before .args .n), c .before .before .pre .0), c .before .before .pre .1)
-
-put-number-requires : tie.Need-put-number-requires
-put-number-requires c κs = put-room _ _ _ _ _ _ (c .before .before .before .put-byte .ensures) (omega (arith, field-length (c .before .before .before .before .before .before .args .n), c .before .before .before .before .before .before .pre .0)) (c .before .before .before .before .before .before .pre .1)
-
-same-length : tie.Need-same-length
-same-length c = search needs
-
 returns : tie.Need-returns
-returns c = put-then _ _ _ _ _ _ _ _ (c .before .before .before .before .before .before .put-byte .ensures) (c .before .before .put-number .ensures) (omega (arith, field-length (c .before .before .before .before .before .before .before .before .before .args .n), c .before .before .before .before .before .before .before .before .before .pre .0)) (c .before .before .before .before .before .before .before .before .before .pre .1)
+returns c = sunk-then (c .before .before .before .before .before .before .put-number .ensures) (c .before .before .put-byte .ensures)
 
 pub put-field-spec : {M : Type 1} → statement M
-put-field-spec = tie.close (tie.spec put-byte-requires put-number-requires same-length returns)
+put-field-spec =
+    tie.close
+    (tie.spec
+    (λ c κs. search needs)
+    (λ c κs. search needs)
+    (λ c. search needs)
+    returns)
