@@ -11,7 +11,7 @@ use Rattle.multibody.specs.Model.{Model}
 use Rattle.multibody.proofs.RuleLaws.{both}
 use Rattle.study_reader.specs.Storage.{numbersSize, wordsSize}
 use Rattle.study_writer.specs.Text.{studyText}
-use Rattle.study_writer.specs.Sink.{printedText}
+use Rattle.study_writer.specs.Printed.{printedText}
 use Rattle.study_writer.specs.ReadBack.{Accepted, Room}
 use Rattle.study_writer.proofs.ReadBackLaws.{read-back}
 use Rattle.study_capi.specs.StudyExports.{isRoom, cleared, clearedWords}

@@ -6,7 +6,7 @@ use mathlib.Core.Bool.{true}
 use mathlib.Core.List.{List}
 use lib.Ieee.{Float}
 use Rattle.multibody.specs.Model.{Model}
-use Rattle.study_writer.specs.Sink.{printedText}
+use Rattle.study_writer.specs.Printed.{printedText}
 use Rattle.study_writer.specs.ReadBack.{AllF32, Accepted, IsRead}
 use Rattle.study_capi.specs.StudyExports.{isRoom, studyRead}
 

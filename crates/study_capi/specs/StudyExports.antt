@@ -75,7 +75,7 @@ readAt text numbers origins words names =
 
 -- ---- the writing
 
--- the model that is handed over; what is written of it is `printedText` of crates/study_writer/specs/Sink.antt
+-- the model that is handed over; what is written of it is `printedText` of crates/study_writer/specs/Printed.antt
 abbrev pub lent : Float → Float → Float → List Float → List ℕ → List Float → Model
 lent dt unit normalized bodies words numbers =
     model (record { dt = dt; «length_unit» = unit; «normalized_max_corrective_velocity» = normalized }) false bodies words numbers

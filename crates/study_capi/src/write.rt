@@ -2,7 +2,7 @@
 ghost use mathlib.Core.Path.{_≡_};
 ghost use lib.ListN.{length};
 ghost use Rattle.texts.specs.Written.{written};
-ghost use Rattle.study_writer.specs.Sink.{printedText};
+ghost use Rattle.study_writer.specs.Printed.{printedText};
 ghost use Rattle.study_capi.specs.StudyExports.{lent};
 use model::header::Header;
 use rows::integration_parameters::IntegrationParameters;

@@ -12,7 +12,7 @@ use Rattle.model.specs.Layout.{masksPlace, modelsPlace, enabledPlace, centerCho
 use Rattle.model.specs.Store.{motorModelOf, enabledOf, dataOf, centerOf, rotationOf, jointOf}
 use Rattle.model.specs.declared.store.LimitCenter.the-variants.{CosineSine, Angle}
 use Rattle.study_reader.proofs.Places.{by-cases}
-use Rattle.study_writer.proofs.Kept.{binary, ternary}
+use Rattle.study_writer.proofs.Agrees.{binary, ternary}
 
 model-same : (v : ℕ) → motorModelOf (binary v) ≡ motorModelOf v
 model-same v = go (eqb v 0)

@@ -1,6 +1,6 @@
 -- What the printed lines of numbers say.
 use mathlib.Core.Path.{_≡_, refl, ap, _∙_}
-use mathlib.Core.Bool.{true, false}
+use mathlib.Core.Bool.{Bool, true, false}
 use mathlib.Core.List.{List, [], _∷_, _++_}
 use Prim.Native.Nat.{ℕ, _+_, _*_, _<_}
 use native.Mathlib.Omega.{arith}
@@ -8,13 +8,13 @@ use borrow.Author.Tests.{eq-eqb, ne-eqb, lt-leb, le-ltb}
 use lib.Dec.{T, eqb}
 use lib.Ieee.{Float, binary32, fits}
 use lib.ListN.{drop}
-use Rattle.model.specs.Layout.{centerPlace}
 use Rattle.study_reader.specs.Words.{nextWord}
 use Rattle.study_reader.specs.Numbers.{numberFault, valueOf}
-use Rattle.study_reader.specs.Keywords.{meaning, field, noField, settingsFields, bodyFields, frameFields, motorFields, softnessFields, axisWords, itemWords, bodyWords, maskWords, jointWords, callWords, readWords, noItem, jointItem, callsItem, settingsKeyword, centerKeyword, centerAngleKeyword, angleKeyword}
-use Rattle.study_reader.specs.Items.{orFault, whole, given1, given2, secondNumber, numbersFrom, givenLine, givenBy, fieldNumbers, wordLine, kindFault, fieldLine, itemLine, lineOf, byPair, byAngle, noCenter}
+use Rattle.study_reader.specs.Keywords.{meaning, field, noField, settingsFields, bodyFields, frameFields, motorFields, softnessFields, axisWords, itemWords, bodyWords, maskWords, jointWords, callWords, readWords, noItem, jointItem, callsItem, settingsKeyword, angleKeyword}
+use Rattle.study_reader.specs.Items.{orFault, whole, given1, given2, secondNumber, numbersFrom, fieldNumbers, wordLine, kindFault, fieldLine, itemLine, lineOf, noCenter}
 use Rattle.study_reader.specs.declared.words.Word.{Word}
 use Rattle.study_reader.specs.declared.draft.State.{State}
+use Rattle.study_reader.specs.declared.fields.Field.{Field}
 use Rattle.study_reader.specs.declared.items.Change.the-variants.{Given}
 use Rattle.study_writer.specs.Text.{Line, wordsOnto, lineOnto, numberWord}
 use Rattle.study_writer.proofs.Lexical.{proper, first-word, further-word, no-word, not-empty}
@@ -58,11 +58,43 @@ pub record FieldWord (kw : List ℕ) (kind place many stride : ℕ) : Type 0 whe
   pub some-kind : eqb kind noItem ≡ false
   pub before-calls : eqb kind callsItem ≡ false
 
--- another word of a joint, by its number
-pub record JointKeyword (kw : List ℕ) (k : ℕ) : Type 0 where
+-- what the reader's tables say of a word, in one
+pub record Seen : Type 0 where
+  pub is-proper : Bool
+  pub call : ℕ
+  pub item : ℕ
+  pub numbers : Field
+
+abbrev pub seen : List ℕ → Seen
+seen kw = record { is-proper = proper kw; call = callTable kw; item = itemTable kw; numbers = meaning (settingsFields ++ (bodyFields ++ (frameFields ++ (motorFields ++ softnessFields)))) noField kw }
+
+abbrev pub fieldSeen : ℕ → ℕ → ℕ → ℕ → Seen
+fieldSeen kind place many stride = record { is-proper = true; call = 0; item = 0; numbers = field kind place many stride }
+
+pub field-word : {kw : List ℕ} (kind : ℕ) {place many stride : ℕ} → eqb kind noItem ≡ false → eqb kind callsItem ≡ false → seen kw ≡ fieldSeen kind place many stride → FieldWord kw kind place many stride
+field-word kind k c e =
+    record {
+      is-proper = ap (λ (s : Seen). s .is-proper) e;
+      no-call = ap (λ (s : Seen). s .call) e;
+      no-item = ap (λ (s : Seen). s .item) e;
+      means = ap (λ (s : Seen). s .numbers) e;
+      some-kind = k;
+      before-calls = c;
+    }
+
+-- another word, by its number
+pub record Keyword (kw : List ℕ) (k : ℕ) : Type 0 where
   pub is-proper : proper kw ≡ true
   pub no-call : callTable kw ≡ 0
   pub means : itemTable kw ≡ k
+
+pub keyword : {kw : List ℕ} {k : ℕ} → _≡_ {A = Bool × ℕ × ℕ} (proper kw, callTable kw, itemTable kw) (true, 0, k) → Keyword kw k
+keyword e =
+    record {
+      is-proper = ap (λ (t : Bool × ℕ × ℕ). t .0) e;
+      no-call = ap (λ (t : Bool × ℕ × ℕ). t .1) e;
+      means = ap (λ (t : Bool × ℕ × ℕ). t .2) e;
+    }
 
 module _ (text names : List ℕ) (st : State) (kw : List ℕ) (ws : Line) (rest : List ℕ) (here : drop (st .at) text ≡ lineOnto (kw ∷ ws) rest) where
   abbrev w : Word
@@ -100,104 +132,9 @@ module _ (text names : List ℕ) (st : State) (kw : List ℕ) (ws : Line) (rest 
         field-line kind place many stride f k ∙ simp (s .bytes, f .means, z, t .bytes, am, le-ltb 2 axis (omega arith))
 
   -- the other words of a joint
-  pub keyword-line : (k : ℕ) → JointKeyword kw k → angleKeyword < k → k < settingsKeyword → st .kind ≡ jointItem → lineOf text names st ≡ wordLine text k w
+  pub keyword-line : (k : ℕ) → Keyword kw k → angleKeyword < k → k < settingsKeyword → st .kind ≡ jointItem → lineOf text names st ≡ wordLine text k w
   unfolding itemLine orFault kindFault
   keyword-line k f l h e =
       let s = first-word text (st .at) kw ws rest here (f .is-proper) in
       item-line (f .is-proper) (f .no-call)
       ∙ simp (s .bytes, f .means, ne-eqb k 0 (λ q. omega arith), lt-leb settingsKeyword k h, lt-leb k angleKeyword l, e)
-
--- ---- whole lines: the numbers, and that each has a place in the text
-
-abbrev pub Given1 : List ℕ → List ℕ → State → ℕ → Float → ℕ → Type 0
-Given1 text names st place x center = (a : ℕ) × (0 < a) × (lineOf text names st ≡ Given (given1 place x a center))
-
-abbrev pub Given2 : List ℕ → List ℕ → State → ℕ → Float → Float → ℕ → Type 0
-Given2 text names st place x y center = (a : ℕ) × (b : ℕ) × (0 < a) × (0 < b) × (lineOf text names st ≡ Given (given2 place x y a b center))
-
-module _ (text names : List ℕ) (st : State) (kw rest : List ℕ) where
-  abbrev w₁ : ℕ
-  w₁ = nextWord text (st .at) .end
-
-  pub one-line : (kind place : ℕ) (x : Float) → drop (st .at) text ≡ lineOnto (kw ∷ numberWord x ∷ []) rest → FieldWord kw kind place 1 0 → st .kind ≡ kind
-      → T (fits binary32 x) → Given1 text names st place x noCenter
-  one-line kind place x h f k fx =
-      let s = first-word text (st .at) kw (numberWord x ∷ []) rest h (f .is-proper) in
-      let v = further-word text w₁ (numberWord x) [] rest (s .after) (number-proper x) in (
-        nextWord text w₁ .start,
-        omega (arith, s .some, v .later),
-        plain-numbers text names st kw (numberWord x ∷ []) rest h kind place 1 0 f k refl ∙ one-number text w₁ place noCenter x fx rest (s .after),
-      )
-
-  pub two-line : (kind place : ℕ) (x y : Float) → drop (st .at) text ≡ lineOnto (kw ∷ numberWord x ∷ numberWord y ∷ []) rest → FieldWord kw kind place 2 0
-      → st .kind ≡ kind → T (fits binary32 x) → T (fits binary32 y) → Given2 text names st place x y noCenter
-  two-line kind place x y h f k fx fy =
-      let s = first-word text (st .at) kw (numberWord x ∷ numberWord y ∷ []) rest h (f .is-proper) in
-      let v = further-word text w₁ (numberWord x) (numberWord y ∷ []) rest (s .after) (number-proper x) in
-      let u = further-word text (nextWord text w₁ .end) (numberWord y) [] rest (v .after) (number-proper y) in (
-        nextWord text w₁ .start,
-        nextWord text (nextWord text w₁ .end) .start,
-        omega (arith, s .some, v .later),
-        omega (arith, v .some, u .later),
-        plain-numbers text names st kw (numberWord x ∷ numberWord y ∷ []) rest h kind place 2 0 f k refl
-            ∙ two-numbers text w₁ place noCenter x fx rest y fy (s .after),
-      )
-
-  module _ (axis : ℕ) (aw : List ℕ) (pa : proper aw ≡ true) (am : meaning axisWords 3 aw ≡ axis) (small : axis < 3) where
-    pub one-axis-line : (kind place stride : ℕ) (x : Float) → drop (st .at) text ≡ lineOnto (kw ∷ aw ∷ numberWord x ∷ []) rest
-        → FieldWord kw kind place 1 stride → eqb stride 0 ≡ false → st .kind ≡ kind → T (fits binary32 x) → Given1 text names st (place + axis * stride) x noCenter
-    one-axis-line kind place stride x h f z k fx =
-        let s = first-word text (st .at) kw (aw ∷ numberWord x ∷ []) rest h (f .is-proper) in
-        let r = further-word text w₁ aw (numberWord x ∷ []) rest (s .after) pa in
-        let at = nextWord text w₁ .end in
-        let v = further-word text at (numberWord x) [] rest (r .after) (number-proper x) in (
-          nextWord text at .start,
-          omega (arith, r .some, v .later),
-          axis-numbers text names st kw (aw ∷ numberWord x ∷ []) rest h axis aw (numberWord x ∷ []) refl pa am small kind place 1 stride f k z
-              ∙ one-number text at (place + axis * stride) noCenter x fx rest (r .after),
-        )
-
-    pub two-axis-line : (kind place stride : ℕ) (x y : Float) → drop (st .at) text ≡ lineOnto (kw ∷ aw ∷ numberWord x ∷ numberWord y ∷ []) rest
-        → FieldWord kw kind place 2 stride → eqb stride 0 ≡ false → st .kind ≡ kind → T (fits binary32 x) → T (fits binary32 y)
-        → Given2 text names st (place + axis * stride) x y noCenter
-    two-axis-line kind place stride x y h f z k fx fy =
-        let s = first-word text (st .at) kw (aw ∷ numberWord x ∷ numberWord y ∷ []) rest h (f .is-proper) in
-        let r = further-word text w₁ aw (numberWord x ∷ numberWord y ∷ []) rest (s .after) pa in
-        let at = nextWord text w₁ .end in
-        let v = further-word text at (numberWord x) (numberWord y ∷ []) rest (r .after) (number-proper x) in
-        let u = further-word text (nextWord text at .end) (numberWord y) [] rest (v .after) (number-proper y) in (
-          nextWord text at .start,
-          nextWord text (nextWord text at .end) .start,
-          omega (arith, r .some, v .later),
-          omega (arith, v .some, u .later),
-          axis-numbers text names st kw (aw ∷ numberWord x ∷ numberWord y ∷ []) rest h axis aw (numberWord x ∷ numberWord y ∷ []) refl pa am small kind place 2 stride f k z
-              ∙ two-numbers text at (place + axis * stride) noCenter x fx rest y fy (r .after),
-        )
-
-  -- a centre, by a pair or by an angle
-  pub center-line : (x y : Float) → drop (st .at) text ≡ lineOnto (kw ∷ numberWord x ∷ numberWord y ∷ []) rest → JointKeyword kw centerKeyword
-      → st .kind ≡ jointItem → T (fits binary32 x) → T (fits binary32 y) → Given2 text names st centerPlace x y byPair
-  unfolding wordLine
-  center-line x y h f k fx fy =
-      let s = first-word text (st .at) kw (numberWord x ∷ numberWord y ∷ []) rest h (f .is-proper) in
-      let v = further-word text w₁ (numberWord x) (numberWord y ∷ []) rest (s .after) (number-proper x) in
-      let u = further-word text (nextWord text w₁ .end) (numberWord y) [] rest (v .after) (number-proper y) in (
-        nextWord text w₁ .start,
-        nextWord text (nextWord text w₁ .end) .start,
-        omega (arith, s .some, v .later),
-        omega (arith, v .some, u .later),
-        keyword-line text names st kw (numberWord x ∷ numberWord y ∷ []) rest h centerKeyword f (omega arith) (omega arith) k
-            ∙ two-numbers text w₁ centerPlace byPair x fx rest y fy (s .after),
-      )
-
-  pub angle-line : (x : Float) → drop (st .at) text ≡ lineOnto (kw ∷ numberWord x ∷ []) rest → JointKeyword kw centerAngleKeyword
-      → st .kind ≡ jointItem → T (fits binary32 x) → Given1 text names st centerPlace x byAngle
-  unfolding wordLine givenLine givenBy whole orFault numberFault valueOf
-  angle-line x h f k fx =
-      let s = first-word text (st .at) kw (numberWord x ∷ []) rest h (f .is-proper) in
-      let v = further-word text w₁ (numberWord x) [] rest (s .after) (number-proper x) in (
-        nextWord text w₁ .start,
-        omega (arith, s .some, v .later),
-        keyword-line text names st kw (numberWord x ∷ []) rest h centerAngleKeyword f (omega arith) (omega arith) k
-            ∙ simp (number-read text (nextWord text w₁) x fx (v .bytes), no-word text (nextWord text w₁ .end) rest (v .after)),
-      )

@@ -24,26 +24,20 @@ use Rattle.study_reader.specs.Storage.{mostItems, settingsWidth, jointsPlace, n
 use Rattle.study_reader.specs.Draft.{Draft, draft, withState, start, puts, settingsDefaults}
 use Rattle.study_reader.specs.Study.{lineRead, linesRead, ended, isLeftOut, centerJoint, centerJoints, readStudy, studyOf, settingsRead, bodiesRead, jointsRead}
 use Rattle.study_reader.specs.declared.draft.State.{State}
-use Rattle.study_reader.specs.Keywords.{noItem, settingsItem, callsItem}
-use Rattle.study_writer.specs.Text.{Line, linesText, settingsLines, bodyLines, bodiesFrom, jointLines, jointsFrom, studyLines, studyText}
-use Rattle.study_writer.specs.Sink.{printedText}
+use Rattle.study_reader.specs.Keywords.{noItem, settingsItem, bodyItem, jointItem, callsItem}
+use Rattle.study_writer.specs.Text.{Line, itemsFrom, linesText, settingsLines, bodyLines, bodiesFrom, jointLines, jointsFrom, studyLines, studyText}
+use Rattle.study_writer.specs.Printed.{printedText}
 use Rattle.study_writer.specs.ReadBack.{AllF32, Accepted, Room, IsRead, ReadsBack, StudyBack, WroteAndRead}
 use Rattle.study_reader.proofs.Places.{by-cases}
 use Rattle.study_writer.proofs.Lexical.{both}
-use Rattle.study_writer.proofs.Steps.{on}
-use Rattle.study_writer.proofs.Kept.{canonical, centersPlace, Kept, kept-cast}
-use Rattle.study_writer.proofs.Opened.{puts-length}
-use Rattle.study_writer.proofs.Ons.{On, canonical-at}
-use Rattle.study_writer.proofs.ItemLaws.{readAll, settings-read, body-read, joint-read}
+use Rattle.study_writer.proofs.Agrees.{modelNumber, body-number, joint-number, Told, canonical, word-at, NumbersAgree, WordsAgree, puts-length}
+use Rattle.study_writer.proofs.Reading.{on, Reading, pass-over}
+use Rattle.study_writer.proofs.Fields.{readAll, all-append}
+use Rattle.study_writer.proofs.ItemLaws.{settings-read, body-read, joint-read}
 use Rattle.study_writer.proofs.Sizes.{Fine, fine-small, study-size}
 use Rattle.study_writer.proofs.Decoded.{center-same, joint-same}
 
 -- ---- line after line
-
-all-append : (text : List ℕ) (a b : List Line) (d : Draft) → readAll text (a ++ b) d ≡ readAll text b (readAll text a d)
-unfolding readAll
-all-append text [] b d = refl
-all-append text (l ∷ ls) b d = all-append text ls b (lineRead text d)
 
 -- so many lines, and then more
 all-lines : (text : List ℕ) (ls : List Line) (n : ℕ) (d : Draft) → linesRead text (length ls + n) d ≡ linesRead text n (readAll text ls d)
@@ -67,120 +61,35 @@ unfolding linesRead
 at-end text d f h zero = refl
 at-end text d f h (suc n) = ap (linesRead text n) (idle text d f h) ∙ at-end text d f h n
 
--- ---- all bodies, all joints
+-- ---- item after item
 
--- between two items
-record Between (text : List ℕ) (m : Model) (nb nj low high done : ℕ) (ls : List Line) (d : Draft) : Type 0 where
+-- between two items: P has how far the reading is, from item to item
+module _ (text : List ℕ) (lines : ℕ → List Line) (n : ℕ) (P : ℕ → List Line → Draft → Type 0)
+    (step : (i : ℕ) (ls : List Line) (d : Draft) → i < n → P i (lines i ++ ls) d → P (i + 1) ls (readAll text (lines i) d)) where
+  items-read : (k i : ℕ) (ls : List Line) (d : Draft) → i + k ≡ n → P i (itemsFrom lines i k ++ ls) d → P n ls (readAll text (itemsFrom lines i k) d)
+  unfolding itemsFrom readAll
+  items-read zero i ls d e b = let z : i ≡ n = omega arith in rw z at b
+  items-read (suc k) i ls d e b =
+      rw (all-append text (lines i) (itemsFrom lines (i + 1) k) d)
+      (items-read k (i + 1) ls (readAll text (lines i) d) (omega arith) (step i (itemsFrom lines (i + 1) k ++ ls) d (omega arith) (rw append-assoc at b)))
+
+record Between (text : List ℕ) (m : Model) (nb nj top done : ℕ) (ls : List Line) (d : Draft) : Type 0 where
   kind : ℕ
   item : ℕ
   no-call : eqb kind callsItem ≡ false
-  on′ : On text m kind item nb nj settingsWidth low high done nj ls d
-
-module _ (text : List ℕ) (small : length text < 4294967295) (m : Model) (f32 : AllF32 m) where
-  abbrev body : ℕ → List Line
-  body i = bodyLines i (num bodyWidth (m .bodies) i)
-
-  abbrev joint : ℕ → List Line
-  joint j = jointLines j (word wordsWidth (m .words) j) (num numbersWidth (m .numbers) j)
-
-  -- one body, and the others
-  next-body : (i : ℕ) (ls : List Line) (d : Draft) → i < mostBodies → Between text m i 0 (i * bodyWidth) 0 0 (body i ++ ls) d
-      → Between text m (i + 1) 0 ((i + 1) * bodyWidth) 0 0 ls (readAll text (body i) d)
-  next-body i ls d h b =
-      let r = body-read text small m f32 i h {ls = ls} {d = d} (b .no-call) (b .on′) in
-      record {
-        kind = 2;
-        item = i;
-        no-call = refl;
-        on′ = record { here = r .here; kept = kept-cast text m settingsWidth (i * bodyWidth + bodyWidth) 0 0 (i + 1) 0 0 ((i + 1) * bodyWidth) 0 0 (readAll text (body i) d) (r .kept) (omega arith) refl refl };
-      }
-
-  first-body : (n i : ℕ) (ls : List Line) (d : Draft) → Between text m i 0 (i * bodyWidth) 0 0 (bodiesFrom (m .bodies) i (suc n) ++ ls) d
-      → Between text m i 0 (i * bodyWidth) 0 0 (body i ++ (bodiesFrom (m .bodies) (i + 1) n ++ ls)) d
-  unfolding bodiesFrom
-  first-body n i ls d b = rw append-assoc at b
-
-  more-bodies : (n i : ℕ) (ls : List Line) (d : Draft)
-      → Between text m (i + 1 + n) 0 ((i + 1 + n) * bodyWidth) 0 0 ls (readAll text (bodiesFrom (m .bodies) (i + 1) n) (readAll text (body i) d))
-      → Between text m (i + suc n) 0 ((i + suc n) * bodyWidth) 0 0 ls (readAll text (bodiesFrom (m .bodies) i (suc n)) d)
-  unfolding bodiesFrom
-  more-bodies n i ls d b =
-      let e : i + suc n ≡ i + 1 + n = omega arith in
-      rw (all-append text (body i) (bodiesFrom (m .bodies) (i + 1) n) d, e) b
-
-  no-bodies : (i : ℕ) (ls : List Line) (d : Draft) → Between text m i 0 (i * bodyWidth) 0 0 (bodiesFrom (m .bodies) i 0 ++ ls) d
-      → Between text m (i + 0) 0 ((i + 0) * bodyWidth) 0 0 ls (readAll text (bodiesFrom (m .bodies) i 0) d)
-  unfolding bodiesFrom readAll
-  no-bodies i ls d b = let e : i + 0 ≡ i = omega arith in rw e b
-
-  bodies-read : (n i : ℕ) (ls : List Line) (d : Draft) → i + n ≤ mostBodies → Between text m i 0 (i * bodyWidth) 0 0 (bodiesFrom (m .bodies) i n ++ ls) d
-      → Between text m (i + n) 0 ((i + n) * bodyWidth) 0 0 ls (readAll text (bodiesFrom (m .bodies) i n) d)
-  bodies-read zero i ls d h b = no-bodies i ls d b
-  bodies-read (suc n) i ls d h b =
-      more-bodies n i ls d
-      (bodies-read n (i + 1) ls (readAll text (body i) d) (omega arith)
-      (next-body i (bodiesFrom (m .bodies) (i + 1) n ++ ls) d (omega arith) (first-body n i ls d b)))
-
-  -- one joint, and the others
-  module _ (nb : ℕ) (fb : nb ≤ mostBodies) where
-    abbrev Joints : ℕ → List Line → Draft → Type 0
-    Joints j ls d = Between text m nb j (nb * bodyWidth) (j * numbersWidth) (j * wordsWidth) ls d
-
-    next-joint : (j : ℕ) (ls : List Line) (d : Draft) → j < mostJoints → Fine m nb j → Joints j (joint j ++ ls) d → Joints (j + 1) ls (readAll text (joint j) d)
-    next-joint j ls d h w b =
-        let r = joint-read text small m f32 nb fb j h {ls = ls} {d = d} (b .no-call) (w .first) (w .second) (w .mask2) (w .mask3) (w .mask4) (w .mask5) (b .on′) in
-        record {
-          kind = 3;
-          item = j;
-          no-call = refl;
-          on′ =
-              record {
-                here = r .here;
-                kept =
-                    kept-cast text m settingsWidth (nb * bodyWidth) (j * numbersWidth + numbersWidth) (j * wordsWidth + wordsWidth) nb (j + 1) (j + 1) (nb * bodyWidth) ((j + 1) * numbersWidth) ((j + 1) * wordsWidth) (readAll text (joint j) d) (r .kept) refl
-                    (omega arith) (omega arith);
-              };
-        }
-
-    first-joint : (n j : ℕ) (ls : List Line) (d : Draft) → Joints j (jointsFrom (m .words) (m .numbers) j (suc n) ++ ls) d
-        → Joints j (joint j ++ (jointsFrom (m .words) (m .numbers) (j + 1) n ++ ls)) d
-    unfolding jointsFrom
-    first-joint n j ls d b = rw append-assoc at b
-
-    more-joints : (n j : ℕ) (ls : List Line) (d : Draft)
-        → Joints (j + 1 + n) ls (readAll text (jointsFrom (m .words) (m .numbers) (j + 1) n) (readAll text (joint j) d))
-        → Joints (j + suc n) ls (readAll text (jointsFrom (m .words) (m .numbers) j (suc n)) d)
-    unfolding jointsFrom
-    more-joints n j ls d b =
-        let e : j + suc n ≡ j + 1 + n = omega arith in
-        rw (all-append text (joint j) (jointsFrom (m .words) (m .numbers) (j + 1) n) d, e) b
-
-    no-joints : (j : ℕ) (ls : List Line) (d : Draft) → Joints j (jointsFrom (m .words) (m .numbers) j 0 ++ ls) d
-        → Joints (j + 0) ls (readAll text (jointsFrom (m .words) (m .numbers) j 0) d)
-    unfolding jointsFrom readAll
-    no-joints j ls d b = let e : j + 0 ≡ j = omega arith in rw e b
-
-    joints-read : (n j : ℕ) (ls : List Line) (d : Draft) → j + n ≤ mostBodies → ((k : ℕ) → k < j + n → Fine m nb k)
-        → Joints j (jointsFrom (m .words) (m .numbers) j n ++ ls) d → Joints (j + n) ls (readAll text (jointsFrom (m .words) (m .numbers) j n) d)
-    joints-read zero j ls d h f b = no-joints j ls d b
-    joints-read (suc n) j ls d h f b =
-        more-joints n j ls d
-        (joints-read n (j + 1) ls (readAll text (joint j) d) (omega arith) (λ k l. f k (omega arith))
-        (next-joint j (jointsFrom (m .words) (m .numbers) (j + 1) n ++ ls) d (omega arith) (f j (omega arith)) (first-joint n j ls d b)))
+  reading : Reading text m kind item nb nj top done ls d
 
 -- ---- the centres are given, so none is left out
 
-module _ (text : List ℕ) (m : Model) (s low high done nb nj cs : ℕ) (d : Draft) (k : Kept text m s low high done nb nj cs d) (few : cs ≤ mostJoints) where
-  no-center : (j : ℕ) → j < cs → centerJoint j d ≡ d
+module _ (m : Model) (nj : ℕ) (d : Draft) (given : (j : ℕ) → j < nj → 0 < getD (d .origins) (jointsPlace + (j * numbersWidth + centerPlace)) 0) (few : nj ≤ mostJoints) where
+  no-center : (j : ℕ) → j < nj → centerJoint j d ≡ d
   unfolding centerJoint isLeftOut jointBase
   no-center j l =
-      let b : jointBase j + centerPlace ≡ centersPlace + numbersWidth * j = ap (λ (t : Bool). cond t (jointsPlace + numbersWidth * j) numbersSize + centerPlace) (lt-ltb j mostItems (omega arith)) ∙ omega arith in
-      let g = k .centers j l in
-      let e : eqb (getD (d .origins) (jointBase j + centerPlace) 0) 0 ≡ false =
-      ap (λ (n : ℕ). eqb (getD (d .origins) n 0) 0) b ∙ ne-eqb (getD (d .origins) (centersPlace + numbersWidth * j) 0) 0 (λ q. omega arith) in
-      simp e
+      let e : jointsPlace + numbersWidth * j + centerPlace ≡ jointsPlace + (j * numbersWidth + centerPlace) = omega arith in
+      let g = given j l in
+      simp (lt-ltb j mostItems (omega arith), e, ne-eqb (getD (d .origins) (jointsPlace + (j * numbersWidth + centerPlace)) 0) 0 (λ q. omega arith))
 
-  no-centers : (n j : ℕ) → j + n ≤ cs → centerJoints j n d ≡ d
+  no-centers : (n j : ℕ) → j + n ≤ nj → centerJoints j n d ≡ d
   unfolding centerJoints
   no-centers zero j l = refl
   no-centers (suc n) j l = ap (centerJoints (j + 1) n) (no-center j (omega arith)) ∙ no-centers n (j + 1) (omega arith)
@@ -207,27 +116,45 @@ fine m j h p =
 
 -- ---- the storage holds the model
 
-module _ (text : List ℕ) (m : Model) (nb nj : ℕ) (d : Draft) (k : Kept text m settingsWidth (nb * bodyWidth) (nj * numbersWidth) (nj * wordsWidth) nb nj nj d) where
-  settings-held : settingsRead d ≡ m .params
-  settings-held = simp (k .settings 0 (omega arith) tt, k .settings 1 (omega arith) tt, k .settings 2 (omega arith) tt)
+module _ (m : Model) (nj : ℕ) (d : Draft) (few : nj ≤ mostJoints) (fb : bodyCount plane (m .bodies) ≤ mostBodies) (n : NumbersAgree m (jointsPlace + numbersWidth * nj) (d .numbers) (d .origins)) (w : WordsAgree m (nj * wordsWidth) (d .words)) where
+  setting-told : (c : ℕ) → c < settingsWidth → Told m c
+  setting-told c h = record { body = λ u. omega arith; joint = λ u. absurd (let z : ⊥ = omega arith in z) }
 
-  body-held : (i c : ℕ) → i < nb → c < bodyWidth → num bodyWidth (bodiesRead d) i c ≡ num bodyWidth (m .bodies) i c
-  body-held i c l r = getD-drop settingsWidth (d .numbers) (i * bodyWidth + c) nan ∙ k .bodies (i * bodyWidth + c) (omega arith) tt
+  settings-held : settingsRead d ≡ m .params
+  unfolding modelNumber
+  settings-held =
+      simp (n .values .has 0 (omega arith) (setting-told 0 (omega arith)), n .values .has 1 (omega arith) (setting-told 1 (omega arith)), n .values .has 2 (omega arith) (setting-told 2 (omega arith)))
+
+  body-held : (i c : ℕ) → i < bodyCount plane (m .bodies) → c < bodyWidth → num bodyWidth (bodiesRead d) i c ≡ num bodyWidth (m .bodies) i c
+  body-held i c l r =
+      getD-drop settingsWidth (d .numbers) (i * bodyWidth + c) nan
+      ∙ n .values .has (settingsWidth + (i * bodyWidth + c)) (omega arith) (record { body = λ u. omega arith; joint = λ u. absurd (let z : ⊥ = omega arith in z) })
+      ∙ body-number m (i * bodyWidth + c) (omega arith)
 
   module _ (j : ℕ) (l : j < nj) where
+    told : (c : ℕ) → c < centerPlace + 1 → Told m (jointsPlace + (j * numbersWidth + c))
+    told c r = record { body = λ u. absurd (let z : ⊥ = omega arith in z); joint = λ u q. absurd (let z : ⊥ = omega arith in z) }
+
+    center-given : 0 < getD (d .origins) (jointsPlace + (j * numbersWidth + centerPlace)) 0
+    center-given = n .given .has (jointsPlace + (j * numbersWidth + centerPlace)) (omega arith) (told centerPlace (omega arith))
+
     number-held : (c : ℕ) → c < centerPlace + 1 → num numbersWidth (jointsRead d) j c ≡ num numbersWidth (m .numbers) j c
-    number-held c r = getD-drop jointsPlace (d .numbers) (j * numbersWidth + c) nan ∙ k .joints (j * numbersWidth + c) (omega arith) (λ q. absurd (let z : ⊥ = omega arith in z))
+    number-held c r =
+        getD-drop jointsPlace (d .numbers) (j * numbersWidth + c) nan
+        ∙ n .values .has (jointsPlace + (j * numbersWidth + c)) (omega arith) (told c r)
+        ∙ joint-number m (j * numbersWidth + c)
 
     last-held : eqb (word wordsWidth (m .words) j centerChoicePlace) 0 ≡ true → num numbersWidth (jointsRead d) j (centerPlace + 1) ≡ num numbersWidth (m .numbers) j (centerPlace + 1)
     last-held e =
-        let s : (j * numbersWidth + (centerPlace + 1)) / numbersWidth ≡ j = omega arith in
+        let p = jointsPlace + (j * numbersWidth + (centerPlace + 1)) in
+        let s : (p - jointsPlace) / numbersWidth ≡ j = omega arith in
         getD-drop jointsPlace (d .numbers) (j * numbersWidth + (centerPlace + 1)) nan
-        ∙ k .joints (j * numbersWidth + (centerPlace + 1)) (omega arith) (λ q. ap (λ (n : ℕ). eqb (getD (m .words) (n * wordsWidth + centerChoicePlace) 0) 0) s ∙ e)
+        ∙ n .values .has p (omega arith)
+        (record { body = λ u. absurd (let z : ⊥ = omega arith in z); joint = λ u q. ap (λ (i : ℕ). eqb (getD (m .words) (i * wordsWidth + centerChoicePlace) 0) 0) s ∙ e })
+        ∙ joint-number m (j * numbersWidth + (centerPlace + 1))
 
     word-held : (c : ℕ) → c < firstRowPlace → word wordsWidth (d .words) j c ≡ canonical c (word wordsWidth (m .words) j c)
-    word-held c r =
-        let s : j * wordsWidth + c ≡ 0 + (j * wordsWidth + c) = omega arith in
-        ap (λ (n : ℕ). getD (d .words) n 0) s ∙ k .words (j * wordsWidth + c) (omega arith) (λ q. omega arith) ∙ canonical-at m j c (omega arith)
+    word-held c r = w .has (j * wordsWidth + c) (omega arith) (λ q. omega arith) ∙ word-at m j c (omega arith)
 
     joint-held : jointAt (d .words) (jointsRead d) j ≡ jointAt (m .words) (m .numbers) j
     unfolding jointAt canonical
@@ -275,24 +202,24 @@ module _ (m : Model) (f32 : AllF32 m) (p : Accepted m) (numbers : List Float) (o
   sizes : (length (studyText m) < 4294967295) × (length (studyLines m) ≤ length (studyText m))
   sizes = study-size m (p .few-bodies) (p .few-joints) (λ k l. fine-small m nb k (p .few-bodies) (joint-fine k l))
 
-  -- before the first line nothing is held
-  start-on : (ls : List Line) → text ≡ linesText ls → On text m noItem 0 0 0 0 0 0 0 0 ls first
-  start-on ls e =
+  -- before the first line
+  start-reading : (ls : List Line) → text ≡ linesText ls → Reading text m noItem 0 0 0 0 0 ls first
+  start-reading ls e =
       record {
-        here = record { at = 0; state = refl; left = e };
-        kept =
+        at = 0;
+        state = refl;
+        left = e;
+        agrees =
             record {
-              numbersRoom = rw (puts-length 0 settingsDefaults numbers) (r .numbers-room);
-              originsRoom = r .origins-room;
-              wordsRoom = r .words-room;
-              namesRoom = r .names-room;
-              settings = λ c q u. absurd (let z : ⊥ = omega arith in z);
-              bodies = λ c q u. absurd (let z : ⊥ = omega arith in z);
-              joints = λ c q u. absurd (let z : ⊥ = omega arith in z);
-              words = λ c q u. absurd (let z : ⊥ = omega arith in z);
-              bodyNames = λ c q. absurd (let z : ⊥ = omega arith in z);
-              jointNames = λ c q. absurd (let z : ⊥ = omega arith in z);
-              centers = λ c q. absurd (let z : ⊥ = omega arith in z);
+              numbers =
+                  record {
+                    values = record { room = rw (puts-length 0 settingsDefaults numbers) (r .numbers-room); has = λ c q. absurd (let z : ⊥ = omega arith in z) };
+                    given = record { room = r .origins-room; has = λ c q. absurd (let z : ⊥ = omega arith in z) };
+                  };
+              words = record { room = r .words-room; has = λ c q. absurd (let z : ⊥ = omega arith in z) };
+              names-room = r .names-room;
+              body-names = λ c q. absurd (let z : ⊥ = omega arith in z);
+              joint-names = λ c q. absurd (let z : ⊥ = omega arith in z);
             };
       }
 
@@ -305,42 +232,59 @@ module _ (m : Model) (f32 : AllF32 m) (p : Accepted m) (numbers : List Float) (o
   abbrev d1 : Draft
   d1 = readAll text (settingsLines (m .params)) first
 
-  after-settings : Between text m 0 0 0 0 0 (bodyPart ++ (jointPart ++ [])) d1
+  abbrev Bodies : ℕ → List Line → Draft → Type 0
+  Bodies i ls d = Between text m i 0 (settingsWidth + bodyWidth * i) 0 ls d
+
+  abbrev Joints : ℕ → List Line → Draft → Type 0
+  Joints j ls d = Between text m nb j (jointsPlace + numbersWidth * j) (j * wordsWidth) ls d
+
+  after-settings : Bodies 0 (bodyPart ++ (jointPart ++ [])) d1
   unfolding studyText studyLines
   after-settings =
       record {
         kind = settingsItem;
         item = 0;
         no-call = refl;
-        on′ =
-            settings-read (studyText m) m f32 {ls = bodyPart ++ (jointPart ++ [])} {d = first}
-            (start-on (settingsLines (m .params) ++ (bodyPart ++ (jointPart ++ []))) (ap (λ (l : List Line). linesText (settingsLines (m .params) ++ (bodyPart ++ l))) (sym (append-nil jointPart))));
+        reading =
+            settings-read (studyText m) m f32
+            (start-reading (settingsLines (m .params) ++ (bodyPart ++ (jointPart ++ []))) (ap (λ (l : List Line). linesText (settingsLines (m .params) ++ (bodyPart ++ l))) (sym (append-nil jointPart))));
       }
 
-  after-bodies : Between text m nb 0 (nb * bodyWidth) 0 0 (jointPart ++ []) (readAll text bodyPart d1)
+  after-bodies : Bodies nb (jointPart ++ []) (readAll text bodyPart d1)
   after-bodies =
-      let e : 0 + nb ≡ nb = omega arith in
-      let b = bodies-read text (sizes .0) m f32 nb 0 (jointPart ++ []) d1 (omega (arith, p .few-bodies)) after-settings in
-      subst (λ (n : ℕ). Between text m n 0 (n * bodyWidth) 0 0 (jointPart ++ []) (readAll text bodyPart d1)) e b
+      items-read text (λ i. bodyLines i (num bodyWidth (m .bodies) i)) nb Bodies
+      (λ i ls d h b. record { kind = bodyItem; item = i; no-call = refl; reading = body-read text (sizes .0) m f32 i (omega (arith, p .few-bodies)) (b .no-call) (b .reading) }) nb 0 (jointPart ++ []) d1 (omega arith)
+      after-settings
 
-  after-joints : Between text m nb nj (nb * bodyWidth) (nj * numbersWidth) (nj * wordsWidth) [] (readAll text jointPart (readAll text bodyPart d1))
+  -- the text says nothing of bodies that the model does not have
+  before-joints : Joints 0 (jointPart ++ []) (readAll text bodyPart d1)
+  before-joints =
+      record {
+        kind = after-bodies .kind;
+        item = after-bodies .item;
+        no-call = after-bodies .no-call;
+        reading = pass-over (after-bodies .reading) jointsPlace 0 (λ q u v t. omega (arith, t .body v)) (λ c u v t. omega arith);
+      }
+
+  after-joints : Joints nj [] (readAll text jointPart (readAll text bodyPart d1))
   after-joints =
-      let e : 0 + nj ≡ nj = omega arith in
-      let b = joints-read text (sizes .0) m f32 nb (p .few-bodies) nj 0 [] (readAll text bodyPart d1) (omega (arith, p .few-joints)) (λ k l. joint-fine k (omega arith)) after-bodies in
-      subst (λ (n : ℕ). Between text m nb n (nb * bodyWidth) (n * numbersWidth) (n * wordsWidth) [] (readAll text jointPart (readAll text bodyPart d1))) e b
+      items-read text (λ j. jointLines j (word wordsWidth (m .words) j) (num numbersWidth (m .numbers) j)) nj Joints
+      (λ j ls d h b. let w = joint-fine j h in
+      record { kind = jointItem; item = j; no-call = refl; reading = joint-read text (sizes .0) m f32 nb (p .few-bodies) j (omega (arith, p .few-joints)) (b .no-call) (w .first) (w .second) (w .mask2) (w .mask3) (w .mask4) (w .mask5) (b .reading) })
+      nj 0 [] (readAll text bodyPart d1) (omega arith) before-joints
 
   last-parts : last ≡ readAll text jointPart (readAll text bodyPart d1)
   unfolding studyLines
   last-parts = all-append text (settingsLines (m .params)) (bodyPart ++ jointPart) first ∙ all-append text bodyPart jointPart d1
 
-  after-all : Between text m nb nj (nb * bodyWidth) (nj * numbersWidth) (nj * wordsWidth) [] last
-  after-all = subst (λ (d : Draft). Between text m nb nj (nb * bodyWidth) (nj * numbersWidth) (nj * wordsWidth) [] d) (sym last-parts) after-joints
+  after-all : Joints nj [] last
+  after-all = subst (Joints nj []) (sym last-parts) after-joints
 
   abbrev state′ : State
   state′ = last .state
 
-  at-state : state′ ≡ on (after-all .on′ .here .at) (after-all .kind) (after-all .item) nb nj
-  at-state = after-all .on′ .here .state
+  at-state : state′ ≡ on (after-all .reading .at) (after-all .kind) (after-all .item) nb nj
+  at-state = after-all .reading .state
 
   all-read : linesRead text (length text) first ≡ last
   unfolding linesText
@@ -349,7 +293,7 @@ module _ (m : Model) (f32 : AllF32 m) (p : Accepted m) (numbers : List Float) (o
       let e : length text ≡ length (studyLines m) + n = omega (arith, sizes .1) in
       ap (λ (c : ℕ). linesRead text c first) e
       ∙ all-lines text (studyLines m) n first
-      ∙ at-end text last (ap (λ (s : State). s .fault) at-state) (after-all .on′ .here .left) n
+      ∙ at-end text last (ap (λ (s : State). s .fault) at-state) (after-all .reading .left) n
 
   -- no `repeat` is open
   no-repeat : ended state′ ≡ state′
@@ -362,21 +306,22 @@ module _ (m : Model) (f32 : AllF32 m) (p : Accepted m) (numbers : List Float) (o
       let j : state′ .joints ≡ nj = ap (λ (s : State). s .joints) at-state in
       ap (λ (d : Draft). centerJoints 0 (ended (d .state) .joints) (withState d (ended (d .state)))) all-read
       ∙ ap (λ (s : State). centerJoints 0 (s .joints) (withState last s)) no-repeat
-      ∙ no-centers text m settingsWidth (nb * bodyWidth) (nj * numbersWidth) (nj * wordsWidth) nb nj nj last (after-all .on′ .kept) (p .few-joints) (state′ .joints) 0 (omega arith)
+      ∙ no-centers m nj last (center-given m nj last (p .few-joints) (p .few-bodies) (after-all .reading .agrees .numbers) (after-all .reading .agrees .words)) (p .few-joints) (state′ .joints) 0 (omega arith)
 
   last-read : IsRead m last
   last-read =
-      let k = after-all .on′ .kept in
+      let n = after-all .reading .agrees .numbers in
+      let w = after-all .reading .agrees .words in
       record {
         no-fault = ap (λ (s : State). s .fault) at-state;
         body-count = ap (λ (s : State). s .bodies) at-state;
         joint-count = ap (λ (s : State). s .joints) at-state;
-        settings = settings-held text m nb nj last k;
-        bodies = body-held text m nb nj last k;
-        joints = joint-held text m nb nj last k;
-        centers = center-held text m nb nj last k;
-        bodies1 = body1-held text m nb nj last k;
-        bodies2 = body2-held text m nb nj last k;
+        settings = settings-held m nj last (p .few-joints) (p .few-bodies) n w;
+        bodies = body-held m nj last (p .few-joints) (p .few-bodies) n w;
+        joints = joint-held m nj last (p .few-joints) (p .few-bodies) n w;
+        centers = center-held m nj last (p .few-joints) (p .few-bodies) n w;
+        bodies1 = body1-held m nj last (p .few-joints) (p .few-bodies) n w;
+        bodies2 = body2-held m nj last (p .few-joints) (p .few-bodies) n w;
       }
 
 pub read-back : ReadsBack
@@ -417,22 +362,24 @@ module _ (m : Model) (f32 : AllF32 m) (numbers : List Float) (origins words name
       (λ t. t)
 
   -- the text stands at the front
-  pub wrote-all : r ≤ length out′ → d ≡ readStudy (take r out′) numbers origins words names → WroteAndRead m (length out) numbers origins words names d
+  pub wrote-all : r ≤ length out′ → d ≡ readStudy (take r out′) numbers origins words names → WroteAndRead m out out′ numbers origins words names d
   unfolding written
   wrote-all l g =
       let fits = fits-there l in
       let h : take r out′ ≡ printedText m = simp (f, e, fits) (take-append-seam (printedText m) (drop (length (printedText m)) out)) in
       let k : d ≡ readStudy (printedText m) numbers origins words names = g ∙ ap (λ (t : List ℕ). readStudy t numbers origins words names) h in
       record {
+        left = f;
         whole = k ∙ sym (ap (λ (t : Bool). readStudy (cond t (printedText m) []) numbers origins words names) fits);
         back = λ p s room. subst (IsRead m) (sym (k ∙ ap (λ (t : List ℕ). readStudy t numbers origins words names) (printed p))) (read-back m f32 p numbers origins words names room);
       }
 
   -- there is none
-  pub wrote-none : length out′ < r → d ≡ readStudy [] numbers origins words names → WroteAndRead m (length out) numbers origins words names d
+  pub wrote-none : length out′ < r → d ≡ readStudy [] numbers origins words names → WroteAndRead m out out′ numbers origins words names d
   wrote-none l g =
       let none = not-there l in
       record {
+        left = f;
         whole = g ∙ sym (ap (λ (t : Bool). readStudy (cond t (printedText m) []) numbers origins words names) none);
         back = λ p s w. absurd (let h = leb-false (length (printedText m)) (length out) none in let z : ⊥ = omega arith in z);
       }

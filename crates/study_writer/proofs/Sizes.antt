@@ -18,7 +18,7 @@ use Rattle.multibody.specs.Model.{Model, mostBodies, mostJoints}
 use Rattle.multibody.specs.Counts.{bodyCount, jointCount}
 use Rattle.model.specs.Planar.{plane}
 use Rattle.texts.specs.Ascii.{ascii}
-use Rattle.study_writer.specs.Text.{Line, wordsOnto, lineOnto, linesText, numberWord, two, one, settingsLines, bodyWord, bodyLines, bodiesFrom, jointWord, endWord, modelWord, enabledWord, centerLine, jointLines, jointsFrom, studyLines, studyText}
+use Rattle.study_writer.specs.Text.{Line, wordsOnto, lineOnto, linesText, numberWord, two, one, settingsLines, bodyWord, bodyLines, itemsFrom, bodiesFrom, jointWord, endWord, modelWord, enabledWord, centerLine, jointLines, jointsFrom, studyLines, studyText}
 use Rattle.study_writer.proofs.Lexical.{both}
 
 -- ---- words of at most 64 bytes, lines of at most four words
@@ -199,7 +199,7 @@ module _ (m : Model) where
   settings-short = simp number-short
 
   bodies-short : (n i : ℕ) → i + n ≤ mostBodies → (shortLines (bodiesFrom (m .bodies) i n) ≡ true) × (length (bodiesFrom (m .bodies) i n) ≡ 7 * n)
-  unfolding bodiesFrom
+  unfolding itemsFrom
   bodies-short zero i h = (refl, omega arith)
   bodies-short (suc n) i h =
       let r = bodies-short n (i + 1) (omega arith) in (
@@ -219,7 +219,7 @@ module _ (m : Model) where
 
   joints-short : (n j : ℕ) → j + n ≤ mostBodies → ((k : ℕ) → k < j + n → Small m k)
       → (shortLines (jointsFrom (m .words) (m .numbers) j n) ≡ true) × (length (jointsFrom (m .words) (m .numbers) j n) ≡ 43 * n)
-  unfolding jointsFrom
+  unfolding itemsFrom
   joints-short zero j h f = (refl, omega arith)
   joints-short (suc n) j h f =
       let r = joints-short n (j + 1) (omega arith) (λ k l. f k (omega arith)) in

@@ -3,11 +3,10 @@ use mathlib.Core.Path.{_≡_, refl, sym, ap, _∙_}
 use mathlib.Core.Logic.{_≢_}
 use mathlib.Core.Bool.{Bool, true, false, cond}
 use mathlib.Core.List.{List, [], _∷_}
-use mathlib.Core.Option.{none, some}
-use Prim.Native.Nat.{ℕ, zero, suc, _+_, _-_, _*_, _/_, _%_, _≤_, _<_}
-use native.Mathlib.Nat.{div-add-mod', mod-lt}
+use mathlib.Core.Option.{some}
+use Prim.Native.Nat.{ℕ, zero, suc, _+_, _-_, _/_, _%_, _≤_, _<_}
 use native.Mathlib.Omega.{arith}
-use borrow.Author.Tests.{le-leb, leb-true, ltb-true, ltb-false, eq-eqb, eqb-true}
+use borrow.Author.Tests.{le-leb, leb-true, ltb-false, eq-eqb, eqb-true}
 use lib.Dec.{T, leb, ltb, eqb}
 use lib.Ieee.{Float, binary32, fits}
 use lib.ListN.{length}
@@ -16,7 +15,6 @@ use Rattle.texts.specs.Hex.{hexDigit, hexWord}
 use Rattle.decimals.specs.Text.{bitsText}
 use Rattle.decimals.specs.declared.number.Reading.the-variants.{Number}
 use Rattle.decimals.proofs.TextLaws.{number-read-back}
-use Rattle.texts.specs.Digits.{isDigit}
 use Rattle.motor_table.specs.WholeNumber.{digitsAfter}
 use Rattle.motor_table.proofs.RoundTrip.{decimal-back}
 use Rattle.texts.specs.Digits.{digit, decimalOnto, decimal}

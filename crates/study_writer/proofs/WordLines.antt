@@ -18,7 +18,7 @@ use Rattle.study_reader.specs.declared.items.Change.the-variants.{JointWord, Op
 use Rattle.study_writer.specs.Text.{lineOnto, modelWord}
 use Rattle.study_writer.proofs.Lexical.{proper, first-word, further-word, no-word}
 use Rattle.study_writer.proofs.Spelling.{decimal-proper, whole-read}
-use Rattle.study_writer.proofs.NumberLines.{itemTable, callTable, JointKeyword, item-line, keyword-line}
+use Rattle.study_writer.proofs.NumberLines.{itemTable, callTable, Keyword, item-line, keyword-line}
 
 abbrev pub Worded : List ℕ → List ℕ → State → ℕ → ℕ → Type 0
 Worded text names st place value = (a : ℕ) × (lineOf text names st ≡ JointWord place value a)
@@ -27,7 +27,7 @@ module _ (text names : List ℕ) (st : State) (kw rest : List ℕ) where
   abbrev w₁ : ℕ
   w₁ = nextWord text (st .at) .end
 
-  pub mask-line : (k m : ℕ) → drop (st .at) text ≡ lineOnto (kw ∷ decimal m ∷ []) rest → JointKeyword kw k → lockKeyword ≤ k → k < motorModelKeyword → st .kind ≡ jointItem
+  pub mask-line : (k m : ℕ) → drop (st .at) text ≡ lineOnto (kw ∷ decimal m ∷ []) rest → Keyword kw k → lockKeyword ≤ k → k < motorModelKeyword → st .kind ≡ jointItem
       → m ≤ 4294967289 → Worded text names st (masksPlace + (k - lockKeyword)) m
   unfolding wordLine maskLine whole
   mask-line k m h f l u e small =
@@ -39,7 +39,7 @@ module _ (text names : List ℕ) (st : State) (kw rest : List ℕ) where
       )
 
   module _ (axis : ℕ) (aw : List ℕ) (pa : proper aw ≡ true) (am : meaning axisWords 3 aw ≡ axis) (small : axis < 3) where
-    model-cases : (t : Bool) → drop (st .at) text ≡ lineOnto (kw ∷ aw ∷ cond t (ascii "acceleration") (ascii "force") ∷ []) rest → JointKeyword kw motorModelKeyword
+    model-cases : (t : Bool) → drop (st .at) text ≡ lineOnto (kw ∷ aw ∷ cond t (ascii "acceleration") (ascii "force") ∷ []) rest → Keyword kw motorModelKeyword
         → st .kind ≡ jointItem → Worded text names st (modelsPlace + axis) (cond t 0 1)
     unfolding wordLine modelLine whole isWord sameBytes
     model-cases true h f e =
@@ -61,12 +61,12 @@ module _ (text names : List ℕ) (st : State) (kw rest : List ℕ) where
               ∙ simp (r .bytes, am, le-ltb 2 axis (omega arith), v .bytes, no-word text (nextWord text at .end) rest (v .after)),
         )
 
-    pub model-line : (m : ℕ) → drop (st .at) text ≡ lineOnto (kw ∷ aw ∷ modelWord m ∷ []) rest → JointKeyword kw motorModelKeyword → st .kind ≡ jointItem
+    pub model-line : (m : ℕ) → drop (st .at) text ≡ lineOnto (kw ∷ aw ∷ modelWord m ∷ []) rest → Keyword kw motorModelKeyword → st .kind ≡ jointItem
         → Worded text names st (modelsPlace + axis) (cond (eqb m 0) 0 1)
     unfolding modelWord
     model-line m h f e = model-cases (eqb m 0) h f e
 
-  pub enabled-line : (k : ℕ) → drop (st .at) text ≡ lineOnto (kw ∷ []) rest → JointKeyword kw k → enabledKeyword ≤ k → k < centerKeyword → st .kind ≡ jointItem
+  pub enabled-line : (k : ℕ) → drop (st .at) text ≡ lineOnto (kw ∷ []) rest → Keyword kw k → enabledKeyword ≤ k → k < centerKeyword → st .kind ≡ jointItem
       → Worded text names st enabledPlace (k - enabledKeyword)
   unfolding wordLine whole
   enabled-line k h f l u e =

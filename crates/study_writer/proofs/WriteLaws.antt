@@ -17,9 +17,10 @@ use Rattle.multibody.specs.Counts.{bodyCount, jointCount}
 use Rattle.model.specs.Planar.{plane}
 use Rattle.model.specs.declared.header.Header.{Header}
 use Rattle.study_writer.specs.Text.{linesText, settingsLines, bodiesFrom, jointsFrom, studyLines, studyText}
-use Rattle.study_writer.specs.Sink.{Sunk, printedText}
+use Rattle.texts.specs.Sink.{Sunk}
+use Rattle.study_writer.specs.Printed.{printedText}
 use Rattle.study_writer.proofs.Sizes.{Small, study-size}
-use Rattle.study_writer.proofs.SinkLaws.{put-there, end-there}
+use Rattle.texts.proofs.SinkLaws.{put-there, end-there}
 
 -- whole records are there
 pub bodies-room : (bodies : List Float) (nb : ℕ) → nb ≡ bodyCount plane bodies → nb * bodyWidth ≤ length bodies

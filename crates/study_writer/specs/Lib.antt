@@ -1,3 +1,3 @@
 pub mod Text
-pub mod Sink
+pub mod Printed
 pub mod ReadBack

@@ -17,11 +17,12 @@ use Rattle.multibody.specs.Counts.{bodyCount, jointCount}
 use Rattle.multibody.specs.Refusals.{bodiesPresent}
 use Rattle.model.specs.Planar.{plane}
 use Rattle.model.specs.Refusals.{masksFit}
+use Rattle.texts.specs.Written.{written}
 use Rattle.study_reader.specs.Storage.{numbersSize, wordsSize, namesSize}
 use Rattle.study_reader.specs.Draft.{Draft}
 use Rattle.study_reader.specs.Study.{readStudy, studyOf, settingsRead, bodiesRead, jointsRead}
 use Rattle.study_writer.specs.Text.{studyText}
-use Rattle.study_writer.specs.Sink.{printedText}
+use Rattle.study_writer.specs.Printed.{printedText}
 
 -- every number is an f32, as the slices that hold them have it
 abbrev pub IsF32 : Float → Type 0
@@ -69,8 +70,9 @@ ReadsBack =
 abbrev pub StudyBack : Type 0
 StudyBack = (m : Model) → AllF32 m → Accepted m → IsRead m (studyOf (studyText m))
 
--- The same of the two functions, `write_study` into so much room and then `read_study` of what it wrote (src/read_back.rt): of any slices whatever, with nothing asked of a caller. What is read is
--- told, and it is the model where the rules let it through, its text fits and the storage is large enough.
-pub record WroteAndRead (m : Model) (room : ℕ) (numbers : List Float) (origins words names : List ℕ) (d : Draft) : Type 0 where
-  pub whole : d ≡ readStudy (cond (leb (length (printedText m)) room) (printedText m) []) numbers origins words names
-  pub back : Accepted m → length (printedText m) ≤ room → Room numbers origins words names → IsRead m d
+-- The same of the two functions, `write_study` into `out` and then `read_study` of what it wrote (src/read_back.rt): of any slices whatever, with nothing asked of a caller. `out` is left as
+-- `write_study` leaves it; what is read is told, and it is the model where the rules let it through, its text fits and the storage is large enough.
+pub record WroteAndRead (m : Model) (out out′ : List ℕ) (numbers : List Float) (origins words names : List ℕ) (d : Draft) : Type 0 where
+  pub left : out′ ≡ written out (printedText m)
+  pub whole : d ≡ readStudy (cond (leb (length (printedText m)) (length out)) (printedText m) []) numbers origins words names
+  pub back : Accepted m → length (printedText m) ≤ length out → Room numbers origins words names → IsRead m d

@@ -54,6 +54,12 @@ oneOf w axis x = ascii w ∷ ascii axis ∷ numberWord x ∷ []
 abbrev pub twoOf : String → String → Float → Float → Line
 twoOf w axis x y = ascii w ∷ ascii axis ∷ numberWord x ∷ numberWord y ∷ []
 
+-- ---- items one after the other: so many from item i on, of which each has its lines
+
+unfoldable pub itemsFrom : (ℕ → List Line) → ℕ → ℕ → List Line
+itemsFrom lines i zero = []
+itemsFrom lines i (suc n) = lines i ++ itemsFrom lines (i + 1) n
+
 -- ---- settings and bodies
 
 unfoldable pub settingsLines : IntegrationParameters → List Line
@@ -80,9 +86,8 @@ bodyLines i f =
     ∷ []
 
 -- so many bodies from body i on
-unfoldable pub bodiesFrom : List Float → ℕ → ℕ → List Line
-bodiesFrom bodies i zero = []
-bodiesFrom bodies i (suc n) = bodyLines i (num bodyWidth bodies i) ++ bodiesFrom bodies (i + 1) n
+abbrev pub bodiesFrom : List Float → ℕ → ℕ → List Line
+bodiesFrom bodies = itemsFrom (λ i. bodyLines i (num bodyWidth bodies i))
 
 -- ---- joints
 
@@ -169,9 +174,8 @@ unfoldable pub jointLines : ℕ → (ℕ → ℕ) → (ℕ → Float) → List L
 jointLines j g f = jointHead j g ++ (frameLines f ++ (allLimitsLines f ++ (allMotorsLines f ++ softnessLines f (g centerChoicePlace))))
 
 -- so many joints from joint j on
-unfoldable pub jointsFrom : List ℕ → List Float → ℕ → ℕ → List Line
-jointsFrom words numbers j zero = []
-jointsFrom words numbers j (suc n) = jointLines j (word wordsWidth words j) (num numbersWidth numbers j) ++ jointsFrom words numbers (j + 1) n
+abbrev pub jointsFrom : List ℕ → List Float → ℕ → ℕ → List Line
+jointsFrom words numbers = itemsFrom (λ j. jointLines j (word wordsWidth words j) (num numbersWidth numbers j))
 
 -- ---- the text
 

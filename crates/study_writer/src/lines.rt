@@ -7,16 +7,31 @@ ghost use Rattle.model.specs.Layout.{numbersWidth, centerPlace};
 ghost use Rattle.texts.specs.Digits.{decimal};
 ghost use Rattle.texts.specs.Ascii.{ascii, SPACE};
 ghost use Rattle.study_writer.specs.Text.{linesText, numberWord, bodyWord, jointWord, endWord, modelWord, enabledWord, centerLine};
-ghost use Rattle.study_writer.specs.Sink.{Sunk};
-use crate::sink::put_byte;
-use crate::sink::put_decimal;
-use crate::sink::put_number;
-use crate::sink::put_text;
-use crate::sink::put_word;
+ghost use Rattle.texts.specs.Sink.{Sunk};
+use decimals::text::number_text;
 use model::layout::CENTER_RE;
 use model::layout::WORLD;
+use texts::sink::put_byte;
+use texts::sink::put_decimal;
+use texts::sink::put_text;
 
-// ---- numbers
+// ---- words and numbers
+
+// A word after a blank.
+fn put_word(out: &mut [u8], at: usize, word: &[u8]) -> usize
+    ensures { λ r. ⌜ Sunk (now (out .entry)) at (SPACE ∷ now (word .entry)) (now (out .exit)) r ⌝ }
+{
+    let a = put_byte(&mut *out, at, b' ');
+    put_text(&mut *out, a, word)
+}
+
+// A number after a blank.
+fn put_number(out: &mut [u8], at: usize, x: f32) -> usize
+    ensures { λ r. ⌜ Sunk (now (out .entry)) at (SPACE ∷ numberWord x) (now (out .exit)) r ⌝ }
+{
+    let word = number_text(x);
+    put_word(&mut *out, at, &word)
+}
 
 pub fn put_one(out: &mut [u8], at: usize, name: &[u8], s: &[f32], o: usize, k: usize) -> usize
     requires { ⌜ o + (k + 1) ≤ length (now s) ⌝ }

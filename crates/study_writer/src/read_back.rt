@@ -1,5 +1,4 @@
 // Print, then read (specs/ReadBack.antt).
-ghost use lib.ListN.{length};
 ghost use Rattle.model.specs.Model.{modelOf};
 ghost use Rattle.study_reader.specs.Draft.{draft};
 ghost use Rattle.study_writer.specs.ReadBack.{WroteAndRead};
@@ -20,7 +19,7 @@ pub fn read_back(
     read_words: &mut [u32],
     names: &mut [u32],
 ) -> State
-    ensures { λ r. ⌜ WroteAndRead (modelOf header (now (bodies .entry)) (now (words .entry)) (now (numbers .entry))) (length (now (out .entry))) (now («read_numbers» .entry)) (now (origins .entry)) (now («read_words» .entry)) (now (names .entry)) (draft r (now («read_numbers» .exit)) (now (origins .exit)) (now («read_words» .exit)) (now (names .exit))) ⌝ }
+    ensures { λ r. ⌜ WroteAndRead (modelOf header (now (bodies .entry)) (now (words .entry)) (now (numbers .entry))) (now (out .entry)) (now (out .exit)) (now («read_numbers» .entry)) (now (origins .entry)) (now («read_words» .entry)) (now (names .entry)) (draft r (now («read_numbers» .exit)) (now (origins .exit)) (now («read_words» .exit)) (now (names .exit))) ⌝ }
 {
     let n = write_study(&mut *out, header, bodies, words, numbers);
     if out.len() < n {

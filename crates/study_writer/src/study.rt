@@ -12,8 +12,9 @@ ghost use Rattle.multibody.specs.Counts.{bodyCount, jointCount};
 ghost use Rattle.model.specs.Planar.{plane};
 ghost use Rattle.texts.specs.Digits.{decimal};
 ghost use Rattle.texts.specs.Ascii.{ascii};
+ghost use Rattle.texts.specs.Sink.{Sunk};
 ghost use Rattle.study_writer.specs.Text.{linesText, numberWord, modelWord, settingsLines, bodyLines, bodiesFrom, jointHead, frameLines, allLimitsLines, allMotorsLines, softnessLines, jointLines, jointsFrom};
-ghost use Rattle.study_writer.specs.Sink.{Sunk, printedText};
+ghost use Rattle.study_writer.specs.Printed.{printedText};
 use crate::lines::put_body_line;
 use crate::lines::put_center;
 use crate::lines::put_enabled;
@@ -24,7 +25,6 @@ use crate::lines::put_one;
 use crate::lines::put_one_of;
 use crate::lines::put_two;
 use crate::lines::put_two_of;
-use crate::sink::put_text;
 use model::header::Header;
 use model::layout::BODY_WIDTH;
 use model::layout::BODY2;
@@ -58,6 +58,7 @@ use model::layout::VELOCITY_ANGULAR;
 use model::layout::VELOCITY_X;
 use model::layout::WORDS_WIDTH;
 use rows::integration_parameters::IntegrationParameters;
+use texts::sink::put_text;
 
 // At most so many bodies and joints have a text: rules 1 and 2.
 const MOST_BODIES: usize = 128;

@@ -1,25 +1,13 @@
 -- `put_joint_word` meets its contract.
 use Rattle.study_writer.specs.Text.{jointWord}
-use Rattle.study_writer.proofs.SinkLaws.{sunk-then}
+use Rattle.texts.proofs.SinkLaws.{sunk-then}
 use borrow.Author.Needs.{needs}
 use Rattle.study_writer.proofs.lines.put_joint_word.Statement.{statement}
 use Rattle.study_writer.proofs.lines.put_joint_word.Tie as tie
-
-slice-aggregate-put-text : tie.Need-slice-aggregate-put-text
-slice-aggregate-put-text c = search needs
-
-put-text-requires : tie.Need-put-text-requires
-put-text-requires c κs = search needs
-
-put-decimal-requires : tie.Need-put-decimal-requires
-put-decimal-requires c κs = search needs
-
-same-length : tie.Need-same-length
-same-length c = search needs
 
 returns : tie.Need-returns
 unfolding jointWord
 returns c = (sunk-then (c .before .before .before .before .before .before .put-text .ensures) (c .before .before .put-decimal .ensures))
 
 pub put-joint-word-spec : {M : Type 1} → statement M
-put-joint-word-spec = tie.close (tie.spec slice-aggregate-put-text put-text-requires put-decimal-requires same-length returns)
+put-joint-word-spec = tie.close (tie.spec (λ c. search needs) (λ c κs. search needs) (λ c κs. search needs) (λ c. search needs) returns)

@@ -1,31 +1,13 @@
 -- `put_model` meets its contract.
 use Rattle.study_writer.specs.Text.{linesText, lineOnto, wordsOnto}
-use Rattle.study_writer.proofs.SinkLaws.{sunk-then}
+use Rattle.texts.proofs.SinkLaws.{sunk-then}
 use borrow.Author.Needs.{needs}
 use Rattle.study_writer.proofs.lines.put_model.Statement.{statement}
 use Rattle.study_writer.proofs.lines.put_model.Tie as tie
-
-slice-aggregate-put-text : tie.Need-slice-aggregate-put-text
-slice-aggregate-put-text c = search needs
-
-put-text-requires : tie.Need-put-text-requires
-put-text-requires c κs = search needs
-
-put-word-requires : tie.Need-put-word-requires
-put-word-requires c κs = search needs
-
-put-model-word-requires : tie.Need-put-model-word-requires
-put-model-word-requires c κs = search needs
-
-put-byte-requires : tie.Need-put-byte-requires
-put-byte-requires c κs = search needs
-
-same-length : tie.Need-same-length
-same-length c = search needs
 
 returns : tie.Need-returns
 unfolding linesText lineOnto wordsOnto
 returns c = (sunk-then (c .before .before .before .before .before .before .before .before .before .before .before .before .before .before .put-text .ensures) (sunk-then (c .before .before .before .before .before .before .before .before .before .before .put-word .ensures) (sunk-then (c .before .before .before .before .before .before .put-model-word .ensures) (c .before .before .put-byte .ensures))))
 
 pub put-model-spec : {M : Type 1} → statement M
-put-model-spec = tie.close (tie.spec slice-aggregate-put-text put-text-requires put-word-requires put-model-word-requires put-byte-requires same-length returns)
+put-model-spec = tie.close (tie.spec (λ c. search needs) (λ c κs. search needs) (λ c κs. search needs) (λ c κs. search needs) (λ c κs. search needs) (λ c. search needs) returns)

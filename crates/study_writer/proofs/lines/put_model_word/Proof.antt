@@ -1,32 +1,15 @@
 -- `put_model_word` meets its contract.
-use Rattle.study_writer.proofs.SinkLaws.{sunk-text, model-acceleration, model-force}
+use Rattle.texts.proofs.SinkLaws.{sunk-text}
+use Rattle.study_writer.proofs.LinesLaws.{model-acceleration, model-force}
 use borrow.Author.Needs.{needs}
 use Rattle.study_writer.proofs.lines.put_model_word.Statement.{statement}
 use Rattle.study_writer.proofs.lines.put_model_word.Tie as tie
 
-slice-aggregate-put-text : tie.Need-slice-aggregate-put-text
-slice-aggregate-put-text c = search needs
-
-put-text-requires : tie.Need-put-text-requires
-put-text-requires c κs = search needs
-
-same-length : tie.Need-same-length
-same-length c = search needs
-
 returns : tie.Need-returns
 returns c = sunk-text (model-acceleration _ (c .before .before .before .before .before .if1 .taken)) (c .before .before .put-text .ensures)
-
-slice-aggregate-put-text-2 : tie.Need-slice-aggregate-put-text-2
-slice-aggregate-put-text-2 c = search needs
-
-put-text-requires-2 : tie.Need-put-text-requires-2
-put-text-requires-2 c κs = search needs
-
-same-length-2 : tie.Need-same-length-2
-same-length-2 c = search needs
 
 returns-2 : tie.Need-returns-2
 returns-2 c = sunk-text (model-force _ (c .before .before .before .before .before .if1 .left)) (c .before .before .put-text2 .ensures)
 
 pub put-model-word-spec : {M : Type 1} → statement M
-put-model-word-spec = tie.close (tie.spec slice-aggregate-put-text put-text-requires same-length returns slice-aggregate-put-text-2 put-text-requires-2 same-length-2 returns-2)
+put-model-word-spec = tie.close (tie.spec (λ c. search needs) (λ c κs. search needs) (λ c. search needs) returns (λ c. search needs) (λ c κs. search needs) (λ c. search needs) returns-2)

@@ -21,30 +21,6 @@ unit-held s = let g = s .good in cc
 velocity-held : (s : tie.Start) → fits binary32 (s .args .header .params .«normalized_max_corrective_velocity») ≡ true
 velocity-held s = let g = s .good in cc
 
-write-study-requires : tie.Need-write-study-requires
-write-study-requires c κs = search needs
-
-slice-aggregate-read-study : tie.Need-slice-aggregate-read-study
-slice-aggregate-read-study c = search needs
-
-read-study-requires : tie.Need-read-study-requires
-read-study-requires c κs = search needs
-
-same-length : tie.Need-same-length
-same-length c = search needs
-
-same-length-2 : tie.Need-same-length-2
-same-length-2 c = search needs
-
-same-length-3 : tie.Need-same-length-3
-same-length-3 c = search needs
-
-same-length-4 : tie.Need-same-length-4
-same-length-4 c = search needs
-
-same-length-5 : tie.Need-same-length-5
-same-length-5 c = search needs
-
 returns : tie.Need-returns
 returns c =
     let s = c .before .before .before .before .before .before .before .before .before .before .before .before .before .before .before .before .before .before .before .before .before .before .before .before .before .before .before in
@@ -56,29 +32,8 @@ returns c =
     let f : AllF32 m = record { dt = subst T (sym (dt-held s)) tt; length-unit = subst T (sym (unit-held s)) tt; max-velocity = subst T (sym (velocity-held s)) tt; bodies = kb; numbers = kn } in
     wrote-none m f _ _ _ _ _ (s .args .out .now) _ _ (ws .write-study .ensures .0) (ws .write-study .ensures .1) (c .before .before .before .before .before .before .before .before .before .before .before .before .before .before .if1 .taken) (c .before .before .before .before .before .before .before .before .read-study .ensures)
 
-slice-reshare-prefix-read-study : tie.Need-slice-reshare-prefix-read-study
-slice-reshare-prefix-read-study c = search needs
-
 slice-aggregate-read-study-2 : tie.Need-slice-aggregate-read-study-2
 slice-aggregate-read-study-2 c = sym (length-take-le _ _ (search needs))
-
-read-study-requires-2 : tie.Need-read-study-requires-2
-read-study-requires-2 c κs = search needs
-
-same-length-6 : tie.Need-same-length-6
-same-length-6 c = search needs
-
-same-length-7 : tie.Need-same-length-7
-same-length-7 c = search needs
-
-same-length-8 : tie.Need-same-length-8
-same-length-8 c = search needs
-
-same-length-9 : tie.Need-same-length-9
-same-length-9 c = search needs
-
-same-length-10 : tie.Need-same-length-10
-same-length-10 c = search needs
 
 returns-2 : tie.Need-returns-2
 returns-2 c =
@@ -95,21 +50,21 @@ pub read-back-spec : {M : Type 1} → statement M
 read-back-spec =
     tie.close
     (tie.spec
-    write-study-requires
-    slice-aggregate-read-study
-    read-study-requires
-    same-length
-    same-length-2
-    same-length-3
-    same-length-4
-    same-length-5
+    (λ c κs. search needs)
+    (λ c. search needs)
+    (λ c κs. search needs)
+    (λ c. search needs)
+    (λ c. search needs)
+    (λ c. search needs)
+    (λ c. search needs)
+    (λ c. search needs)
     returns
-    slice-reshare-prefix-read-study
+    (λ c. search needs)
     slice-aggregate-read-study-2
-    read-study-requires-2
-    same-length-6
-    same-length-7
-    same-length-8
-    same-length-9
-    same-length-10
+    (λ c κs. search needs)
+    (λ c. search needs)
+    (λ c. search needs)
+    (λ c. search needs)
+    (λ c. search needs)
+    (λ c. search needs)
     returns-2)

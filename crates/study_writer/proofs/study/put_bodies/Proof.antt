@@ -4,8 +4,9 @@ use mathlib.Core.Path.{_≡_, ap, _∙_}
 use native.Mathlib.Omega.{arith}
 use lib.ListN.{length}
 use Rattle.study_writer.specs.Text.{linesText, bodiesFrom}
-use Rattle.study_writer.specs.Sink.{Sunk}
-use Rattle.study_writer.proofs.SinkLaws.{sunk-text, bodies-none, bodies-turn, put-length}
+use Rattle.texts.specs.Sink.{Sunk}
+use Rattle.texts.proofs.SinkLaws.{sunk-text, put-length}
+use Rattle.study_writer.proofs.LinesLaws.{items-none, items-turn}
 use borrow.Author.Needs.{needs}
 use Rattle.study_writer.proofs.study.put_bodies.Statement.{statement}
 use Rattle.study_writer.proofs.study.put_bodies.Tie as tie
@@ -17,19 +18,10 @@ abbrev μ-loop : tie.MeasureT-loop
 μ-loop out₀ at n bodies end₀ i₀ out end i = n - i
 
 loop-holds : tie.Need-loop-holds Inv-loop μ-loop
-loop-holds c = (omega arith, bodies-none _ _ _)
-
-put-body-requires : tie.Need-put-body-requires Inv-loop μ-loop
-put-body-requires c κs = search needs
-
-add-i : tie.Need-add-i Inv-loop μ-loop
-add-i c = search needs
-
-loop-less : tie.Need-loop-less Inv-loop μ-loop
-loop-less c = search needs
+loop-holds c = (omega arith, items-none _ _ _)
 
 loop-again : tie.Need-loop-again Inv-loop μ-loop
-loop-again c = (omega arith, bodies-turn _ _ _ _ _ _ _ _ (c .before .before .before .before .before .loop .inv .1) (c .before .before .put-body .ensures))
+loop-again c = (omega arith, items-turn _ _ _ _ (c .before .before .before .before .before .loop .inv .1) (c .before .before .put-body .ensures))
 
 same-length : tie.Need-same-length Inv-loop μ-loop
 same-length c = ap length (c .before .loop .inv .1 .holds) ∙ put-length _ _ _
@@ -38,4 +30,4 @@ returns : tie.Need-returns Inv-loop μ-loop
 returns c = let e : c .before .loop .i ≡ c .before .before .before .before .args .n = omega arith in sunk-text (ap (λ (k : ℕ). linesText (bodiesFrom (c .before .before .before .before .args .bodies .now) 0 k)) e) (c .before .loop .inv .1)
 
 pub put-bodies-spec : {M : Type 1} → statement M
-put-bodies-spec = tie.close (tie.spec Inv-loop μ-loop loop-holds put-body-requires add-i loop-less loop-again same-length returns)
+put-bodies-spec = tie.close (tie.spec Inv-loop μ-loop loop-holds (λ c κs. search needs) (λ c. search needs) (λ c. search needs) loop-again same-length returns)

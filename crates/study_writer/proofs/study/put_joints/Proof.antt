@@ -4,8 +4,9 @@ use mathlib.Core.Path.{_≡_, ap, _∙_}
 use native.Mathlib.Omega.{arith}
 use lib.ListN.{length}
 use Rattle.study_writer.specs.Text.{linesText, jointsFrom}
-use Rattle.study_writer.specs.Sink.{Sunk}
-use Rattle.study_writer.proofs.SinkLaws.{sunk-text, joints-none, joints-turn, put-length}
+use Rattle.texts.specs.Sink.{Sunk}
+use Rattle.texts.proofs.SinkLaws.{sunk-text, put-length}
+use Rattle.study_writer.proofs.LinesLaws.{items-none, items-turn}
 use borrow.Author.Needs.{needs}
 use Rattle.study_writer.proofs.study.put_joints.Statement.{statement}
 use Rattle.study_writer.proofs.study.put_joints.Tie as tie
@@ -17,19 +18,10 @@ abbrev μ-loop : tie.MeasureT-loop
 μ-loop out₀ at n words s end₀ j₀ out end j = n - j
 
 loop-holds : tie.Need-loop-holds Inv-loop μ-loop
-loop-holds c = (omega arith, joints-none _ _ _ _)
-
-put-joint-requires : tie.Need-put-joint-requires Inv-loop μ-loop
-put-joint-requires c κs = search needs
-
-add-j : tie.Need-add-j Inv-loop μ-loop
-add-j c = search needs
-
-loop-less : tie.Need-loop-less Inv-loop μ-loop
-loop-less c = search needs
+loop-holds c = (omega arith, items-none _ _ _)
 
 loop-again : tie.Need-loop-again Inv-loop μ-loop
-loop-again c = (omega arith, joints-turn _ _ _ _ _ _ _ _ _ (c .before .before .before .before .before .loop .inv .1) (c .before .before .put-joint .ensures))
+loop-again c = (omega arith, items-turn _ _ _ _ (c .before .before .before .before .before .loop .inv .1) (c .before .before .put-joint .ensures))
 
 same-length : tie.Need-same-length Inv-loop μ-loop
 same-length c = ap length (c .before .loop .inv .1 .holds) ∙ put-length _ _ _
@@ -38,4 +30,4 @@ returns : tie.Need-returns Inv-loop μ-loop
 returns c = let e : c .before .loop .j ≡ c .before .before .before .before .before .args .n = omega arith in sunk-text (ap (λ (k : ℕ). linesText (jointsFrom (c .before .before .before .before .before .args .words .now) (c .before .before .before .before .before .args .s .now) 0 k)) e) (c .before .loop .inv .1)
 
 pub put-joints-spec : {M : Type 1} → statement M
-put-joints-spec = tie.close (tie.spec Inv-loop μ-loop loop-holds put-joint-requires add-j loop-less loop-again same-length returns)
+put-joints-spec = tie.close (tie.spec Inv-loop μ-loop loop-holds (λ c κs. search needs) (λ c. search needs) (λ c. search needs) loop-again same-length returns)
