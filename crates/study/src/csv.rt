@@ -1,7 +1,5 @@
 // The tables of several studies as one: comma-separated values (RFC 4180) under one heading, with the study's file, the line of the call and the number of
 // the table in front of what `table csv` prints.
-use crate::counts::is_swept;
-use crate::counts::motors_at;
 use crate::out::out;
 use crate::out::out_millionths;
 use crate::out::out_number;
@@ -9,6 +7,7 @@ use crate::out::out_part;
 use crate::table::Heading;
 use crate::table::Line;
 use crate::table::Values;
+use crate::table::heading_of;
 use crate::table::out_heading;
 use crate::table::reaction_line;
 use crate::table::text_joint;
@@ -22,9 +21,11 @@ use model::reactions::residual_at;
 use rows::joint_velocity_constraint::Rows;
 use rows::joint_velocity_constraint::SolverVel;
 use rows::row_ids::RowIds;
+use study_reader::draft::State;
 use study_reader::names::body_name;
 use study_reader::words::Word;
 use study_reader::words::line_of;
+use study_run::motors::Motors;
 use study_text::csv_reaction::write_csv_reaction_heading;
 
 // What is printed of a study: all that its calls print, or at each table its rows, its reactions or its velocities alone.
@@ -120,9 +121,9 @@ pub fn out_csv_heading(kind: u32) {
 
 // ---- rows
 
-fn out_motors(counts: &[u8], joint: u32) {
-    if is_swept(counts) {
-        out_number(motors_at(counts, joint) as u64);
+fn out_motors(h: Heading) {
+    if h.swept {
+        out_number(h.motors as u64);
     } else {
         out(b"-");
     }
@@ -135,7 +136,6 @@ fn row_records(
     names: &[u32],
     bodies: &[f32],
     words: &[u32],
-    counts: &[u8],
     t: Table,
     h: Heading,
     named: RowIds,
@@ -156,7 +156,7 @@ fn row_records(
                 residual: residual_at(bodies, words, row, joint),
             };
             out_front(name, text, t);
-            out_motors(counts, h.joint);
+            out_motors(h);
             text_joint(text, names, h, Line::Row(values));
         }
         i += 1;
@@ -164,7 +164,7 @@ fn row_records(
 }
 
 // What one joint has in a table.
-pub fn joint_records(
+fn joint_records(
     name: &[u8],
     text: &[u8],
     names: &[u32],
@@ -173,20 +173,19 @@ pub fn joint_records(
     words: &[u32],
     numbers: &[f32],
     rows: &[f32],
-    counts: &[u8],
     t: Table,
     h: Heading,
     kind: u32,
 ) {
     if kind == REACTIONS {
         out_front(name, text, t);
-        reaction_line(text, names, header, bodies, words, numbers, rows, counts, h);
+        reaction_line(text, names, header, bodies, words, numbers, rows, h);
         return;
     }
     let read = read_rows(header, bodies, words, numbers, rows, h.joint);
     let named = read.ids;
     let made = read.rows;
-    row_records(name, text, names, bodies, words, counts, t, h, named, made);
+    row_records(name, text, names, bodies, words, t, h, named, made);
 }
 
 // ---- velocities
@@ -243,7 +242,7 @@ fn velocity_record(
 }
 
 // The velocities of the first so many bodies.
-pub fn velocity_records(
+fn velocity_records(
     name: &[u8],
     text: &[u8],
     names: &[u32],
@@ -259,4 +258,85 @@ pub fn velocity_records(
         velocity_record(name, text, names, header, bodies, words, numbers, t, i);
         i += 1;
     }
+}
+
+// ---- a table
+
+fn all_records(
+    name: &[u8],
+    text: &[u8],
+    names: &[u32],
+    header: Header,
+    bodies: &[f32],
+    words: &[u32],
+    numbers: &[f32],
+    rows: &[f32],
+    motors: Motors,
+    joints: u32,
+    t: Table,
+    kind: u32,
+) {
+    let mut j: u32 = 0;
+    while j < joints {
+        let h = heading_of(words, motors, j, true);
+        joint_records(
+            name,
+            text,
+            names,
+            header,
+            bodies,
+            words,
+            numbers,
+            rows,
+            t,
+            h,
+            kind,
+        );
+        j += 1;
+    }
+}
+
+// The records of one kind.
+pub fn record_table(
+    name: &[u8],
+    text: &[u8],
+    names: &[u32],
+    header: Header,
+    bodies: &[f32],
+    words: &[u32],
+    numbers: &[f32],
+    rows: &[f32],
+    motors: Motors,
+    st: State,
+    t: Table,
+    kind: u32,
+) {
+    if kind == VELOCITIES {
+        velocity_records(
+            name,
+            text,
+            names,
+            header,
+            bodies,
+            words,
+            numbers,
+            t,
+            st.bodies,
+        );
+        return;
+    }
+    all_records(
+        name,
+        text,
+        names,
+        header,
+        bodies,
+        words,
+        numbers,
+        rows,
+        motors,
+        st.joints,
+        t,
+        kind,
+    );
 }

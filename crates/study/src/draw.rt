@@ -2,13 +2,19 @@
 // each other, the world as ground, stops as arcs and bars, velocities as arrows, a bar for the scale. The labels stand in a column, each at the end of
 // a line from what it names. The larger side of what is drawn is 8000 units; numbers are written as millionths, so that a unit is a millionth.
 use crate::out::out;
+use crate::out::out_line;
 use crate::out::out_millionths;
 use crate::out::out_part;
+use crate::records::body_at;
+use crate::records::body_number;
+use crate::records::frame1_at;
+use crate::records::frame1_rotation;
+use crate::records::frame2_at;
+use crate::records::frame2_rotation;
+use crate::records::joint_number;
+use crate::records::joint_word;
 use crate::scale::out_scale;
 use crate::table::out_id;
-use crate::warnings::body_at;
-use crate::warnings::frame_at;
-use crate::warnings::frame_rotation;
 use crate::xml::out_escaped;
 use decimals::spelled::spelled;
 use floats::rotation_ops::Rotation;
@@ -22,12 +28,6 @@ use rows::row_ids::RowIds;
 use rows::row_ids::row_ids;
 use study_reader::names::body_name;
 use study_reader::names::joint_name;
-use study_reader::storage::NUMBERS;
-use study_reader::storage::body_base;
-use study_reader::storage::joint_base;
-use study_reader::storage::number_at;
-use study_reader::storage::word_at;
-use study_reader::storage::words_base;
 use study_reader::words::Word;
 
 // ---- the part of the plane that is drawn
@@ -97,22 +97,6 @@ fn all_bodies(draft: &[f32], bodies: u32) -> Frame {
     f
 }
 
-fn frame1_at(draft: &[f32], words: &[u32], j: u32) -> Vector {
-    let o = words_base(j);
-    if NUMBERS <= o {
-        return Vector { x: 0.0, y: 0.0 };
-    }
-    frame_at(draft, j, 2, word_at(words, o))
-}
-
-fn frame2_at(draft: &[f32], words: &[u32], j: u32) -> Vector {
-    let o = words_base(j);
-    if NUMBERS <= o {
-        return Vector { x: 0.0, y: 0.0 };
-    }
-    frame_at(draft, j, 6, word_at(words, o + 1))
-}
-
 fn all_joints(draft: &[f32], words: &[u32], joints: u32, from: Frame) -> Frame {
     let mut f = from;
     let mut j: u32 = 0;
@@ -169,78 +153,118 @@ fn beside(p: Vector, x: f32, y: f32) -> Vector {
 
 // ---- elements
 
-fn attribute(name: &[u8], x: f32) {
-    out(name);
-    out(b"=\"");
+// What stands before a number of an element, and the classes of elements: lines of one text.
+const LINE: u32 = 0;
+
+const CIRCLE: u32 = 4;
+
+const RECT: u32 = 7;
+
+const Y: u32 = 8;
+
+const WIDTH: u32 = 9;
+
+const HEIGHT: u32 = 10;
+
+const PATH: u32 = 11;
+
+const BESIDE: u32 = 12;
+
+const ARC: u32 = 13;
+
+// The flags of an arc: counterclockwise, clockwise, and counterclockwise by more than half a circle.
+const COUNTER: u32 = 14;
+
+const CLOCKWISE: u32 = 15;
+
+const LARGE: u32 = 16;
+
+const TEXT: u32 = 17;
+
+const CLASS: u32 = 18;
+
+const GROUND: u32 = 19;
+
+const NEEDLE: u32 = 20;
+
+const STOP: u32 = 21;
+
+const TIE: u32 = 22;
+
+const BETWEEN: u32 = 23;
+
+const RING: u32 = 24;
+
+const JOINT: u32 = 25;
+
+const BODY: u32 = 26;
+
+const VELOCITY: u32 = 27;
+
+const LEADER: u32 = 28;
+
+const SCALE: u32 = 29;
+
+fn piece(k: u32) {
+    out_line(
+        b"<line x1=\"\n\" y1=\"\n\" x2=\"\n\" y2=\"\n<circle cx=\"\n\" cy=\"\n\" r=\"\n<rect x=\"\n\" y=\"\n\" width=\"\n\" height=\"\n<path d=\"M \n \n A \n 0 0 0 \n 0 0 1 \n 0 1 0 \n<text x=\"\n\" class=\"\nground\nneedle\nstop\ntie\nbetween\nring\njoint\nbody\nvelocity\nleader\nscale\n",
+        k,
+    );
+}
+
+// A piece and the number after it.
+fn put(k: u32, x: f32) {
+    piece(k);
     out_millionths(inside(x));
-    out(b"\" ");
 }
 
-fn out_point(p: Vector) {
-    out_millionths(inside(p.x));
-    out(b" ");
-    out_millionths(inside(p.y));
-    out(b" ");
-}
-
-fn line(from: Vector, to: Vector, class: &[u8]) {
-    out(b"<line ");
-    attribute(b"x1", from.x);
-    attribute(b"y1", from.y);
-    attribute(b"x2", to.x);
-    attribute(b"y2", to.y);
-    out(b"class=\"");
-    out(class);
+fn end_element(class: u32) {
+    piece(CLASS);
+    piece(class);
     out(b"\"/>\n");
 }
 
-fn circle(p: Vector, r: f32, class: &[u8]) {
-    out(b"<circle ");
-    attribute(b"cx", p.x);
-    attribute(b"cy", p.y);
-    attribute(b"r", r);
-    out(b"class=\"");
-    out(class);
-    out(b"\"/>\n");
+fn line(from: Vector, to: Vector, class: u32) {
+    put(LINE, from.x);
+    put(LINE + 1, from.y);
+    put(LINE + 2, to.x);
+    put(LINE + 3, to.y);
+    end_element(class);
+}
+
+fn circle(p: Vector, r: f32, class: u32) {
+    put(CIRCLE, p.x);
+    put(CIRCLE + 1, p.y);
+    put(CIRCLE + 2, r);
+    end_element(class);
 }
 
 fn square(p: Vector) {
-    out(b"<rect ");
-    attribute(b"x", p.x - units(70.0));
-    attribute(b"y", p.y - units(70.0));
-    attribute(b"width", units(140.0));
-    attribute(b"height", units(140.0));
-    out(b"class=\"joint\"/>\n");
+    put(RECT, p.x - units(70.0));
+    put(Y, p.y - units(70.0));
+    put(WIDTH, units(140.0));
+    put(HEIGHT, units(140.0));
+    end_element(JOINT);
 }
 
-// A part of a circle: its ends, its radius, whether it is more than half of it, and whether it goes counterclockwise.
-fn arc(from: Vector, to: Vector, r: f32, large: bool, counter: bool, class: &[u8]) {
-    out(b"<path d=\"M ");
-    out_point(from);
-    out(b"A ");
-    out_point(Vector { x: r, y: r });
-    if large {
-        out(b"0 1 ");
-    } else {
-        out(b"0 0 ");
-    }
-    if counter {
-        out(b"0 ");
-    } else {
-        out(b"1 ");
-    }
-    out_point(to);
-    out(b"\" class=\"");
-    out(class);
-    out(b"\"/>\n");
+// A part of a circle: its ends, its radius and its flags.
+fn arc(from: Vector, to: Vector, r: f32, flags: u32, class: u32) {
+    put(PATH, from.x);
+    put(BESIDE, from.y);
+    put(ARC, r);
+    put(BESIDE, r);
+    put(flags, to.x);
+    put(BESIDE, to.y);
+    piece(BESIDE);
+    end_element(class);
 }
 
 // A line with strokes below it.
 fn ground(p: Vector) {
-    line(beside(p, -220.0, 70.0), beside(p, 220.0, 70.0), b"ground");
-    line(beside(p, -220.0, 190.0), beside(p, -130.0, 70.0), b"ground");
-    line(beside(p, -90.0, 190.0), beside(p, 0.0, 70.0), b"ground");
-    line(beside(p, 40.0, 190.0), beside(p, 130.0, 70.0), b"ground");
+    line(beside(p, -220.0, 70.0), beside(p, 220.0, 70.0), GROUND);
+    line(beside(p, -220.0, 190.0), beside(p, -130.0, 70.0), GROUND);
+    line(beside(p, -90.0, 190.0), beside(p, 0.0, 70.0), GROUND);
+    line(beside(p, 40.0, 190.0), beside(p, 130.0, 70.0), GROUND);
 }
 
 // ---- a joint's stops
@@ -253,10 +277,17 @@ fn away(p: Vector, turn: Rotation, r: f32) -> Vector {
     }
 }
 
+fn stop_flags(angle: f32) -> u32 {
+    if angle > 3.1415927 {
+        return LARGE;
+    }
+    COUNTER
+}
+
 // The angular stop: an arc from its lower to its upper end about frame 1, and a needle along frame 2.
 fn angular_stop(p: Vector, turn1: Rotation, turn2: Rotation, low: f32, high: f32) {
     let r = units(420.0);
-    line(p, away(p, turn2, r), b"needle");
+    line(p, away(p, turn2, r), NEEDLE);
     if high - low < 6.2831 {
         let from = turn1.mul(rotation_from_angle(low));
         let to = turn1.mul(rotation_from_angle(high));
@@ -264,23 +295,18 @@ fn angular_stop(p: Vector, turn1: Rotation, turn2: Rotation, low: f32, high: f32
             away(p, from, r),
             away(p, to, r),
             r,
-            high - low > 3.1415927,
-            true,
-            b"stop",
+            stop_flags(high - low),
+            STOP,
         );
         line(
             away(p, from, units(340.0)),
             away(p, from, units(500.0)),
-            b"stop",
+            STOP,
         );
-        line(
-            away(p, to, units(340.0)),
-            away(p, to, units(500.0)),
-            b"stop",
-        );
+        line(away(p, to, units(340.0)), away(p, to, units(500.0)), STOP);
         return;
     }
-    circle(p, r, b"stop");
+    circle(p, r, STOP);
 }
 
 fn end_stroke(p: Vector, along: Rotation, across: Rotation, x: f32) {
@@ -288,7 +314,7 @@ fn end_stroke(p: Vector, along: Rotation, across: Rotation, x: f32) {
     line(
         away(end, across, units(-90.0)),
         away(end, across, units(90.0)),
-        b"stop",
+        STOP,
     );
 }
 
@@ -296,14 +322,14 @@ fn end_stroke(p: Vector, along: Rotation, across: Rotation, x: f32) {
 fn linear_stop(p: Vector, along: Rotation, across: Rotation, low: f32, high: f32) {
     let from = inside(low);
     let to = inside(high);
-    line(away(p, along, from), away(p, along, to), b"stop");
+    line(away(p, along, from), away(p, along, to), STOP);
     end_stroke(p, along, across, from);
     end_stroke(p, along, across, to);
 }
 
 // A coupled limit keeps the distance of the frames below the upper end of the first coupled axis.
 fn coupled_stop(pic: Picture, p: Vector, high: f32) {
-    circle(p, inside(high * pic.scale), b"stop");
+    circle(p, inside(high * pic.scale), STOP);
 }
 
 fn quarter(turn: Rotation) -> Rotation {
@@ -313,28 +339,6 @@ fn quarter(turn: Rotation) -> Rotation {
     }
 }
 
-fn limits_low(draft: &[f32], j: u32, axis: usize) -> f32 {
-    let base = joint_base(j);
-    if NUMBERS <= base {
-        return 0.0;
-    }
-    if 2 < axis {
-        return 0.0;
-    }
-    number_at(draft, base + 8 + 3 * axis)
-}
-
-fn limits_high(draft: &[f32], j: u32, axis: usize) -> f32 {
-    let base = joint_base(j);
-    if NUMBERS <= base {
-        return 0.0;
-    }
-    if 2 < axis {
-        return 0.0;
-    }
-    number_at(draft, base + 9 + 3 * axis)
-}
-
 fn is_drawn(m: Masks, axis: usize) -> bool {
     if m.is_coupled(axis) {
         return false;
@@ -342,11 +346,20 @@ fn is_drawn(m: Masks, axis: usize) -> bool {
     m.is_limit(axis)
 }
 
-fn first_coupled(m: Masks) -> usize {
+// The place of the upper end of the first coupled axis.
+fn coupled_end(m: Masks) -> usize {
     if m.is_coupled(0) {
-        return 0;
+        return 9;
     }
-    1
+    12
+}
+
+// That axis is limited.
+fn is_coupled_stop(m: Masks) -> bool {
+    if m.is_coupled(0) {
+        return m.is_limit(0);
+    }
+    m.is_coupled(1) && m.is_limit(1)
 }
 
 fn linear_stops(pic: Picture, draft: &[f32], j: u32, m: Masks, p: Vector, turn: Rotation) {
@@ -356,8 +369,8 @@ fn linear_stops(pic: Picture, draft: &[f32], j: u32, m: Masks, p: Vector, turn: 
             p,
             turn,
             side,
-            limits_low(draft, j, 0) * pic.scale,
-            limits_high(draft, j, 0) * pic.scale,
+            joint_number(draft, j, 8) * pic.scale,
+            joint_number(draft, j, 9) * pic.scale,
         );
     }
     if is_drawn(m, 1) {
@@ -365,52 +378,36 @@ fn linear_stops(pic: Picture, draft: &[f32], j: u32, m: Masks, p: Vector, turn: 
             p,
             side,
             turn,
-            limits_low(draft, j, 1) * pic.scale,
-            limits_high(draft, j, 1) * pic.scale,
+            joint_number(draft, j, 11) * pic.scale,
+            joint_number(draft, j, 12) * pic.scale,
         );
     }
-    let f = first_coupled(m);
-    if m.is_coupled(f) {
-        if m.is_limit(f) {
-            coupled_stop(pic, p, limits_high(draft, j, f));
-        }
+    if is_coupled_stop(m) {
+        coupled_stop(pic, p, joint_number(draft, j, coupled_end(m)));
     }
 }
 
 fn masks_of(words: &[u32], j: u32) -> Masks {
-    let o = words_base(j);
-    if NUMBERS <= o {
-        return Masks {
-            locked_axes: 0,
-            limit_axes: 0,
-            motor_axes: 0,
-            coupled_axes: 0,
-        };
-    }
     Masks {
-        locked_axes: word_at(words, o + 2),
-        limit_axes: word_at(words, o + 3),
-        motor_axes: word_at(words, o + 4),
-        coupled_axes: word_at(words, o + 5),
+        locked_axes: joint_word(words, j, 2),
+        limit_axes: joint_word(words, j, 3),
+        motor_axes: joint_word(words, j, 4),
+        coupled_axes: joint_word(words, j, 5),
     }
 }
 
 fn stops(pic: Picture, draft: &[f32], words: &[u32], j: u32, p: Vector) {
-    let o = words_base(j);
-    if NUMBERS <= o {
-        return;
-    }
     let m = masks_of(words, j);
-    let turn1 = frame_rotation(draft, j, 0, word_at(words, o));
-    let turn2 = frame_rotation(draft, j, 4, word_at(words, o + 1));
+    let turn1 = frame1_rotation(draft, words, j);
+    let turn2 = frame2_rotation(draft, words, j);
     linear_stops(pic, draft, j, m, p, turn1);
     if m.is_limit(2) {
         angular_stop(
             p,
             turn1,
             turn2,
-            limits_low(draft, j, 2),
-            limits_high(draft, j, 2),
+            joint_number(draft, j, 14),
+            joint_number(draft, j, 15),
         );
     }
 }
@@ -423,22 +420,18 @@ fn tie(pic: Picture, draft: &[f32], i: u32, p: Vector) {
         ground(p);
         return;
     }
-    line(at(pic, body_at(draft, i)), p, b"tie");
+    line(at(pic, body_at(draft, i)), p, TIE);
 }
 
 fn draw_joint(pic: Picture, draft: &[f32], words: &[u32], j: u32) {
-    let o = words_base(j);
-    if NUMBERS <= o {
-        return;
-    }
     let one = at(pic, frame1_at(draft, words, j));
     let two = at(pic, frame2_at(draft, words, j));
-    tie(pic, draft, word_at(words, o), one);
-    tie(pic, draft, word_at(words, o + 1), two);
-    line(one, two, b"between");
+    tie(pic, draft, joint_word(words, j, 0), one);
+    tie(pic, draft, joint_word(words, j, 1), two);
+    line(one, two, BETWEEN);
     stops(pic, draft, words, j, one);
     square(one);
-    circle(two, units(110.0), b"ring");
+    circle(two, units(110.0), RING);
 }
 
 fn draw_joints(pic: Picture, draft: &[f32], words: &[u32], joints: u32) {
@@ -449,24 +442,11 @@ fn draw_joints(pic: Picture, draft: &[f32], words: &[u32], joints: u32) {
     }
 }
 
-// A body's velocity, by its place in the body's numbers.
 fn velocity_at(draft: &[f32], i: u32) -> Vector {
-    let base = body_base(i);
-    if NUMBERS <= base {
-        return Vector { x: 0.0, y: 0.0 };
-    }
     Vector {
-        x: number_at(draft, base + 7),
-        y: number_at(draft, base + 8),
+        x: body_number(draft, i, 7),
+        y: body_number(draft, i, 8),
     }
-}
-
-fn turning_at(draft: &[f32], i: u32) -> f32 {
-    let base = body_base(i);
-    if NUMBERS <= base {
-        return 0.0;
-    }
-    number_at(draft, base + 9)
 }
 
 fn size(x: f32) -> f32 {
@@ -502,19 +482,19 @@ fn draw_velocity(pic: Picture, draft: &[f32], i: u32, p: Vector) {
             x: p.x + v.x * pic.arrow,
             y: p.y - v.y * pic.arrow,
         };
-        line(p, to, b"velocity");
+        line(p, to, VELOCITY);
     }
 }
 
 fn draw_turning(draft: &[f32], i: u32, p: Vector) {
-    let w = turning_at(draft, i);
+    let w = body_number(draft, i, 9);
     let right = beside(p, 250.0, 0.0);
     let left = beside(p, -250.0, 0.0);
     if w > 0.0 {
-        arc(right, left, units(250.0), false, true, b"velocity");
+        arc(right, left, units(250.0), COUNTER, VELOCITY);
     }
     if w < 0.0 {
-        arc(left, right, units(250.0), false, false, b"velocity");
+        arc(left, right, units(250.0), CLOCKWISE, VELOCITY);
     }
 }
 
@@ -522,7 +502,7 @@ fn draw_bodies(pic: Picture, draft: &[f32], bodies: u32) {
     let mut i: u32 = 0;
     while i < bodies {
         let p = at(pic, body_at(draft, i));
-        circle(p, units(130.0), b"body");
+        circle(p, units(130.0), BODY);
         draw_velocity(pic, draft, i, p);
         draw_turning(draft, i, p);
         i += 1;
@@ -579,12 +559,11 @@ fn begin_label(pic: Picture, p: Vector, rank: u32) {
             x: pic.width + units(1600.0),
             y,
         },
-        b"leader",
+        LEADER,
     );
-    out(b"<text ");
-    attribute(b"x", pic.width + units(1660.0));
-    attribute(b"y", y + units(70.0));
-    out(b">");
+    put(TEXT, pic.width + units(1660.0));
+    put(Y, y + units(70.0));
+    out(b"\" >");
 }
 
 fn out_ids(made: RowIds) {
@@ -601,11 +580,7 @@ fn out_ids(made: RowIds) {
 }
 
 fn joint_ids(words: &[u32], j: u32) {
-    let o = words_base(j);
-    if NUMBERS <= o {
-        return;
-    }
-    if word_at(words, o + 9) != 0 {
+    if joint_word(words, j, 9) != 0 {
         out(b" (disabled)");
         return;
     }
@@ -710,6 +685,7 @@ fn full_height(pic: Picture) -> f32 {
     most(pic.height, pic.pitch * small(pic.labels))
 }
 
+// Stops are drawn as far as the labels.
 fn begin(pic: Picture) {
     out(b"<svg xmlns=\"http://www.w3.org/2000/svg\" viewBox=\"-1500 -1500 ");
     out_millionths(pic.width + units(9200.0));
@@ -732,17 +708,11 @@ line, path, circle { fill: none; stroke-width: 24 }
 </style>
 <marker id=\"head\" viewBox=\"0 0 10 10\" refX=\"8\" refY=\"5\" markerWidth=\"6\" markerHeight=\"6\" orient=\"auto\"><path d=\"M 0 0 L 10 5 L 0 10 z\" style=\"fill: #283\"/></marker>
 <rect x=\"-1500\" y=\"-1500\" width=\"100%\" height=\"100%\" fill=\"white\"/>
-",
+<clipPath id=\"drawn\"><rect x=\"-1500\" y=\"-1500",
     );
-    out_clip(pic);
-}
-
-// Stops are drawn as far as the labels.
-fn out_clip(pic: Picture) {
-    out(b"<clipPath id=\"drawn\"><rect x=\"-1500\" y=\"-1500\" ");
-    attribute(b"width", pic.width + units(3000.0));
-    attribute(b"height", full_height(pic) + units(2500.0));
-    out(b"/></clipPath>\n");
+    put(WIDTH, pic.width + units(3000.0));
+    put(HEIGHT, full_height(pic) + units(2500.0));
+    out(b"\" /></clipPath>\n");
 }
 
 fn out_spelled(x: f32) {
@@ -754,10 +724,9 @@ fn out_spelled(x: f32) {
 // What the longest arrow stands for.
 fn out_arrow(fastest: f32, y: f32) {
     if fastest > 0.0 {
-        out(b"<text ");
-        attribute(b"x", 0.0);
-        attribute(b"y", y);
-        out(b">longest arrow: ");
+        put(TEXT, 0.0);
+        put(Y, y);
+        out(b"\" >longest arrow: ");
         out_spelled(fastest);
         out(b" m/s along x or y</text>\n");
     }
@@ -767,7 +736,7 @@ fn out_arrow(fastest: f32, y: f32) {
 fn out_foot(pic: Picture, fastest: f32) {
     let y = full_height(pic) + units(1200.0);
     let length = inside(out_scale(pic.scale, y));
-    line(Vector { x: 0.0, y }, Vector { x: length, y }, b"scale");
+    line(Vector { x: 0.0, y }, Vector { x: length, y }, SCALE);
     line(
         Vector {
             x: 0.0,
@@ -777,7 +746,7 @@ fn out_foot(pic: Picture, fastest: f32) {
             x: 0.0,
             y: y + units(80.0),
         },
-        b"scale",
+        SCALE,
     );
     line(
         Vector {
@@ -788,7 +757,7 @@ fn out_foot(pic: Picture, fastest: f32) {
             x: length,
             y: y + units(80.0),
         },
-        b"scale",
+        SCALE,
     );
     out_arrow(fastest, y + units(600.0));
 }

@@ -6,15 +6,9 @@ use crate::out::err_line;
 use crate::place::say_place;
 use crate::place::show_line;
 use study_reader::draft::State;
-use study_reader::faults::AXIS;
-use study_reader::faults::CSV;
-use study_reader::faults::MASK;
-use study_reader::faults::MODEL;
 use study_reader::faults::NO_BODY;
 use study_reader::faults::NO_JOINT;
-use study_reader::faults::SUBSTEPS;
 use study_reader::faults::UNKNOWN;
-use study_reader::faults::WARM;
 use study_reader::words::Word;
 use study_reader::words::next_word;
 
@@ -54,9 +48,9 @@ fn say(fault: u32) {
     );
 }
 
-// The words that start a line, each with the item in which it is legal: 1 to 3 as study_reader's fields have them, 5 where no call stands yet, and
-// calls anywhere.
-fn suggest_line(kind: u32, text: &[u8], w: Word) {
+// The words that may be meant, each with where it is legal: at the start of a line in the item 1 to 3 as study_reader's fields have them, 5 where no call
+// stands yet and 6 anywhere; after that, at a fault's number and 100.
+fn suggest_word(place: u32, text: &[u8], w: Word) {
     suggest(
         b"\
         dt 1\n\
@@ -102,43 +96,63 @@ fn suggest_line(kind: u32, text: &[u8], w: Word) {
         settings 5\n\
         body 5\n\
         joint 5\n\
-        load\n\
-        place\n\
-        build\n\
-        warm_start\n\
-        sweep\n\
-        settle\n\
-        remove_bias\n\
-        write_back\n\
-        frame\n\
-        read_rows\n\
-        read_velocity\n\
-        set_targets\n\
-        masks\n\
-        table\n\
-        repeat\n\
-        end\n\
+        load 6\n\
+        place 6\n\
+        build 6\n\
+        warm_start 6\n\
+        sweep 6\n\
+        settle 6\n\
+        remove_bias 6\n\
+        write_back 6\n\
+        frame 6\n\
+        read_rows 6\n\
+        read_velocity 6\n\
+        set_targets 6\n\
+        masks 6\n\
+        table 6\n\
+        repeat 6\n\
+        end 6\n\
+        x 108\n\
+        y 108\n\
+        angle 108\n\
+        acceleration 118\n\
+        force 118\n\
+        warm 120\n\
+        substep 120\n\
+        csv 121\n\
+        lock 125\n\
+        limit 125\n\
+        motor 125\n\
+        couple 125\n\
+        angle 125\n\
+        warm 126\n\
+        sweeps 126\n\
+        substeps 126\n\
         ",
-        kind,
+        place,
         text,
         w,
     );
+}
+
+// Where a word stands that cannot be read.
+fn place_of(fault: u32, kind: u32) -> u32 {
+    if fault == UNKNOWN {
+        return kind;
+    }
+    if fault < 100 {
+        return fault + 100;
+    }
+    fault
 }
 
 // What may have been meant by the word at which the text cannot be read.
 fn suggest_for(text: &[u8], names: &[u32], st: State, w: Word) {
     let fault = st.fault;
     match fault {
-        UNKNOWN => suggest_line(st.kind, text, w),
         NO_BODY => suggest_name(text, names, false, st.bodies, w),
         NO_JOINT => suggest_name(text, names, true, st.joints, w),
-        AXIS => suggest(b"x\ny\nangle\n", 0, text, w),
-        MODEL => suggest(b"acceleration\nforce\n", 0, text, w),
-        WARM => suggest(b"warm\nsubstep\n", 0, text, w),
-        CSV => suggest(b"csv\n", 0, text, w),
-        MASK => suggest(b"lock\nlimit\nmotor\ncouple\nangle\n", 0, text, w),
-        SUBSTEPS => suggest(b"warm\nsweeps\nsubsteps\n", 0, text, w),
-        _ => (),
+        _ => suggest_word(place_of(fault, st.kind), text, w),
     }
 }
 

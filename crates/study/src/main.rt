@@ -1,14 +1,15 @@
 // Runs studies that are written as text. docs/STUDY.md describes them.
-mod counts;
 mod csv;
 mod draw;
 mod faults;
 mod help;
 mod input;
+mod model_text;
 mod near;
 mod out;
 mod place;
 mod plan;
+mod records;
 mod refusals;
 mod repeated;
 mod residual;
@@ -39,8 +40,11 @@ use model::layout::BODY_WIDTH;
 use model::layout::NUMBERS_WIDTH;
 use model::layout::ROW_WIDTH;
 use model::layout::WORDS_WIDTH;
+use model_text::print_model;
 use near::suggest;
 use out::err;
+use out::err_line;
+use out::err_part;
 use out::is_lost;
 use out::out;
 use out::out_part;
@@ -62,7 +66,6 @@ use study_reader::storage::WORDS;
 use study_reader::storage::number_at;
 use study_reader::tables::number_in;
 use study_reader::words::Word;
-use study_writer::study::write_study;
 use warnings::warnings;
 
 // The numbers of all bodies that are read, of all joints, and of six rows a joint.
@@ -72,11 +75,12 @@ const JOINT_NUMBERS: usize = MOST as usize * NUMBERS_WIDTH;
 
 const ROW_NUMBERS: usize = MOST as usize * 6 * ROW_WIDTH;
 
-// What is asked of a study: a command, what is printed of a run, and whether a warning counts.
+// What is asked of a study: a command, what is printed of a run, whether a warning counts, and whether the file's name goes before it all.
 struct Mode {
     command: u32,
     kind: u32,
     strict: bool,
+    titled: bool,
 }
 
 // How a study ended: 0 granted, 1 refused, 2 not read.
@@ -117,67 +121,63 @@ pub fn header_of(draft: &[f32]) -> Header {
     }
 }
 
-// The model that a study describes, in one spelling: the text of a study with no call.
-fn print_model(header: Header, bodies: &[f32], words: &[u32], numbers: &[f32]) -> u32 {
-    let mut text = [0u8; 524288];
-    let n = write_study(&mut text, header, bodies, words, numbers);
-    if n == 0 {
-        err(b"study: a model has at most 128 bodies and 128 joints\n");
+// The model as it was read, printed.
+fn print_read(draft: &[f32], words: &[u32], st: State) -> u32 {
+    let i = st.bodies;
+    let j = st.joints;
+    if MOST < i || MOST < j {
         return 2;
     }
-    out_part(&text, 0, n);
-    0
+    let b = BODIES + BODY_WIDTH * i as usize;
+    let n = JOINTS + NUMBERS_WIDTH * j as usize;
+    let w = WORDS_WIDTH * j as usize;
+    if draft.len() < b || draft.len() < n || words.len() < w {
+        return 2;
+    }
+    print_model(
+        header_of(draft),
+        &draft[BODIES..b],
+        &words[0..w],
+        &draft[JOINTS..n],
+    )
 }
 
-// Runs the calls of a study on the storage that it was read into.
-fn run_calls(
+// The model as it was read, loaded; and what can be said of the calls.
+fn check_read(
     name: &[u8],
     text: &[u8],
     draft: &[f32],
     origins: &[u32],
     words: &mut [u32],
     names: &[u32],
-    bodies: &mut [f32],
-    numbers: &mut [f32],
     st: State,
-    mode: Mode,
 ) -> u32 {
-    let header = header_of(draft);
-    if mode.command == PRINT {
-        return print_model(header, bodies, words, numbers);
+    let i = st.bodies;
+    let j = st.joints;
+    if MOST < i || MOST < j {
+        return 2;
     }
-    let mut rows = [0.0f32; ROW_NUMBERS];
-    if mode.command == CHECK {
-        let refused = check_study(
-            name,
-            text,
-            names,
-            origins,
-            draft,
-            header,
-            bodies,
-            words,
-            numbers,
-            &rows,
-            st,
-        );
-        return checked(name, text, names, st, refused);
+    let b = BODIES + BODY_WIDTH * i as usize;
+    let n = JOINTS + NUMBERS_WIDTH * j as usize;
+    let w = WORDS_WIDTH * j as usize;
+    if draft.len() < b || draft.len() < n || words.len() < w {
+        return 2;
     }
-    let r = run_study(
+    let rows = [0.0f32; ROW_NUMBERS];
+    let refused = check_study(
         name,
         text,
         names,
         origins,
         draft,
-        header,
-        bodies,
-        words,
-        numbers,
-        &mut rows,
+        header_of(draft),
+        &draft[BODIES..b],
+        &mut words[0..w],
+        &draft[JOINTS..n],
+        &rows,
         st,
-        mode.kind,
     );
-    strict_status(mode, r.warned, status_of(r.refused))
+    checked(name, text, names, st, refused)
 }
 
 // After a load that is granted, what can be said of the calls without a run.
@@ -211,79 +211,8 @@ fn say_checked(name: &[u8], status: u32, warned: bool) {
     out(b": fine\n");
 }
 
-// The words of as many joints as there are.
-fn run_words(
-    name: &[u8],
-    text: &[u8],
-    draft: &[f32],
-    origins: &[u32],
-    words: &mut [u32],
-    names: &[u32],
-    bodies: &mut [f32],
-    numbers: &mut [f32],
-    st: State,
-    mode: Mode,
-) -> u32 {
-    let j = st.joints;
-    if MOST < j {
-        return 2;
-    }
-    let w = WORDS_WIDTH * j as usize;
-    if words.len() < w {
-        return 2;
-    }
-    run_calls(
-        name,
-        text,
-        draft,
-        origins,
-        &mut words[0..w],
-        names,
-        bodies,
-        numbers,
-        st,
-        mode,
-    )
-}
-
-// Their numbers.
-fn run_numbers(
-    name: &[u8],
-    text: &[u8],
-    draft: &[f32],
-    origins: &[u32],
-    words: &mut [u32],
-    names: &[u32],
-    bodies: &mut [f32],
-    numbers: &mut [f32],
-    st: State,
-    mode: Mode,
-) -> u32 {
-    let j = st.joints;
-    if MOST < j {
-        return 2;
-    }
-    let n = NUMBERS_WIDTH * j as usize;
-    if numbers.len() < n {
-        return 2;
-    }
-    copy(draft, JOINTS, numbers);
-    run_words(
-        name,
-        text,
-        draft,
-        origins,
-        words,
-        names,
-        bodies,
-        &mut numbers[0..n],
-        st,
-        mode,
-    )
-}
-
-// As many bodies as there are.
-fn run_bodies(
+// As many bodies and joints as there are.
+fn run_sized(
     name: &[u8],
     text: &[u8],
     draft: &[f32],
@@ -296,26 +225,32 @@ fn run_bodies(
     mode: Mode,
 ) -> u32 {
     let i = st.bodies;
-    if MOST < i {
+    let j = st.joints;
+    if MOST < i || MOST < j {
         return 2;
     }
     let b = BODY_WIDTH * i as usize;
-    if bodies.len() < b {
+    let n = NUMBERS_WIDTH * j as usize;
+    let w = WORDS_WIDTH * j as usize;
+    if bodies.len() < b || numbers.len() < n || words.len() < w {
         return 2;
     }
-    copy(draft, BODIES, bodies);
-    run_numbers(
+    let mut rows = [0.0f32; ROW_NUMBERS];
+    let r = run_study(
         name,
         text,
-        draft,
-        origins,
-        words,
         names,
+        origins,
+        draft,
+        header_of(draft),
         &mut bodies[0..b],
-        numbers,
+        &mut words[0..w],
+        &mut numbers[0..n],
+        &mut rows,
         st,
-        mode,
-    )
+        mode.kind,
+    );
+    strict_status(mode, r.warned, status_of(r.refused))
 }
 
 // The storage of a study's bodies and joints.
@@ -331,7 +266,9 @@ fn run_read(
 ) -> u32 {
     let mut bodies = [0.0f32; BODY_NUMBERS];
     let mut numbers = [0.0f32; JOINT_NUMBERS];
-    run_bodies(
+    copy(draft, BODIES, &mut bodies);
+    copy(draft, JOINTS, &mut numbers);
+    run_sized(
         name,
         text,
         draft,
@@ -356,7 +293,30 @@ fn status_of(refused: u32) -> u32 {
     1
 }
 
-// A study's text: read, run, and its end told.
+// What is asked of a study that was read.
+fn commanded(
+    name: &[u8],
+    text: &[u8],
+    draft: &[f32],
+    origins: &[u32],
+    words: &mut [u32],
+    names: &[u32],
+    st: State,
+    mode: Mode,
+) -> u32 {
+    let command = mode.command;
+    match command {
+        DRAW => {
+            draw(text, draft, words, names, st.bodies, st.joints);
+            0
+        }
+        PRINT => print_read(draft, words, st),
+        CHECK => check_read(name, text, draft, origins, words, names, st),
+        _ => run_read(name, text, draft, origins, words, names, st, mode),
+    }
+}
+
+// A study's text: read, warned of, and what is asked of it; its end told.
 fn study(name: &[u8], text: &[u8], mode: Mode) -> u32 {
     let mut draft = [0.0f32; NUMBERS];
     let mut origins = [0u32; ORIGINS];
@@ -369,11 +329,7 @@ fn study(name: &[u8], text: &[u8], mode: Mode) -> u32 {
     }
     let runs = mode.command == FILE;
     let warned = warnings(name, text, &draft, &origins, &words, &names, st, runs);
-    if mode.command == DRAW {
-        draw(text, &draft, &words, &names, st.bodies, st.joints);
-        return strict_status(mode, warned, 0);
-    }
-    let status = run_read(name, text, &draft, &origins, &mut words, &names, st, mode);
+    let status = commanded(name, text, &draft, &origins, &mut words, &names, st, mode);
     if mode.command == CHECK {
         say_checked(name, status, warned);
     }
@@ -382,9 +338,14 @@ fn study(name: &[u8], text: &[u8], mode: Mode) -> u32 {
 
 // ---- files and arguments
 
-fn say_too_long(name: &[u8]) -> u32 {
+// A file that is no study's text: too long, or in UTF-16.
+fn say_no_text(name: &[u8], k: u32) -> u32 {
     err(name);
-    err(b":1:1: a study has at most 262143 bytes\n");
+    err_line(
+        b":1:1: a study has at most 262143 bytes\n:1:1: a text in UTF-16; a study is read in UTF-8 (or ASCII): save it so\n",
+        k,
+    );
+    err(b"\n");
     2
 }
 
@@ -425,17 +386,11 @@ fn start_of(text: &[u8]) -> u32 {
     PLAIN
 }
 
-fn say_wide(name: &[u8]) -> u32 {
-    err(name);
-    err(b":1:1: a text in UTF-16; a study is read in UTF-8 (or ASCII): save it so\n");
-    2
-}
-
 // A text without its byte order mark.
 fn study_of(name: &[u8], text: &[u8], mode: Mode) -> u32 {
     let start = start_of(text);
     if start == WIDE {
-        return say_wide(name);
+        return say_no_text(name, 1);
     }
     if start == MARKED {
         if 3 <= text.len() {
@@ -447,6 +402,9 @@ fn study_of(name: &[u8], text: &[u8], mode: Mode) -> u32 {
 
 // A study from a descriptor.
 fn study_from(name: &[u8], fd: i32, mode: Mode) -> u32 {
+    if mode.titled {
+        say_title(name, b"# \n");
+    }
     let mut text = [0u8; 262144];
     let input = read_all(fd, &mut text);
     if input.failed {
@@ -455,9 +413,13 @@ fn study_from(name: &[u8], fd: i32, mode: Mode) -> u32 {
     }
     let n = input.len;
     if n == 262144 {
-        return say_too_long(name);
+        return say_no_text(name, 0);
     }
     study_of(name, &text[..n], mode)
+}
+
+fn study_input(mode: Mode) -> u32 {
+    study_from(b"standard input", STDIN_FILENO, mode)
 }
 
 fn study_file(name: &[u8], mode: Mode, first: bool) -> u32 {
@@ -583,16 +545,14 @@ fn kind_of(i: usize) -> u32 {
     option_of(&arg[..n])
 }
 
-// Where there are several files, each one's name goes before what is printed of it.
-fn say_file(name: &[u8], several: bool) {
-    if several {
-        out(b"# ");
-        out(name);
-        out(b"\n");
-        err(b"# ");
-        err(name);
-        err(b"\n");
-    }
+// The name between a hash and a line's end, on both outputs.
+fn say_title(name: &[u8], around: &[u8]) {
+    out_part(around, 0, 2);
+    out(name);
+    out_part(around, 2, 3);
+    err_part(around, 0, 2);
+    err(name);
+    err_part(around, 2, 3);
 }
 
 fn say_option(name: &[u8]) -> u32 {
@@ -610,27 +570,23 @@ fn say_option(name: &[u8]) -> u32 {
 }
 
 // The file that an argument names; a hyphen is standard input.
-fn named_file(name: &[u8], mode: Mode, several: bool, first: bool) -> u32 {
+fn named_file(name: &[u8], mode: Mode, first: bool) -> u32 {
     let kind = option_of(name);
-    if kind == INPUT {
-        say_file(b"standard input", several && mode.kind == ALL);
-        return study_from(b"standard input", STDIN_FILENO, mode);
+    match kind {
+        INPUT => study_input(mode),
+        OPTION => say_option(name),
+        _ => study_file(name, mode, first),
     }
-    if kind == OPTION {
-        return say_option(name);
-    }
-    say_file(name, several && mode.kind == ALL);
-    study_file(name, mode, first)
 }
 
-fn argument_file(i: usize, mode: Mode, several: bool, first: bool) -> u32 {
+fn argument_file(i: usize, mode: Mode, first: bool) -> u32 {
     let mut arg = io::buffer();
     let n = os::arg(i, &mut arg);
     if os::errno() != 0 {
         os::fail(b"study: argument");
         return 2;
     }
-    named_file(&arg[..n], mode, several, first)
+    named_file(&arg[..n], mode, first)
 }
 
 // No command stands before the files.
@@ -681,13 +637,13 @@ fn find_files(from: usize, bare: bool) -> u32 {
     status
 }
 
-fn each_file(from: usize, mode: Mode, several: bool) -> u32 {
+fn each_file(from: usize, mode: Mode) -> u32 {
     let mut i = from;
     let mut status: u32 = 0;
     let count = os::arg_count();
     while i < count {
         let first = is_first(is_bare(mode), i, from);
-        status = worse(status, argument_file(i, mode, several, first));
+        status = worse(status, argument_file(i, mode, first));
         if is_lost(STDOUT_FILENO) {
             return 2;
         }
@@ -715,7 +671,9 @@ fn files(from: usize, mode: Mode) -> u32 {
     if mode.kind != ALL {
         out_csv_heading(mode.kind);
     }
-    each_file(from, mode, several)
+    let mut m = mode;
+    m.titled = several && mode.kind == ALL;
+    each_file(from, m)
 }
 
 // The files after a word that asks for some.
@@ -744,6 +702,7 @@ fn files_of(i: usize, command: u32, strict: bool) -> u32 {
                 command,
                 kind: ALL,
                 strict: true,
+                titled: false,
             },
         );
     }
@@ -753,6 +712,7 @@ fn files_of(i: usize, command: u32, strict: bool) -> u32 {
             command,
             kind: ALL,
             strict,
+            titled: false,
         },
     )
 }
@@ -782,6 +742,7 @@ fn records_after(i: usize, kind: u32, strict: bool) -> u32 {
             command: FILE,
             kind,
             strict,
+            titled: false,
         },
     )
 }
@@ -793,9 +754,10 @@ fn asked(i: usize, strict: bool) -> u32 {
         command: FILE,
         kind: ALL,
         strict,
+        titled: false,
     };
     match kind {
-        MISSING => study_from(b"standard input", STDIN_FILENO, mode),
+        MISSING => study_input(mode),
         HELP => {
             help();
             0

@@ -96,6 +96,12 @@ pub fn err_line(lines: &[u8], k: u32) {
     err_part(lines, start, line_end(lines, start));
 }
 
+// Line k of a text, to standard output.
+pub fn out_line(lines: &[u8], k: u32) {
+    let start = line_start(lines, k);
+    out_part(lines, start, line_end(lines, start));
+}
+
 // A number's micro report.
 pub fn out_millionths(x: f32) {
     let mut bytes = [0u8; 11];

@@ -4,33 +4,19 @@ use crate::out::err_number;
 use crate::place::say_place;
 use crate::place::show_line;
 use crate::refusals::say_rule;
-use crate::run::skip;
 use crate::targets::find_targets;
+use floats::pose::Pose;
 use floats::scalar::is_finite;
 use rows::generic_joint::Masks;
-use study_reader::calls::Line;
-use study_reader::calls::read_call;
+use rows::joint_constraint_builder::Warmstart;
 use study_reader::draft::State;
-use study_reader::keywords::BUILD;
-use study_reader::keywords::END;
-use study_reader::keywords::FRAME;
-use study_reader::keywords::LOAD;
-use study_reader::keywords::MASKS;
-use study_reader::keywords::PLACE;
-use study_reader::keywords::READ_ROWS;
-use study_reader::keywords::REMOVE_BIAS;
-use study_reader::keywords::REPEAT;
-use study_reader::keywords::SET_TARGETS;
-use study_reader::keywords::SETTLE;
-use study_reader::keywords::SWEEP;
-use study_reader::keywords::TABLE;
-use study_reader::keywords::WARM_START;
-use study_reader::keywords::WRITE_BACK;
-use study_reader::keywords::call_keyword;
 use study_reader::words::Word;
-use study_reader::words::is_empty;
-use study_reader::words::next_line;
 use study_reader::words::next_word;
+use study_run::acts::Act;
+use study_run::acts::StudyCall;
+use study_run::acts::act_at;
+use study_run::places::Place;
+use study_run::places::place_after;
 
 // Where the next line is, whether the rows stand, and the refusal that ends the study, or 0.
 struct Plan {
@@ -46,117 +32,103 @@ fn unbuilt(built: bool) -> u32 {
     10
 }
 
-fn sweep_refusal(l: Line, built: bool) -> u32 {
-    if 64 < l.number {
+fn sweep_refusal(rounds: u32, built: bool) -> u32 {
+    if 64 < rounds {
         return 9;
     }
     unbuilt(built)
 }
 
-fn warm_refusal(l: Line) -> u32 {
-    if l.warm {
-        if !is_finite(l.x) {
-            return 6;
-        }
+fn warm_refusal(warmstart: Warmstart) -> u32 {
+    match warmstart {
+        Warmstart::Cold => 0,
+        Warmstart::Warm(x) => finite_refusal(is_finite(x)),
+    }
+}
+
+fn finite_refusal(finite: bool) -> u32 {
+    if finite {
+        return 0;
+    }
+    6
+}
+
+fn is_warm(warmstart: Warmstart) -> bool {
+    match warmstart {
+        Warmstart::Cold => false,
+        Warmstart::Warm(_) => true,
+    }
+}
+
+fn build_refusal(warmstart: Warmstart, substep: u32, built: bool) -> u32 {
+    let k = warm_refusal(warmstart);
+    if k != 0 {
+        return k;
+    }
+    if substep == 0 {
+        return 0;
+    }
+    if is_warm(warmstart) {
+        return unbuilt(built);
     }
     0
 }
 
-fn build_refusal(l: Line, built: bool) -> u32 {
-    let k = warm_refusal(l);
+fn frame_refusal(warmstart: Warmstart, sweeps: u32, substeps: u32) -> u32 {
+    let k = warm_refusal(warmstart);
     if k != 0 {
         return k;
     }
-    if l.warm {
-        if 0 < l.number {
-            return unbuilt(built);
-        }
-    }
-    0
-}
-
-fn frame_refusal(l: Line) -> u32 {
-    let k = warm_refusal(l);
-    if k != 0 {
-        return k;
-    }
-    if 64 < l.sweeps {
+    if 64 < sweeps {
         return 9;
     }
-    if 16 < l.number {
+    if 16 < substeps {
         return 16;
     }
-    if l.number == 0 {
+    if substeps == 0 {
         return 16;
     }
     0
 }
 
 fn masks_refusal(m: Masks) -> u32 {
-    if 7 < m.locked_axes {
-        return 3;
-    }
-    if 7 < m.limit_axes {
-        return 3;
-    }
-    if 7 < m.motor_axes {
-        return 3;
-    }
-    if 7 < m.coupled_axes {
+    if 7 < m.locked_axes | m.limit_axes | m.motor_axes | m.coupled_axes {
         return 3;
     }
     0
 }
 
-fn place_refusal(l: Line) -> u32 {
-    if !is_finite(l.x) {
-        return 6;
-    }
-    if !is_finite(l.y) {
-        return 6;
-    }
-    if !is_finite(l.re) {
-        return 6;
-    }
-    if !is_finite(l.im) {
-        return 6;
-    }
-    0
+fn place_refusal(pose: Pose) -> u32 {
+    let at = pose.translation;
+    let rotation = pose.rotation;
+    finite_refusal(
+        is_finite(at.x) && is_finite(at.y) && is_finite(rotation.re) && is_finite(rotation.im),
+    )
 }
 
 // The refusal that a call meets, or 0 where a run has to tell.
-fn refusal_of(l: Line, built: bool) -> u32 {
-    let keyword = l.keyword;
-    match keyword {
-        SWEEP => sweep_refusal(l, built),
-        BUILD => build_refusal(l, built),
-        FRAME => frame_refusal(l),
-        PLACE => place_refusal(l),
-        MASKS => {
-            let m = l.masks;
-            masks_refusal(m)
-        }
-        WARM_START | REMOVE_BIAS | WRITE_BACK | READ_ROWS | SETTLE | TABLE => unbuilt(built),
-        _ => 0,
+fn refusal_of(call: StudyCall, built: bool) -> u32 {
+    match call {
+        StudyCall::Sweep(n) => sweep_refusal(n, built),
+        StudyCall::Build(warmstart, substep) => build_refusal(warmstart, substep, built),
+        StudyCall::Frame(warmstart, sweeps, n) => frame_refusal(warmstart, sweeps, n),
+        StudyCall::Place(_, pose) => place_refusal(pose),
+        StudyCall::SetMasks(_, m) => masks_refusal(m),
+        StudyCall::Load => 0,
+        StudyCall::SetTargets(_, _) => 0,
+        StudyCall::ReadVelocity(_) => 0,
+        _ => unbuilt(built),
     }
 }
 
-fn built_after(keyword: u32, built: bool) -> bool {
-    match keyword {
-        LOAD | MASKS => false,
-        BUILD | FRAME => true,
+fn built_after(call: StudyCall, built: bool) -> bool {
+    match call {
+        StudyCall::Load => false,
+        StudyCall::SetMasks(_, _) => false,
+        StudyCall::Build(_, _) => true,
+        StudyCall::Frame(_, _, _) => true,
         _ => built,
     }
-}
-
-fn next_at(text: &[u8], l: Line) -> usize {
-    let next = next_line(text, l.at);
-    if l.keyword == REPEAT {
-        if l.number == 0 {
-            return skip(text, next);
-        }
-    }
-    next
 }
 
 fn say_planned(name: &[u8], text: &[u8], at: usize, k: u32) {
@@ -170,44 +142,40 @@ fn say_planned(name: &[u8], text: &[u8], at: usize, k: u32) {
 }
 
 // A call's refusal, told; or that of a table of targets that is not there.
-fn told(name: &[u8], text: &[u8], w: Word, l: Line, built: bool) -> u32 {
-    if l.keyword == SET_TARGETS {
-        return find_targets(
-            name,
-            text,
-            Word {
-                start: l.start,
-                end: l.end,
-            },
-        );
-    }
-    let k = refusal_of(l, built);
-    if k != 0 {
-        say_planned(name, text, w.start, k);
-    }
-    k
-}
-
-fn plan_call(name: &[u8], text: &[u8], names: &[u32], st: State, p: Plan, w: Word) -> Plan {
-    let open = call_keyword(text, w) == END;
-    let l = read_call(text, names, st.bodies, st.joints, open, w);
-    Plan {
-        at: next_at(text, l),
-        built: built_after(l.keyword, p.built),
-        refused: told(name, text, w, l, p.built),
+fn told(name: &[u8], text: &[u8], at: usize, call: StudyCall, built: bool) -> u32 {
+    match call {
+        StudyCall::SetTargets(start, end) => find_targets(name, text, Word { start, end }),
+        _ => {
+            let k = refusal_of(call, built);
+            if k != 0 {
+                say_planned(name, text, next_word(text, at).start, k);
+            }
+            k
+        }
     }
 }
 
+// One line; what a `repeat` has in it comes once.
 fn plan_line(name: &[u8], text: &[u8], names: &[u32], st: State, p: Plan) -> Plan {
-    let w = next_word(text, p.at);
-    if is_empty(w) {
-        return Plan {
-            at: next_line(text, w.end),
+    let act = act_at(text, names, st.bodies, st.joints, p.at);
+    let here = Place {
+        at: p.at,
+        first: 0,
+        left: 0,
+    };
+    let next = place_after(text, names, st.bodies, st.joints, here, act);
+    match act {
+        Act::Call(call) => Plan {
+            at: next.at,
+            built: built_after(call, p.built),
+            refused: told(name, text, p.at, call, p.built),
+        },
+        _ => Plan {
+            at: next.at,
             built: p.built,
             refused: 0,
-        };
+        },
     }
-    plan_call(name, text, names, st, p, w)
 }
 
 // The first refusal, told, or 0; NO_FILE for a table that is not there.

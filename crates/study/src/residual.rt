@@ -1,14 +1,11 @@
 // How far from settled the rows of a built model are: a row's residual is what one more step would change of its impulse.
-use crate::counts::keep;
 use crate::out::err;
 use crate::out::out;
 use crate::out::out_number;
 use crate::out::out_part;
 use crate::place::show_line;
 use crate::repeated::begin_warning;
-use model::calls::Plain;
 use model::calls::read_rows;
-use model::calls::sweep;
 use model::header::Header;
 use model::reactions::residual_at;
 use rows::joint_velocity_constraint::Rows;
@@ -183,129 +180,12 @@ fn is_lost_number(l: Residual) -> bool {
     l.impulse != l.impulse
 }
 
-// ---- sweeps until no residual is above a tolerance
-
-fn is_settled(l: Residual, tolerance: f32) -> bool {
-    if l.found {
-        return l.residual <= tolerance;
-    }
-    true
-}
-
-// So many rounds, each a sweep, and at most so many.
-// A sweep of one round, whose counts are kept.
-fn one_round(
-    header: Header,
-    bodies: &mut [f32],
-    words: &[u32],
-    numbers: &[f32],
-    rows: &mut [f32],
-    counts: &mut [u8],
-) {
-    let swept = sweep(header, bodies, words, numbers, rows, 1);
-    let answered = swept.counts;
-    keep(counts, &answered, 1);
-}
-
-fn rounds(
-    header: Header,
-    bodies: &mut [f32],
-    words: &[u32],
-    numbers: &[f32],
-    rows: &mut [f32],
-    counts: &mut [u8],
-    joints: u32,
-    tolerance: f32,
-    most: u32,
-) -> u32 {
-    let mut done: u32 = 0;
-    while done < most {
-        let l = largest(header, bodies, words, numbers, rows, joints);
-        if is_settled(l, tolerance) {
-            return done;
-        }
-        one_round(header, bodies, words, numbers, rows, counts);
-        done += 1;
-    }
-    done
-}
-
-fn say_rounds(settled: bool, n: u32) {
+// After sweeps until no residual is above a tolerance.
+pub fn say_rounds(settled: bool, n: u32) {
     if !settled {
         out(b"not ");
     }
     out(b"settled after ");
     out_number(n as u64);
     out(b" rounds\n");
-}
-
-// Sweeps, and says nothing of it.
-pub fn settle_unsaid(
-    header: Header,
-    bodies: &mut [f32],
-    words: &[u32],
-    numbers: &[f32],
-    rows: &mut [f32],
-    counts: &mut [u8],
-    joints: u32,
-    tolerance: f32,
-    most: u32,
-) -> u32 {
-    let first = sweep(header, bodies, words, numbers, rows, 0);
-    let answer = first.answer;
-    match answer {
-        Plain::Refused(k) => k,
-        Plain::Granted => {
-            rounds(
-                header,
-                bodies,
-                words,
-                numbers,
-                rows,
-                counts,
-                joints,
-                tolerance,
-                most,
-            );
-            0
-        }
-    }
-}
-
-// The number of the refusal, or 0.
-pub fn settle(
-    text: &[u8],
-    names: &[u32],
-    header: Header,
-    bodies: &mut [f32],
-    words: &[u32],
-    numbers: &[f32],
-    rows: &mut [f32],
-    counts: &mut [u8],
-    joints: u32,
-    tolerance: f32,
-    most: u32,
-) -> u32 {
-    let first = sweep(header, bodies, words, numbers, rows, 0);
-    let answer = first.answer;
-    match answer {
-        Plain::Refused(k) => k,
-        Plain::Granted => {
-            let n = rounds(
-                header,
-                bodies,
-                words,
-                numbers,
-                rows,
-                counts,
-                joints,
-                tolerance,
-                most,
-            );
-            let l = largest(header, bodies, words, numbers, rows, joints);
-            say_rounds(is_settled(l, tolerance), n);
-            out_residual(text, names, l);
-            0
-        }
-    }
 }

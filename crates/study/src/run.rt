@@ -1,11 +1,7 @@
-// The calls of a study, in order. The first refused call ends it.
-use crate::counts::forget;
-use crate::counts::keep;
+// The calls of a study, in order: study_run runs each line, and what its call says is printed. The first refused call ends it.
 use crate::csv::ALL;
 use crate::csv::Table;
-use crate::csv::VELOCITIES;
-use crate::csv::joint_records;
-use crate::csv::velocity_records;
+use crate::csv::record_table;
 use crate::out::err;
 use crate::out::err_number;
 use crate::out::is_lost;
@@ -16,697 +12,38 @@ use crate::refusals::say_where;
 use crate::repeated::either;
 use crate::residual::largest;
 use crate::residual::out_residual;
-use crate::residual::settle;
-use crate::residual::settle_unsaid;
+use crate::residual::say_rounds;
 use crate::residual::warn_residual;
-use crate::table::Heading;
-use crate::table::Printed;
-use crate::table::joint_lines;
-use crate::table::out_heading;
-use crate::table::out_reaction_heading;
-use crate::table::out_reaction_notes;
-use crate::table::out_rules;
-use crate::table::reaction_line;
-use crate::targets::run_targets;
-use floats::pose::Pose;
-use floats::rotation_ops::Rotation;
-use floats::vector::Vector;
-use frames::frame::frame;
+use crate::table::print_rows;
+use crate::table::print_table;
+use crate::targets::set_named_targets;
 use libc::STDERR_FILENO;
 use libc::STDOUT_FILENO;
-use model::calls::BuildAnswer;
-use model::calls::LoadAnswer;
-use model::calls::Plain;
-use model::calls::VelocityAnswer;
-use model::calls::build;
-use model::calls::load;
-use model::calls::place;
-use model::calls::read_rows;
-use model::calls::read_velocity;
-use model::calls::remove_bias;
-use model::calls::set_masks;
-use model::calls::sweep;
-use model::calls::warm_start;
-use model::calls::write_back;
 use model::header::Header;
-use rows::joint_constraint_builder::Warmstart;
 use rows::joint_velocity_constraint::SolverVel;
-use study_reader::calls::Line;
-use study_reader::calls::read_call;
 use study_reader::draft::State;
-use study_reader::keywords::BUILD;
-use study_reader::keywords::END;
-use study_reader::keywords::FRAME;
-use study_reader::keywords::LOAD;
-use study_reader::keywords::MASKS;
-use study_reader::keywords::PLACE;
-use study_reader::keywords::READ_ROWS;
-use study_reader::keywords::READ_VELOCITY;
-use study_reader::keywords::REMOVE_BIAS;
-use study_reader::keywords::REPEAT;
-use study_reader::keywords::SET_TARGETS;
-use study_reader::keywords::SETTLE;
-use study_reader::keywords::SWEEP;
-use study_reader::keywords::TABLE;
-use study_reader::keywords::WARM_START;
-use study_reader::keywords::WRITE_BACK;
-use study_reader::keywords::call_keyword;
 use study_reader::names::body_name;
-use study_reader::storage::word_at;
-use study_reader::storage::words_base;
 use study_reader::words::Word;
-use study_reader::words::is_empty;
-use study_reader::words::next_line;
 use study_reader::words::next_word;
+use study_run::motors::Motors;
+use study_run::places::Place;
+use study_run::runs::Done;
+use study_run::runs::Reply;
+use study_run::runs::run_load;
+use study_run::turns::Told;
+use study_run::turns::Turned;
+use study_run::turns::turn;
 use study_text::velocity::write_velocity;
-
-// A call's refusal, or 0, and the header after it.
-pub struct Done {
-    pub header: Header,
-    pub refused: u32,
-}
-
-fn plain(header: Header, answer: Plain) -> Done {
-    match answer {
-        Plain::Granted => Done { header, refused: 0 },
-        Plain::Refused(k) => Done { header, refused: k },
-    }
-}
-
-// The header after a load, and after new masks.
-fn loaded(header: Header, answer: LoadAnswer) -> Done {
-    match answer {
-        LoadAnswer::Loaded(after) => Done {
-            header: after,
-            refused: 0,
-        },
-        LoadAnswer::Refused(k) => Done { header, refused: k },
-    }
-}
-
-fn run_load(
-    header: Header,
-    bodies: &[f32],
-    words: &mut [u32],
-    numbers: &[f32],
-    rows: &[f32],
-) -> Done {
-    loaded(header, load(header, bodies, words, numbers, rows))
-}
-
-// A joint's new masks.
-fn run_masks(
-    header: Header,
-    bodies: &[f32],
-    words: &mut [u32],
-    numbers: &[f32],
-    rows: &[f32],
-    l: Line,
-) -> Done {
-    loaded(
-        header,
-        set_masks(header, bodies, words, numbers, rows, l.number, l.masks),
-    )
-}
-
-fn warmstart_of(l: Line) -> Warmstart {
-    if l.warm {
-        return Warmstart::Warm(l.x);
-    }
-    Warmstart::Cold
-}
-
-fn run_build(
-    header: Header,
-    bodies: &[f32],
-    words: &[u32],
-    numbers: &[f32],
-    rows: &mut [f32],
-    l: Line,
-) -> Done {
-    let warmstart = warmstart_of(l);
-    match build(header, bodies, words, numbers, rows, warmstart, l.number) {
-        BuildAnswer::Built(after, _) => Done {
-            header: after,
-            refused: 0,
-        },
-        BuildAnswer::Refused(k) => Done { header, refused: k },
-    }
-}
-
-fn run_frame(
-    header: Header,
-    bodies: &mut [f32],
-    words: &[u32],
-    numbers: &mut [f32],
-    rows: &mut [f32],
-    counts: &mut [u8],
-    l: Line,
-) -> Done {
-    let warmstart = warmstart_of(l);
-    let made = frame(
-        header,
-        bodies,
-        words,
-        numbers,
-        rows,
-        warmstart,
-        l.sweeps,
-        l.number,
-    );
-    let answer = made.answer;
-    let after = made.header;
-    let answered = made.counts;
-    keep(counts, &answered, l.sweeps);
-    plain(after, answer)
-}
-
-fn run_place(header: Header, bodies: &mut [f32], words: &[u32], numbers: &[f32], l: Line) -> Done {
-    let pose = Pose {
-        rotation: Rotation { re: l.re, im: l.im },
-        translation: Vector { x: l.x, y: l.y },
-    };
-    plain(
-        header,
-        place(header, bodies, words, numbers, l.number, pose),
-    )
-}
 
 // Not a refusal's number: a file that cannot be read, or standard output that cannot be written.
 pub const NO_FILE: u32 = 99;
 
-// ---- what is printed
-
-fn heading_of(words: &[u32], j: u32, csv: bool) -> Heading {
-    let o = words_base(j);
-    if o < 2048 {
-        return Heading {
-            joint: j,
-            body1: word_at(words, o),
-            body2: word_at(words, o + 1),
-            coupled: word_at(words, o + 5),
-            csv,
-        };
-    }
-    Heading {
-        joint: j,
-        body1: 0,
-        body2: 0,
-        coupled: 0,
-        csv,
-    }
-}
-
-fn run_read_rows(
-    text: &[u8],
-    names: &[u32],
-    header: Header,
-    bodies: &[f32],
-    words: &[u32],
-    numbers: &[f32],
-    rows: &[f32],
-    j: u32,
-) -> Done {
-    let h = heading_of(words, j, false);
-    let p = joint_lines(text, names, header, bodies, words, numbers, rows, h, 0);
-    Done {
-        header,
-        refused: p.refused,
-    }
-}
-
-fn all_lines(
-    text: &[u8],
-    names: &[u32],
-    header: Header,
-    bodies: &[f32],
-    words: &[u32],
-    numbers: &[f32],
-    rows: &[f32],
-    joints: u32,
-    csv: bool,
-) -> Printed {
-    let mut p = Printed {
-        refused: 0,
-        used: 0,
-    };
-    let mut j: u32 = 0;
-    while j < joints {
-        let h = heading_of(words, j, csv);
-        p = joint_lines(text, names, header, bodies, words, numbers, rows, h, p.used);
-        if p.refused != 0 {
-            return p;
-        }
-        j += 1;
-    }
-    p
-}
-
-// The joints' reactions, a line each, under the rows.
-fn all_reactions(
-    text: &[u8],
-    names: &[u32],
-    header: Header,
-    bodies: &[f32],
-    words: &[u32],
-    numbers: &[f32],
-    rows: &[f32],
-    counts: &[u8],
-    joints: u32,
-    csv: bool,
-) {
-    out_reaction_heading(csv);
-    let mut j: u32 = 0;
-    while j < joints {
-        let h = heading_of(words, j, csv);
-        reaction_line(text, names, header, bodies, words, numbers, rows, counts, h);
-        j += 1;
-    }
-}
-
-fn run_table(
-    text: &[u8],
-    names: &[u32],
-    header: Header,
-    bodies: &[f32],
-    words: &[u32],
-    numbers: &[f32],
-    rows: &[f32],
-    counts: &[u8],
-    joints: u32,
-    l: Line,
-) -> Done {
-    let csv = l.csv;
-    if !header.built {
-        return Done {
-            header,
-            refused: 10,
-        };
-    }
-    out_heading(csv);
-    let p = all_lines(
-        text,
-        names,
-        header,
-        bodies,
-        words,
-        numbers,
-        rows,
-        joints,
-        csv,
-    );
-    if p.refused == 0 {
-        let most = largest(header, bodies, words, numbers, rows, joints);
-        if !csv {
-            out_residual(text, names, most);
-        }
-        all_reactions(
-            text,
-            names,
-            header,
-            bodies,
-            words,
-            numbers,
-            rows,
-            counts,
-            joints,
-            csv,
-        );
-        if !csv {
-            out_reaction_notes();
-            out_rules(p.used);
-        }
-    }
-    Done {
-        header,
-        refused: p.refused,
-    }
-}
-
-fn out_velocity(name: &[u8], v: SolverVel) {
-    let mut line = io::buffer();
-    let linear = v.linear;
-    let n = write_velocity(&mut line, name, linear.x, linear.y, v.angular);
-    out_part(&line, 0, n);
-}
-
-// A body's velocity, by its name.
-fn velocity_line(text: &[u8], names: &[u32], i: u32, v: SolverVel) {
-    let w = body_name(names, i);
-    let start = w.start;
-    let end = w.end;
-    if text.len() < end {
-        return;
-    }
-    if end < start {
-        return;
-    }
-    out_velocity(&text[start..end], v);
-}
-
-fn run_read_velocity(
-    text: &[u8],
-    names: &[u32],
-    header: Header,
-    bodies: &[f32],
-    words: &[u32],
-    numbers: &[f32],
-    i: u32,
-) -> Done {
-    match read_velocity(header, bodies, words, numbers, i) {
-        VelocityAnswer::Velocity(v) => {
-            velocity_line(text, names, i, v);
-            Done { header, refused: 0 }
-        }
-        VelocityAnswer::Refused(k) => Done { header, refused: k },
-    }
-}
-
-// ---- one call
-
-fn run_reading(
-    text: &[u8],
-    names: &[u32],
-    header: Header,
-    bodies: &[f32],
-    words: &[u32],
-    numbers: &[f32],
-    rows: &[f32],
-    counts: &[u8],
-    joints: u32,
-    l: Line,
-) -> Done {
-    if l.keyword == READ_ROWS {
-        return run_read_rows(text, names, header, bodies, words, numbers, rows, l.number);
-    }
-    if l.keyword == READ_VELOCITY {
-        return run_read_velocity(text, names, header, bodies, words, numbers, l.number);
-    }
-    if l.keyword == TABLE {
-        return run_table(
-            text,
-            names,
-            header,
-            bodies,
-            words,
-            numbers,
-            rows,
-            counts,
-            joints,
-            l,
-        );
-    }
-    Done { header, refused: 0 }
-}
-
-fn run_working(
-    header: Header,
-    bodies: &mut [f32],
-    words: &[u32],
-    numbers: &mut [f32],
-    rows: &mut [f32],
-    counts: &mut [u8],
-    l: Line,
-) -> Done {
-    if l.keyword == WARM_START {
-        return plain(header, warm_start(header, bodies, words, numbers, rows));
-    }
-    if l.keyword == SWEEP {
-        let swept = sweep(header, bodies, words, numbers, rows, l.number);
-        let answer = swept.answer;
-        let answered = swept.counts;
-        keep(counts, &answered, l.number);
-        return plain(header, answer);
-    }
-    if l.keyword == REMOVE_BIAS {
-        return plain(header, remove_bias(header, bodies, words, numbers, rows));
-    }
-    plain(header, write_back(header, bodies, words, numbers, rows))
-}
-
-fn run_call(
-    name: &[u8],
-    text: &[u8],
-    names: &[u32],
-    header: Header,
-    bodies: &mut [f32],
-    words: &mut [u32],
-    numbers: &mut [f32],
-    rows: &mut [f32],
-    counts: &mut [u8],
-    joints: u32,
-    l: Line,
-) -> Done {
-    if l.keyword == LOAD {
-        forget(counts);
-        return run_load(header, bodies, words, numbers, rows);
-    }
-    if l.keyword == MASKS {
-        forget(counts);
-        return run_masks(header, bodies, words, numbers, rows, l);
-    }
-    if l.keyword == PLACE {
-        return run_place(header, bodies, words, numbers, l);
-    }
-    if l.keyword == BUILD {
-        forget(counts);
-        return run_build(header, bodies, words, numbers, rows, l);
-    }
-    if l.keyword == FRAME {
-        forget(counts);
-        return run_frame(header, bodies, words, numbers, rows, counts, l);
-    }
-    if l.keyword == SET_TARGETS {
-        let w = Word {
-            start: l.start,
-            end: l.end,
-        };
-        let refused = run_targets(name, text, w, header, bodies, words, numbers);
-        return Done { header, refused };
-    }
-    if l.keyword == SETTLE {
-        let refused = settle(
-            text,
-            names,
-            header,
-            bodies,
-            words,
-            numbers,
-            rows,
-            counts,
-            joints,
-            l.x,
-            l.number,
-        );
-        return Done { header, refused };
-    }
-    if l.keyword <= WRITE_BACK {
-        return run_working(header, bodies, words, numbers, rows, counts, l);
-    }
-    run_reading(
-        text,
-        names,
-        header,
-        bodies,
-        words,
-        numbers,
-        rows,
-        counts,
-        joints,
-        l,
-    )
-}
-
-// ---- records of the tables alone
-
-fn all_records(
-    name: &[u8],
-    text: &[u8],
-    names: &[u32],
-    header: Header,
-    bodies: &[f32],
-    words: &[u32],
-    numbers: &[f32],
-    rows: &[f32],
-    counts: &[u8],
-    joints: u32,
-    t: Table,
-    kind: u32,
-) {
-    let mut j: u32 = 0;
-    while j < joints {
-        let h = heading_of(words, j, true);
-        joint_records(
-            name,
-            text,
-            names,
-            header,
-            bodies,
-            words,
-            numbers,
-            rows,
-            counts,
-            t,
-            h,
-            kind,
-        );
-        j += 1;
-    }
-}
-
-fn record_table(
-    name: &[u8],
-    text: &[u8],
-    names: &[u32],
-    header: Header,
-    bodies: &[f32],
-    words: &[u32],
-    numbers: &[f32],
-    rows: &[f32],
-    counts: &[u8],
-    st: State,
-    t: Table,
-    kind: u32,
-) -> Done {
-    if !header.built {
-        return Done {
-            header,
-            refused: 10,
-        };
-    }
-    if kind == VELOCITIES {
-        velocity_records(
-            name,
-            text,
-            names,
-            header,
-            bodies,
-            words,
-            numbers,
-            t,
-            st.bodies,
-        );
-    } else {
-        all_records(
-            name,
-            text,
-            names,
-            header,
-            bodies,
-            words,
-            numbers,
-            rows,
-            counts,
-            st.joints,
-            t,
-            kind,
-        );
-    }
-    Done { header, refused: 0 }
-}
-
-// What a reading would be refused with.
-fn read_nothing(
-    header: Header,
-    bodies: &[f32],
-    words: &[u32],
-    numbers: &[f32],
-    rows: &[f32],
-    l: Line,
-) -> Done {
-    if l.keyword == READ_ROWS {
-        let read = read_rows(header, bodies, words, numbers, rows, l.number);
-        let answer = read.answer;
-        return plain(header, answer);
-    }
-    if l.keyword == READ_VELOCITY {
-        return match read_velocity(header, bodies, words, numbers, l.number) {
-            VelocityAnswer::Velocity(_) => Done { header, refused: 0 },
-            VelocityAnswer::Refused(k) => Done { header, refused: k },
-        };
-    }
-    Done { header, refused: 0 }
-}
-
-// A call that prints, as records or not at all; any other call as it is.
-fn run_or_record(
-    name: &[u8],
-    text: &[u8],
-    names: &[u32],
-    header: Header,
-    bodies: &mut [f32],
-    words: &mut [u32],
-    numbers: &mut [f32],
-    rows: &mut [f32],
-    counts: &mut [u8],
-    st: State,
-    l: Line,
-    t: Table,
-    kind: u32,
-) -> Done {
-    if kind != ALL {
-        if l.keyword == TABLE {
-            return record_table(
-                name,
-                text,
-                names,
-                header,
-                bodies,
-                words,
-                numbers,
-                rows,
-                counts,
-                st,
-                t,
-                kind,
-            );
-        }
-        if l.keyword == SETTLE {
-            let refused = settle_unsaid(
-                header,
-                bodies,
-                words,
-                numbers,
-                rows,
-                counts,
-                st.joints,
-                l.x,
-                l.number,
-            );
-            return Done { header, refused };
-        }
-        if l.keyword == READ_ROWS {
-            return read_nothing(header, bodies, words, numbers, rows, l);
-        }
-        if l.keyword == READ_VELOCITY {
-            return read_nothing(header, bodies, words, numbers, rows, l);
-        }
-    }
-    run_call(
-        name,
-        text,
-        names,
-        header,
-        bodies,
-        words,
-        numbers,
-        rows,
-        counts,
-        st.joints,
-        l,
-    )
-}
-
-// ---- all calls
-
-// How far a study is: the header; where the next line is; the `repeat` that is open, by where its first line is and how many turns are left
-// after this one; whether it is over, and the refusal that ended it, or 0; whether there was a
+// How far a study is: the line that comes next, and what is by value of what the calls work on; whether it is over, and the refusal that ended it, or 0; whether there was a
 // warning; what is printed of the study, and how many tables were printed.
 pub struct Run {
+    pub place: Place,
     pub header: Header,
-    pub at: usize,
-    pub first: usize,
-    pub left: u32,
+    pub motors: Motors,
     pub over: bool,
     pub refused: u32,
     pub warned: bool,
@@ -714,61 +51,24 @@ pub struct Run {
     pub tables: u32,
 }
 
-// Past the `end` of a `repeat` of no turns.
-pub fn skip(text: &[u8], from: usize) -> usize {
-    let mut at = from;
-    let mut lines = text.len();
-    while 0 < lines {
-        let w = next_word(text, at);
-        at = next_line(text, w.end);
-        if call_keyword(text, w) == END {
-            return at;
-        }
-        lines -= 1;
+// The number of a refusal, or 0.
+pub fn refusal_of(done: Done) -> u32 {
+    let reply = done.reply;
+    match reply {
+        Reply::Refused(k) => k,
+        _ => 0,
     }
-    at
 }
 
-// The same `repeat`, another line.
-fn moved(r: Run, at: usize) -> Run {
-    let mut s = r;
-    s.at = at;
-    s
+// No round was swept.
+fn unswept() -> Motors {
+    Motors {
+        swept: false,
+        counts: [0u8; 128],
+    }
 }
 
-fn repeating(r: Run, first: usize, left: u32) -> Run {
-    let mut s = r;
-    s.at = first;
-    s.first = first;
-    s.left = left;
-    s
-}
-
-fn after_repeat(text: &[u8], r: Run, next: usize, turns: u32) -> Run {
-    if turns == 0 {
-        return moved(r, skip(text, next));
-    }
-    repeating(r, next, turns - 1)
-}
-
-fn after_end(r: Run, next: usize) -> Run {
-    let left = r.left;
-    if left == 0 {
-        return moved(r, next);
-    }
-    repeating(r, r.first, left - 1)
-}
-
-fn after_call(text: &[u8], r: Run, l: Line) -> Run {
-    let next = next_line(text, l.at);
-    if l.keyword == REPEAT {
-        return after_repeat(text, r, next, l.number);
-    }
-    if l.keyword == END {
-        return after_end(r, next);
-    }
-    moved(r, next)
-}
+// ---- what is told of a refusal
 
 fn say_refused(name: &[u8], text: &[u8], k: u32, at: usize) {
     say_place(name, text, at);
@@ -777,17 +77,6 @@ fn say_refused(name: &[u8], text: &[u8], k: u32, at: usize) {
     err(b": ");
     say_rule(k);
     err(b"; here: ");
-}
-
-// How far a long study is, where somebody watches.
-fn say_progress(calls: u64) {
-    if calls % 100000 == 0 {
-        if libc::isatty(STDERR_FILENO) == 1 {
-            err(b"study: ");
-            err_number(calls);
-            err(b" calls\n");
-        }
-    }
 }
 
 // Tells where a call was refused.
@@ -831,8 +120,8 @@ pub fn check_study(
     rows: &[f32],
     read: State,
 ) -> u32 {
-    let done = run_load(header, bodies, words, numbers, rows);
-    if done.refused != 0 {
+    let k = refusal_of(run_load(header, bodies, words, numbers, rows, unswept()));
+    if k != 0 {
         say_all(
             name,
             text,
@@ -843,17 +132,79 @@ pub fn check_study(
             words,
             numbers,
             read.calls,
-            done.refused,
+            k,
         );
     }
-    done.refused
+    k
 }
 
-// The run after a call that was granted.
-fn granted(text: &[u8], r: Run, header: Header, l: Line) -> Run {
+// How far a long study is, where somebody watches.
+fn say_progress(calls: u64) {
+    if calls % 100000 == 0 {
+        if libc::isatty(STDERR_FILENO) == 1 {
+            err(b"study: ");
+            err_number(calls);
+            err(b" calls\n");
+        }
+    }
+}
+
+// ---- what is printed
+
+fn out_velocity(name: &[u8], v: SolverVel) {
+    let mut line = io::buffer();
+    let linear = v.linear;
+    let n = write_velocity(&mut line, name, linear.x, linear.y, v.angular);
+    out_part(&line, 0, n);
+}
+
+// A body's velocity, by its name.
+fn velocity_line(text: &[u8], names: &[u32], i: u32, v: SolverVel) {
+    let w = body_name(names, i);
+    let start = w.start;
+    let end = w.end;
+    if text.len() < end {
+        return;
+    }
+    if end < start {
+        return;
+    }
+    out_velocity(&text[start..end], v);
+}
+
+// ---- the run after a turn
+
+// The next line.
+fn went(r: Run, t: Turned) -> Run {
+    let place = t.place;
+    let header = t.header;
+    let motors = t.motors;
+    Run {
+        place,
+        header,
+        motors,
+        over: false,
+        refused: 0,
+        warned: r.warned,
+        kind: r.kind,
+        tables: r.tables,
+    }
+}
+
+// The run that a refusal, or the end of the text, ends: its place stays that of the line.
+fn ended(r: Run, k: u32) -> Run {
     let mut s = r;
-    s.header = header;
-    after_call(text, s, l)
+    s.over = true;
+    s.refused = k;
+    s
+}
+
+// Standard output that cannot be written ends a study too.
+fn printed(r: Run, t: Turned) -> Run {
+    if is_lost(STDOUT_FILENO) {
+        return ended(r, NO_FILE);
+    }
+    went(r, t)
 }
 
 fn counted(tables: u32) -> u32 {
@@ -863,123 +214,217 @@ fn counted(tables: u32) -> u32 {
     tables
 }
 
-fn with_table(r: Run, warned: bool, keyword: u32) -> Run {
-    let mut s = r;
-    s.warned = either(r.warned, warned);
-    if keyword == TABLE {
-        s.tables = counted(r.tables);
-    }
-    s
-}
-
-// What a table's numbers say of themselves.
-fn warn_table(
-    name: &[u8],
+// What a call asks to be printed of the model: a joint's rows, a body's velocity, or after how many rounds the rows are settled or not, with the row of the largest residual.
+fn print_reply(
     text: &[u8],
+    names: &[u32],
     header: Header,
     bodies: &[f32],
     words: &[u32],
     numbers: &[f32],
     rows: &[f32],
+    motors: Motors,
     joints: u32,
-    keyword: u32,
-    w: Word,
-) -> bool {
-    if keyword != TABLE {
-        return false;
+    reply: Reply,
+) {
+    match reply {
+        Reply::Rows(j) => print_rows(text, names, header, bodies, words, numbers, rows, motors, j),
+        Reply::Velocity(i, v) => velocity_line(text, names, i, v),
+        Reply::Settled(settled, n) => {
+            say_rounds(settled, n);
+            out_residual(
+                text,
+                names,
+                largest(header, bodies, words, numbers, rows, joints),
+            );
+        }
+        _ => (),
     }
-    let most = largest(header, bodies, words, numbers, rows, joints);
-    warn_residual(name, text, w.start, most)
 }
 
-// The run that a refusal ends.
-fn refused(r: Run, k: u32) -> Run {
-    let mut s = r;
-    s.over = true;
-    s.refused = k;
-    s
-}
-
-// The run after a call.
-fn after_turn(
+// A table, or its records, and what its numbers say of themselves.
+fn table_turn(
     name: &[u8],
     text: &[u8],
+    names: &[u32],
     bodies: &[f32],
     words: &[u32],
     numbers: &[f32],
     rows: &[f32],
     st: State,
     r: Run,
-    w: Word,
-    l: Line,
-    done: Done,
+    t: Turned,
+    csv: bool,
 ) -> Run {
-    let k = done.refused;
-    let header = done.header;
-    if WRITE_BACK < l.keyword {
-        if is_lost(STDOUT_FILENO) {
-            return refused(r, NO_FILE);
-        }
-    }
-    if k == 0 {
-        let warned = warn_table(
-            name,
+    let header = t.header;
+    let motors = t.motors;
+    let w = next_word(text, r.place.at);
+    let number = counted(r.tables);
+    let most = largest(header, bodies, words, numbers, rows, st.joints);
+    if r.kind == ALL {
+        print_table(
             text,
+            names,
             header,
             bodies,
             words,
             numbers,
             rows,
+            motors,
             st.joints,
-            l.keyword,
-            w,
+            csv,
+            most,
         );
-        return granted(text, with_table(r, warned, l.keyword), header, l);
+    } else {
+        let table = Table {
+            at: w.start,
+            number,
+        };
+        record_table(
+            name,
+            text,
+            names,
+            header,
+            bodies,
+            words,
+            numbers,
+            rows,
+            motors,
+            st,
+            table,
+            r.kind,
+        );
     }
-    refused(r, k)
+    let mut s = printed(r, t);
+    if s.over {
+        return s;
+    }
+    s.warned = either(r.warned, warn_residual(name, text, w.start, most));
+    s.tables = number;
+    s
 }
 
-// The call that starts with a word.
-fn turn_call(
+// The motor table that a call names.
+fn targets_turn(
     name: &[u8],
     text: &[u8],
-    names: &[u32],
-    bodies: &mut [f32],
-    words: &mut [u32],
+    bodies: &[f32],
+    words: &[u32],
     numbers: &mut [f32],
-    rows: &mut [f32],
-    counts: &mut [u8],
-    st: State,
+    rows: &[f32],
     r: Run,
+    t: Turned,
     w: Word,
 ) -> Run {
-    // A `repeat` is read where none is open, an `end` where one is: the text was read before.
-    let open = call_keyword(text, w) == END;
-    let l = read_call(text, names, st.bodies, st.joints, open, w);
-    let t = Table {
-        at: w.start,
-        number: counted(r.tables),
-    };
-    let done = run_or_record(
-        name,
-        text,
-        names,
-        r.header,
-        bodies,
-        words,
-        numbers,
-        rows,
-        counts,
-        st,
-        l,
-        t,
-        r.kind,
-    );
-    after_turn(name, text, bodies, words, numbers, rows, st, r, w, l, done)
+    let header = t.header;
+    let motors = t.motors;
+    let k = set_named_targets(name, text, w, header, bodies, words, numbers, rows, motors);
+    if k != 0 {
+        return ended(r, k);
+    }
+    printed(r, t)
 }
+
+// What a call said: printed, fetched, or the end.
+fn replied(
+    name: &[u8],
+    text: &[u8],
+    names: &[u32],
+    bodies: &[f32],
+    words: &[u32],
+    numbers: &mut [f32],
+    rows: &[f32],
+    st: State,
+    r: Run,
+    t: Turned,
+    reply: Reply,
+) -> Run {
+    match reply {
+        Reply::Granted => went(r, t),
+        Reply::Refused(k) => ended(r, k),
+        Reply::Table(csv) => table_turn(
+            name,
+            text,
+            names,
+            bodies,
+            words,
+            numbers,
+            rows,
+            st,
+            r,
+            t,
+            csv,
+        ),
+        Reply::Targets(start, end) => targets_turn(
+            name,
+            text,
+            bodies,
+            words,
+            numbers,
+            rows,
+            r,
+            t,
+            Word { start, end },
+        ),
+        _ => {
+            if r.kind == ALL {
+                let header = t.header;
+                let motors = t.motors;
+                print_reply(
+                    text,
+                    names,
+                    header,
+                    bodies,
+                    words,
+                    numbers,
+                    rows,
+                    motors,
+                    st.joints,
+                    reply,
+                );
+            }
+            printed(r, t)
+        }
+    }
+}
+
+// What a turn tells.
+fn turned(
+    name: &[u8],
+    text: &[u8],
+    names: &[u32],
+    bodies: &[f32],
+    words: &[u32],
+    numbers: &mut [f32],
+    rows: &[f32],
+    st: State,
+    r: Run,
+    t: Turned,
+) -> Run {
+    let told = t.told;
+    match told {
+        Told::Over => ended(r, 0),
+        Told::Passed => went(r, t),
+        Told::Called(reply) => replied(
+            name,
+            text,
+            names,
+            bodies,
+            words,
+            numbers,
+            rows,
+            st,
+            r,
+            t,
+            reply,
+        ),
+    }
+}
+
+// ---- all calls
 
 // One line.
-fn turn(
+fn run_turn(
     name: &[u8],
     text: &[u8],
     names: &[u32],
@@ -987,60 +432,26 @@ fn turn(
     words: &mut [u32],
     numbers: &mut [f32],
     rows: &mut [f32],
-    counts: &mut [u8],
     st: State,
     r: Run,
 ) -> Run {
-    if text.len() <= r.at {
-        return refused(r, 0);
-    }
-    let w = next_word(text, r.at);
-    if is_empty(w) {
-        return moved(r, next_line(text, w.end));
-    }
-    turn_call(
-        name,
+    let place = r.place;
+    let header = r.header;
+    let motors = r.motors;
+    let t = turn(
         text,
         names,
+        st.bodies,
+        st.joints,
+        place,
+        header,
         bodies,
         words,
         numbers,
         rows,
-        counts,
-        st,
-        r,
-        w,
-    )
-}
-
-// A turn, and where somebody watches, how far the study is.
-fn told_turn(
-    name: &[u8],
-    text: &[u8],
-    names: &[u32],
-    bodies: &mut [f32],
-    words: &mut [u32],
-    numbers: &mut [f32],
-    rows: &mut [f32],
-    counts: &mut [u8],
-    st: State,
-    r: Run,
-    calls: u64,
-) -> Run {
-    let next = turn(
-        name,
-        text,
-        names,
-        bodies,
-        words,
-        numbers,
-        rows,
-        counts,
-        st,
-        r,
+        motors,
     );
-    say_progress(calls);
-    next
+    turned(name, text, names, bodies, words, numbers, rows, st, r, t)
 }
 
 // All calls, as far as the first that is refused.
@@ -1052,7 +463,6 @@ fn run_calls(
     words: &mut [u32],
     numbers: &mut [f32],
     rows: &mut [f32],
-    counts: &mut [u8],
     st: State,
     start: Run,
 ) -> Run {
@@ -1063,19 +473,8 @@ fn run_calls(
             return r;
         }
         calls += 1;
-        r = told_turn(
-            name,
-            text,
-            names,
-            bodies,
-            words,
-            numbers,
-            rows,
-            counts,
-            st,
-            r,
-            calls,
-        );
+        r = run_turn(name, text, names, bodies, words, numbers, rows, st, r);
+        say_progress(calls);
     }
     r
 }
@@ -1094,20 +493,8 @@ pub fn run_study(
     st: State,
     kind: u32,
 ) -> Run {
-    let mut counts = [0u8; 129];
     let start = begun(header, st.calls, kind);
-    let r = run_calls(
-        name,
-        text,
-        names,
-        bodies,
-        words,
-        numbers,
-        rows,
-        &mut counts,
-        st,
-        start,
-    );
+    let r = run_calls(name, text, names, bodies, words, numbers, rows, st, start);
     say_ended(
         name,
         text,
@@ -1140,7 +527,7 @@ fn say_ended(
     if r.refused == NO_FILE {
         return;
     }
-    let w = next_word(text, r.at);
+    let w = next_word(text, r.place.at);
     say_all(
         name,
         text,
@@ -1157,10 +544,13 @@ fn say_ended(
 
 fn begun(header: Header, at: usize, kind: u32) -> Run {
     Run {
+        place: Place {
+            at,
+            first: 0,
+            left: 0,
+        },
         header,
-        at,
-        first: 0,
-        left: 0,
+        motors: unswept(),
         over: false,
         refused: 0,
         warned: false,

@@ -1,8 +1,8 @@
 // The study that a seed draws (document 02, R-11), printed.
+use crate::model_text::print_model;
 use crate::out::err;
 use crate::out::out;
 use crate::out::out_number;
-use crate::out::out_part;
 use model::header::Header;
 use model::layout::BODY_WIDTH;
 use model::layout::NUMBERS_WIDTH;
@@ -12,7 +12,6 @@ use seeded::seeded::SEEDED_NUMBERS;
 use seeded::seeded::SEEDED_WORDS;
 use seeded::seeded::SeededAnswer;
 use seeded::seeded::seeded;
-use study_writer::study::write_study;
 
 enum Seed {
     Number(u32),
@@ -52,52 +51,14 @@ fn say_no_seed() -> u32 {
 }
 
 // The model's text, which names its seed first.
-fn print_model(seed: u32, header: Header, bodies: &[f32], words: &[u32], numbers: &[f32]) -> u32 {
-    let mut text = [0u8; 32768];
-    let n = write_study(&mut text, header, bodies, words, numbers);
-    if text.len() < n {
-        return 2;
-    }
+fn print_seed(seed: u32, header: Header, bodies: &[f32], words: &[u32], numbers: &[f32]) -> u32 {
     out(b"# the study of seed ");
     out_number(seed as u64);
     out(b"\n");
-    out_part(&text, 0, n);
-    0
+    print_model(header, bodies, words, numbers)
 }
 
-// As many joints as there are: their numbers.
-fn print_numbers(
-    seed: u32,
-    header: Header,
-    bodies: &[f32],
-    words: &[u32],
-    numbers: &[f32],
-    joints: u32,
-) -> u32 {
-    let n = NUMBERS_WIDTH * joints as usize;
-    if numbers.len() < n {
-        return 2;
-    }
-    print_model(seed, header, bodies, words, &numbers[0..n])
-}
-
-// Their words.
-fn print_words(
-    seed: u32,
-    header: Header,
-    bodies: &[f32],
-    words: &[u32],
-    numbers: &[f32],
-    joints: u32,
-) -> u32 {
-    let w = WORDS_WIDTH * joints as usize;
-    if words.len() < w {
-        return 2;
-    }
-    print_numbers(seed, header, bodies, &words[0..w], numbers, joints)
-}
-
-// As many bodies as there are.
+// As many bodies and joints as there are.
 fn print_records(
     seed: u32,
     header: Header,
@@ -108,10 +69,12 @@ fn print_records(
     joints: u32,
 ) -> u32 {
     let b = BODY_WIDTH * n as usize;
-    if bodies.len() < b {
+    let w = WORDS_WIDTH * joints as usize;
+    let m = NUMBERS_WIDTH * joints as usize;
+    if bodies.len() < b || words.len() < w || numbers.len() < m {
         return 2;
     }
-    print_words(seed, header, &bodies[0..b], words, numbers, joints)
+    print_seed(seed, header, &bodies[0..b], &words[0..w], &numbers[0..m])
 }
 
 fn print_seeded(seed: u32) -> u32 {

@@ -1,10 +1,10 @@
 // The table of a built model: a line a row, and the rules that its rows came from.
-use crate::counts::is_swept;
-use crate::counts::motors_at;
 use crate::help::made_by;
 use crate::out::out_part;
+use crate::records::joint_word;
+use crate::residual::Residual;
+use crate::residual::out_residual;
 use catalogue::text::put_id;
-use model::calls::Plain;
 use model::calls::read_rows;
 use model::header::Header;
 use model::layout::WORLD;
@@ -16,6 +16,7 @@ use rows::reaction::Reaction;
 use rows::row_ids::RowIds;
 use study_reader::names::body_name;
 use study_reader::names::joint_name;
+use study_run::motors::Motors;
 use study_text::citations::write_rules;
 use study_text::csv::write_csv_row;
 use study_text::csv_reaction::write_csv_reaction;
@@ -162,13 +163,36 @@ pub fn text_joint(text: &[u8], names: &[u32], h: Heading, line: Line) {
 
 // ---- rows
 
-// One joint: its number, bodies and coupled axes; whether as comma-separated values.
+// One joint: its number, bodies and coupled axes; how many of its motors the last round found low or high, if there was one; whether as comma-separated values.
 pub struct Heading {
     pub joint: u32,
     pub body1: u32,
     pub body2: u32,
     pub coupled: u32,
+    pub swept: bool,
+    pub motors: u8,
     pub csv: bool,
+}
+
+fn motors_at(motors: Motors, joint: u32) -> u8 {
+    let counts = motors.counts;
+    let j = joint as usize;
+    if j < 128 {
+        return counts[j];
+    }
+    0
+}
+
+pub fn heading_of(words: &[u32], motors: Motors, joint: u32, csv: bool) -> Heading {
+    Heading {
+        joint,
+        body1: joint_word(words, joint, 0),
+        body2: joint_word(words, joint, 1),
+        coupled: joint_word(words, joint, 5),
+        swept: motors.swept,
+        motors: motors_at(motors, joint),
+        csv,
+    }
 }
 
 fn bit(rule: u32) -> u32 {
@@ -211,21 +235,8 @@ fn row_lines(
     all
 }
 
-// What a call that prints has to say: a refusal's number, or 0 and the rules that were used.
-pub struct Printed {
-    pub refused: u32,
-    pub used: u32,
-}
-
-fn refusal(answer: Plain) -> u32 {
-    match answer {
-        Plain::Granted => 0,
-        Plain::Refused(k) => k,
-    }
-}
-
 // The rows of one joint.
-pub fn joint_lines(
+fn joint_lines(
     text: &[u8],
     names: &[u32],
     header: Header,
@@ -235,19 +246,11 @@ pub fn joint_lines(
     rows: &[f32],
     h: Heading,
     used: u32,
-) -> Printed {
+) -> u32 {
     let read = read_rows(header, bodies, words, numbers, rows, h.joint);
-    let answer = read.answer;
-    let k = refusal(answer);
-    if k != 0 {
-        return Printed { refused: k, used };
-    }
     let named = read.ids;
     let made = read.rows;
-    Printed {
-        refused: 0,
-        used: row_lines(text, names, bodies, words, h, named, made, used),
-    }
+    row_lines(text, names, bodies, words, h, named, made, used)
 }
 
 // The reaction of one joint: what its rows together gave its bodies; and its motors that the last round found low or high.
@@ -259,7 +262,6 @@ pub fn reaction_line(
     words: &[u32],
     numbers: &[f32],
     rows: &[f32],
-    counts: &[u8],
     h: Heading,
 ) {
     let read = read_rows(header, bodies, words, numbers, rows, h.joint);
@@ -267,8 +269,8 @@ pub fn reaction_line(
     let reaction = reaction_at(bodies, words, numbers, made, h.joint as usize);
     let given = Given {
         reaction,
-        swept: is_swept(counts),
-        motors: motors_at(counts, h.joint),
+        swept: h.swept,
+        motors: h.motors,
     };
     text_joint(text, names, h, Line::Reaction(given));
 }
@@ -307,4 +309,115 @@ pub fn out_rules(used: u32) {
     let n = write_rules(&mut lines, used);
     out_part(&lines, 0, n);
     made_by();
+}
+
+// ---- what a call prints
+
+// A joint's rows, without a heading.
+pub fn print_rows(
+    text: &[u8],
+    names: &[u32],
+    header: Header,
+    bodies: &[f32],
+    words: &[u32],
+    numbers: &[f32],
+    rows: &[f32],
+    motors: Motors,
+    joint: u32,
+) {
+    let h = heading_of(words, motors, joint, false);
+    joint_lines(text, names, header, bodies, words, numbers, rows, h, 0);
+}
+
+// The rows of the first so many joints; answers the rules that they came from.
+fn all_lines(
+    text: &[u8],
+    names: &[u32],
+    header: Header,
+    bodies: &[f32],
+    words: &[u32],
+    numbers: &[f32],
+    rows: &[f32],
+    motors: Motors,
+    joints: u32,
+    csv: bool,
+) -> u32 {
+    let mut used: u32 = 0;
+    let mut j: u32 = 0;
+    while j < joints {
+        let h = heading_of(words, motors, j, csv);
+        used = joint_lines(text, names, header, bodies, words, numbers, rows, h, used);
+        j += 1;
+    }
+    used
+}
+
+// The joints' reactions, a line each, under the rows.
+fn all_reactions(
+    text: &[u8],
+    names: &[u32],
+    header: Header,
+    bodies: &[f32],
+    words: &[u32],
+    numbers: &[f32],
+    rows: &[f32],
+    motors: Motors,
+    joints: u32,
+    csv: bool,
+) {
+    out_reaction_heading(csv);
+    let mut j: u32 = 0;
+    while j < joints {
+        let h = heading_of(words, motors, j, csv);
+        reaction_line(text, names, header, bodies, words, numbers, rows, h);
+        j += 1;
+    }
+}
+
+// A table, with the row of the largest residual.
+pub fn print_table(
+    text: &[u8],
+    names: &[u32],
+    header: Header,
+    bodies: &[f32],
+    words: &[u32],
+    numbers: &[f32],
+    rows: &[f32],
+    motors: Motors,
+    joints: u32,
+    csv: bool,
+    most: Residual,
+) {
+    out_heading(csv);
+    let used = all_lines(
+        text,
+        names,
+        header,
+        bodies,
+        words,
+        numbers,
+        rows,
+        motors,
+        joints,
+        csv,
+    );
+    if !csv {
+        out_residual(text, names, most);
+    }
+    all_reactions(
+        text,
+        names,
+        header,
+        bodies,
+        words,
+        numbers,
+        rows,
+        motors,
+        joints,
+        csv,
+    );
+    if !csv {
+        out_reaction_notes();
+        out_rules(used);
+    }
 }

@@ -4,11 +4,12 @@ use crate::out::err;
 use crate::place::say_place;
 use crate::place::show_line;
 use crate::run::NO_FILE;
-use model::calls::Plain;
-use model::calls::set_targets;
+use crate::run::refusal_of;
 use model::header::Header;
 use study_reader::words::Word;
 use study_reader::words::bytes_of;
+use study_run::motors::Motors;
+use study_run::runs::run_targets;
 
 // ---- the file's name
 
@@ -108,7 +109,7 @@ fn too_long(name: &[u8], text: &[u8], w: Word) -> u32 {
     NO_FILE
 }
 
-// Whether the table that a word names can be opened: 0, or what `run_targets` answers where it cannot.
+// Whether the table that a word names can be opened: 0, or what `set_named_targets` answers where it cannot.
 pub fn find_targets(name: &[u8], text: &[u8], w: Word) -> u32 {
     let mut path = io::buffer();
     let n = put_path(&mut path, name, bytes_of(text, w));
@@ -132,6 +133,8 @@ fn targets_from(
     bodies: &[f32],
     words: &[u32],
     numbers: &mut [f32],
+    rows: &[f32],
+    motors: Motors,
 ) -> u32 {
     let mut table = [0u8; 262144];
     let input = read_all(fd, &mut table);
@@ -142,14 +145,11 @@ fn targets_from(
     if len == 262144 {
         return too_long(name, text, w);
     }
-    match set_targets(header, bodies, words, numbers, &table[..len]) {
-        Plain::Granted => 0,
-        Plain::Refused(k) => k,
-    }
+    refusal_of(run_targets(header, bodies, words, numbers, rows, motors, &table[..len]))
 }
 
 // The call's refusal, or 0.
-pub fn run_targets(
+pub fn set_named_targets(
     name: &[u8],
     text: &[u8],
     w: Word,
@@ -157,6 +157,8 @@ pub fn run_targets(
     bodies: &[f32],
     words: &[u32],
     numbers: &mut [f32],
+    rows: &[f32],
+    motors: Motors,
 ) -> u32 {
     let mut path = io::buffer();
     let n = put_path(&mut path, name, bytes_of(text, w));
@@ -164,7 +166,20 @@ pub fn run_targets(
     if fd < 0 {
         return say_no_table(name, text, w, &path, n);
     }
-    let k = targets_from(name, text, w, &path, n, fd, header, bodies, words, numbers);
+    let k = targets_from(
+        name,
+        text,
+        w,
+        &path,
+        n,
+        fd,
+        header,
+        bodies,
+        words,
+        numbers,
+        rows,
+        motors,
+    );
     libc::close(fd);
     k
 }

@@ -4,21 +4,23 @@ use crate::out::err;
 use crate::out::err_line;
 use crate::out::err_part;
 use crate::place::show_line;
+use crate::records::body_number;
+use crate::records::body_origin;
+use crate::records::frame1_at;
+use crate::records::frame1_rotation;
+use crate::records::frame2_at;
+use crate::records::joint_number;
+use crate::records::joint_origin;
+use crate::records::joint_word;
 use crate::repeated::begin_warning;
 use crate::repeated::either;
 use crate::repeated::scan;
-use floats::rotation_ops::Rotation;
-use floats::vector::Vector;
 use rows::generic_joint::has_axis;
 use study_reader::draft::State;
 use study_reader::names::body_name;
 use study_reader::names::joint_name;
-use study_reader::storage::NUMBERS;
-use study_reader::storage::body_base;
-use study_reader::storage::joint_base;
 use study_reader::storage::number_at;
 use study_reader::storage::word_at;
-use study_reader::storage::words_base;
 use study_reader::words::Word;
 
 // What is told of a body, and from FRAME1 on of a joint.
@@ -126,14 +128,6 @@ fn warn_if(name: &[u8], text: &[u8], w: Word, k: u32, wrong: bool) -> bool {
     false
 }
 
-// At an offset where one is kept, and else at the name.
-fn warn_given(name: &[u8], text: &[u8], origin: u32, w: Word, k: u32) -> bool {
-    if origin == 0 {
-        return warn(name, text, w, k);
-    }
-    warn_at(name, text, origin as usize, w, k)
-}
-
 // A rotation's length is more than a thousandth away from 1.
 fn is_far(re: f32, im: f32) -> bool {
     let length = re * re + im * im;
@@ -143,26 +137,10 @@ fn is_far(re: f32, im: f32) -> bool {
     length < 0.998
 }
 
-fn warn_rotation(name: &[u8], text: &[u8], draft: &[f32], at: usize, w: Word, k: u32) -> bool {
-    if at < NUMBERS {
-        if is_far(number_at(draft, at), number_at(draft, at + 1)) {
-            return warn(name, text, w, k);
-        }
-    }
-    false
-}
-
 // ---- bodies
 
 fn names_body(words: &[u32], j: u32, i: u32) -> bool {
-    let o = words_base(j);
-    if NUMBERS <= o {
-        return false;
-    }
-    if word_at(words, o) == i {
-        return true;
-    }
-    word_at(words, o + 1) == i
+    joint_word(words, j, 0) == i || joint_word(words, j, 1) == i
 }
 
 fn is_named(words: &[u32], joints: u32, i: u32) -> bool {
@@ -176,27 +154,16 @@ fn is_named(words: &[u32], joints: u32, i: u32) -> bool {
     false
 }
 
-fn is_negative(draft: &[f32], base: usize) -> bool {
-    if NUMBERS <= base {
-        return false;
-    }
-    if number_at(draft, base + 5) < 0.0 {
-        return true;
-    }
-    number_at(draft, base + 6) < 0.0
+fn is_negative(draft: &[f32], i: u32) -> bool {
+    body_number(draft, i, 5) < 0.0 || body_number(draft, i, 6) < 0.0
 }
 
 // What a body that a joint names lacks.
-fn warn_masses(name: &[u8], text: &[u8], origins: &[u32], base: usize, w: Word) -> bool {
-    if NUMBERS <= base {
+fn warn_masses(name: &[u8], text: &[u8], origins: &[u32], i: u32, w: Word) -> bool {
+    if body_origin(origins, i, 4) != 0 {
         return false;
     }
-    let mass = word_at(origins, base + 5);
-    let inertia = word_at(origins, base + 4);
-    if inertia != 0 {
-        return false;
-    }
-    if mass != 0 {
+    if body_origin(origins, i, 5) != 0 {
         return warn(name, text, w, NO_INERTIA);
     }
     warn(name, text, w, NO_MASS)
@@ -212,7 +179,7 @@ fn warn_named(
     w: Word,
 ) -> bool {
     if is_named(words, joints, i) {
-        return warn_masses(name, text, origins, body_base(i), w);
+        return warn_masses(name, text, origins, i, w);
     }
     warn(name, text, w, NOT_NAMED)
 }
@@ -227,92 +194,31 @@ fn warn_body(
     joints: u32,
     i: u32,
 ) -> bool {
-    let base = body_base(i);
     let w = body_name(names, i);
-    let turned = warn_rotation(name, text, draft, base, w, ROTATION);
-    let negative = warn_if(name, text, w, NEGATIVE_MASS, is_negative(draft, base));
+    let far = is_far(body_number(draft, i, 0), body_number(draft, i, 1));
+    let turned = warn_if(name, text, w, ROTATION, far);
+    let negative = warn_if(name, text, w, NEGATIVE_MASS, is_negative(draft, i));
     let named = warn_named(name, text, origins, words, joints, i, w);
     either(turned, either(negative, named))
 }
 
 // ---- a joint's frames
 
-fn warn_frames(
-    name: &[u8],
-    text: &[u8],
-    draft: &[f32],
-    origins: &[u32],
-    base: usize,
-    w: Word,
-) -> bool {
-    if NUMBERS <= base {
-        return false;
-    }
-    let no_frame1 = word_at(origins, base + 2) == 0 && word_at(origins, base) == 0;
-    let no_frame2 = word_at(origins, base + 6) == 0 && word_at(origins, base + 4) == 0;
-    let one = warn_if(name, text, w, FRAME1, no_frame1);
-    let two = warn_if(name, text, w, FRAME2, no_frame2);
-    let three = warn_rotation(name, text, draft, base, w, FRAME1_ROTATION);
-    let four = warn_rotation(name, text, draft, base + 4, w, FRAME2_ROTATION);
+fn is_far_at(draft: &[f32], j: u32, re: usize, im: usize) -> bool {
+    is_far(joint_number(draft, j, re), joint_number(draft, j, im))
+}
+
+// A frame of which neither the position nor the rotation was given.
+fn is_missing(origins: &[u32], j: u32, position: usize, rotation: usize) -> bool {
+    joint_origin(origins, j, position) == 0 && joint_origin(origins, j, rotation) == 0
+}
+
+fn warn_frames(name: &[u8], text: &[u8], draft: &[f32], origins: &[u32], j: u32, w: Word) -> bool {
+    let one = warn_if(name, text, w, FRAME1, is_missing(origins, j, 2, 0));
+    let two = warn_if(name, text, w, FRAME2, is_missing(origins, j, 6, 4));
+    let three = warn_if(name, text, w, FRAME1_ROTATION, is_far_at(draft, j, 0, 1));
+    let four = warn_if(name, text, w, FRAME2_ROTATION, is_far_at(draft, j, 4, 5));
     either(either(one, two), either(three, four))
-}
-
-// Where body i is; the world's is the origin.
-pub fn body_at(draft: &[f32], i: u32) -> Vector {
-    let base = body_base(i);
-    if NUMBERS <= base {
-        return Vector { x: 0.0, y: 0.0 };
-    }
-    Vector {
-        x: number_at(draft, base + 2),
-        y: number_at(draft, base + 3),
-    }
-}
-
-pub fn rotation_at(draft: &[f32], i: u32) -> Rotation {
-    let base = body_base(i);
-    if NUMBERS <= base {
-        return Rotation { re: 1.0, im: 0.0 };
-    }
-    Rotation {
-        re: number_at(draft, base),
-        im: number_at(draft, base + 1),
-    }
-}
-
-// A joint's frame on body i, from its place in the joint's numbers.
-pub fn frame_at(draft: &[f32], j: u32, place: usize, i: u32) -> Vector {
-    let base = joint_base(j);
-    if NUMBERS <= base {
-        return Vector { x: 0.0, y: 0.0 };
-    }
-    if 64 < place {
-        return Vector { x: 0.0, y: 0.0 };
-    }
-    let rotation = rotation_at(draft, i);
-    let turned = rotation.rotate(Vector {
-        x: number_at(draft, base + place),
-        y: number_at(draft, base + place + 1),
-    });
-    turned.add(body_at(draft, i))
-}
-
-// The rotation in the world of a joint's frame on body i.
-pub fn frame_rotation(draft: &[f32], j: u32, place: usize, i: u32) -> Rotation {
-    let base = joint_base(j);
-    let body = rotation_at(draft, i);
-    if NUMBERS <= base {
-        return body;
-    }
-    if 64 < place {
-        return body;
-    }
-    let re = number_at(draft, base + place);
-    let im = number_at(draft, base + place + 1);
-    Rotation {
-        re: body.re * re - body.im * im,
-        im: body.re * im + body.im * re,
-    }
 }
 
 fn is_above(x: f32, most: f32) -> bool {
@@ -322,50 +228,41 @@ fn is_above(x: f32, most: f32) -> bool {
     x < -most
 }
 
-fn is_apart(draft: &[f32], words: &[u32], o: usize, j: u32) -> bool {
-    if NUMBERS <= o {
-        return false;
-    }
-    let body1 = word_at(words, o);
-    let one = frame_at(draft, j, 2, body1);
-    let two = frame_at(draft, j, 6, word_at(words, o + 1));
-    let turn = frame_rotation(draft, j, 0, body1);
+fn is_apart(draft: &[f32], words: &[u32], j: u32) -> bool {
+    let one = frame1_at(draft, words, j);
+    let two = frame2_at(draft, words, j);
+    let turn = frame1_rotation(draft, words, j);
     let dx = two.x - one.x;
     let dy = two.y - one.y;
     let most = number_at(draft, 1) * 0.1;
-    let locked = word_at(words, o + 2);
+    let locked = joint_word(words, j, 2);
     if has_axis(locked, 0) {
         if is_above(turn.re * dx + turn.im * dy, most) {
             return true;
         }
     }
-    if has_axis(locked, 1) {
-        return is_above(turn.re * dy - turn.im * dx, most);
-    }
-    false
+    has_axis(locked, 1) && is_above(turn.re * dy - turn.im * dx, most)
 }
 
 // ---- a joint's limits and motors
 
-fn warn_limits(name: &[u8], text: &[u8], draft: &[f32], base: usize, w: Word) -> bool {
-    if NUMBERS <= base {
-        return false;
-    }
-    let x = number_at(draft, base + 9) < number_at(draft, base + 8);
-    let y = number_at(draft, base + 12) < number_at(draft, base + 11);
-    let angle = number_at(draft, base + 15) < number_at(draft, base + 14);
-    let one = warn_if(name, text, w, LIMITS_X, x);
-    let two = warn_if(name, text, w, LIMITS_Y, y);
-    let three = warn_if(name, text, w, LIMITS_ANGLE, angle);
+fn are_reversed(draft: &[f32], j: u32, low: usize, high: usize) -> bool {
+    joint_number(draft, j, high) < joint_number(draft, j, low)
+}
+
+fn warn_limits(name: &[u8], text: &[u8], draft: &[f32], j: u32, w: Word) -> bool {
+    let one = warn_if(name, text, w, LIMITS_X, are_reversed(draft, j, 8, 9));
+    let two = warn_if(name, text, w, LIMITS_Y, are_reversed(draft, j, 11, 12));
+    let three = warn_if(name, text, w, LIMITS_ANGLE, are_reversed(draft, j, 14, 15));
     either(one, either(two, three))
 }
 
 // The offset at which a number of an axis's motor is given, of its first five; 0 where none is.
-fn motor_origin(origins: &[u32], from: usize) -> u32 {
+fn motor_origin(origins: &[u32], j: u32, from: usize) -> u32 {
     let mut i: usize = 0;
     while i < 5 {
-        if from < NUMBERS {
-            let at = word_at(origins, from + i);
+        if from < 64 {
+            let at = joint_origin(origins, j, from + i);
             if at != 0 {
                 return at;
             }
@@ -390,52 +287,23 @@ fn is_idle(coupled: u32, axis: usize) -> bool {
     has_axis(coupled, axis) && axis != first_coupled(coupled)
 }
 
-fn warn_limit_axis(
+// An axis that a mask names or not, by whether its numbers are given; `lacks` where they should be, and `idle` where nothing reads them.
+fn warn_given_axis(
     name: &[u8],
     text: &[u8],
-    words: &[u32],
-    o: usize,
-    axis: usize,
-    given: u32,
     w: Word,
-) -> bool {
-    if NUMBERS <= o {
-        return false;
-    }
-    if 2 < axis {
-        return false;
-    }
-    if has_axis(word_at(words, o + 3), axis) {
-        return warn_if(name, text, w, NO_LIMITS + axis as u32, given == 0);
-    }
-    if given != 0 {
-        return warn_given(name, text, given, w, NOT_LIMITED + axis as u32);
-    }
-    false
-}
-
-fn warn_motor_axis(
-    name: &[u8],
-    text: &[u8],
-    words: &[u32],
-    o: usize,
-    axis: usize,
+    named: bool,
     given: u32,
-    w: Word,
+    lacks: u32,
+    idle: u32,
 ) -> bool {
-    if NUMBERS <= o {
+    if named {
+        return warn_if(name, text, w, lacks, given == 0);
+    }
+    if given == 0 {
         return false;
     }
-    if 2 < axis {
-        return false;
-    }
-    if has_axis(word_at(words, o + 4), axis) {
-        return warn_if(name, text, w, NO_MOTOR + axis as u32, given == 0);
-    }
-    if given != 0 {
-        return warn_given(name, text, given, w, NOT_DRIVEN + axis as u32);
-    }
-    false
+    warn_at(name, text, given as usize, w, idle)
 }
 
 fn warn_axis(
@@ -443,97 +311,70 @@ fn warn_axis(
     text: &[u8],
     origins: &[u32],
     words: &[u32],
-    base: usize,
-    o: usize,
-    axis: usize,
+    j: u32,
+    axis: u32,
     w: Word,
 ) -> bool {
-    if NUMBERS <= base {
-        return false;
-    }
-    if NUMBERS <= o {
-        return false;
-    }
     if 2 < axis {
         return false;
     }
-    if is_idle(word_at(words, o + 5), axis) {
+    let a = axis as usize;
+    if is_idle(joint_word(words, j, 5), a) {
         return false;
     }
-    let limits = word_at(origins, base + 8 + 3 * axis);
-    let motor = motor_origin(origins, base + 17 + 6 * axis);
-    either(
-        warn_limit_axis(name, text, words, o, axis, limits, w),
-        warn_motor_axis(name, text, words, o, axis, motor, w),
-    )
+    let limited = has_axis(joint_word(words, j, 3), a);
+    let limits = joint_origin(origins, j, 8 + 3 * a);
+    let driven = has_axis(joint_word(words, j, 4), a);
+    let motor = motor_origin(origins, j, 17 + 6 * a);
+    let one = warn_given_axis(
+        name,
+        text,
+        w,
+        limited,
+        limits,
+        NO_LIMITS + axis,
+        NOT_LIMITED + axis,
+    );
+    let two = warn_given_axis(
+        name,
+        text,
+        w,
+        driven,
+        motor,
+        NO_MOTOR + axis,
+        NOT_DRIVEN + axis,
+    );
+    either(one, two)
 }
 
-fn warn_axes(
-    name: &[u8],
-    text: &[u8],
-    origins: &[u32],
-    words: &[u32],
-    base: usize,
-    o: usize,
-    w: Word,
-) -> bool {
-    let x = warn_axis(name, text, origins, words, base, o, 0, w);
-    let y = warn_axis(name, text, origins, words, base, o, 1, w);
-    let angle = warn_axis(name, text, origins, words, base, o, 2, w);
+fn warn_axes(name: &[u8], text: &[u8], origins: &[u32], words: &[u32], j: u32, w: Word) -> bool {
+    let x = warn_axis(name, text, origins, words, j, 0, w);
+    let y = warn_axis(name, text, origins, words, j, 1, w);
+    let angle = warn_axis(name, text, origins, words, j, 2, w);
     either(x, either(y, angle))
 }
 
 // Coupled axes whose first is not limited, though another of them is, or nothing drives them.
-fn is_loose(words: &[u32], o: usize) -> bool {
-    if NUMBERS <= o {
-        return false;
-    }
-    let coupled = word_at(words, o + 5) & 3;
+fn is_loose(words: &[u32], j: u32) -> bool {
+    let coupled = joint_word(words, j, 5) & 3;
     if coupled == 0 {
         return false;
     }
-    let limited = word_at(words, o + 3);
+    let limited = joint_word(words, j, 3);
     if has_axis(limited, first_coupled(coupled)) {
         return false;
     }
-    if limited & coupled != 0 {
-        return true;
-    }
-    word_at(words, o + 4) & coupled == 0
+    limited & coupled != 0 || joint_word(words, j, 4) & coupled == 0
 }
 
-fn warn_masks(
-    name: &[u8],
-    text: &[u8],
-    origins: &[u32],
-    words: &[u32],
-    base: usize,
-    o: usize,
-    w: Word,
-) -> bool {
-    let loose = warn_if(name, text, w, COUPLE, is_loose(words, o));
-    either(loose, warn_axes(name, text, origins, words, base, o, w))
+fn warn_masks(name: &[u8], text: &[u8], origins: &[u32], words: &[u32], j: u32, w: Word) -> bool {
+    let loose = warn_if(name, text, w, COUPLE, is_loose(words, j));
+    either(loose, warn_axes(name, text, origins, words, j, w))
 }
 
-fn warn_center(
-    name: &[u8],
-    text: &[u8],
-    draft: &[f32],
-    words: &[u32],
-    base: usize,
-    o: usize,
-    w: Word,
-) -> bool {
-    if NUMBERS <= o {
-        return false;
-    }
-    if NUMBERS <= base {
-        return false;
-    }
-    if word_at(words, o + 10) == 0 {
-        return warn_rotation(name, text, draft, base + 40, w, CENTRE);
-    }
-    false
+// A centre that is not typed as an angle.
+fn is_far_center(draft: &[f32], words: &[u32], j: u32) -> bool {
+    joint_word(words, j, 10) == 0 && is_far_at(draft, j, 40, 41)
 }
 
 // Where a call changes the joint's masks, nothing is said of them.
@@ -547,16 +388,14 @@ fn warn_joint(
     changed: &[u32],
     j: u32,
 ) -> bool {
-    let base = joint_base(j);
-    let o = words_base(j);
     let w = joint_name(names, j);
-    let frames = warn_frames(name, text, draft, origins, base, w);
-    let limits = warn_limits(name, text, draft, base, w);
-    let center = warn_center(name, text, draft, words, base, o, w);
-    let apart = warn_if(name, text, w, FAR_APART, is_apart(draft, words, o, j));
+    let frames = warn_frames(name, text, draft, origins, j, w);
+    let limits = warn_limits(name, text, draft, j, w);
+    let center = warn_if(name, text, w, CENTRE, is_far_center(draft, words, j));
+    let apart = warn_if(name, text, w, FAR_APART, is_apart(draft, words, j));
     let told = either(either(frames, limits), either(center, apart));
     if word_at(changed, j as usize) == 0 {
-        return either(told, warn_masks(name, text, origins, words, base, o, w));
+        return either(told, warn_masks(name, text, origins, words, j, w));
     }
     told
 }
@@ -618,38 +457,42 @@ fn warn_dt(name: &[u8], text: &[u8], draft: &[f32], origins: &[u32]) -> bool {
     true
 }
 
-// Of the whole text, at its start.
-fn say_whole(name: &[u8], text: &[u8], what: &[u8]) -> bool {
-    begin_warning(name, text, 0);
-    err(what);
-    err(b"\n");
-    true
-}
+// Of the whole text, at its start: of a study without items and calls, or of one that is run, that nothing is called or printed.
+const NOTHING: u32 = 0;
 
-// A study without items and calls; of one that is run, that nothing is called or printed.
-fn warn_calls(name: &[u8], text: &[u8], st: State, called: bool, prints: bool, runs: bool) -> bool {
+const EMPTY: u32 = 1;
+
+const NO_CALL: u32 = 2;
+
+const NO_PRINT: u32 = 3;
+
+fn whole_warning(st: State, called: bool, prints: bool, runs: bool) -> u32 {
     if called {
-        if prints {
-            return false;
+        if runs && !prints {
+            return NO_PRINT;
         }
-        if runs {
-            return say_whole(
-                name,
-                text,
-                b"no `table`, `read_rows`, `read_velocity` or `settle`, so that nothing is printed",
-            );
-        }
-        return false;
+        return NOTHING;
     }
-    if st.bodies == 0 {
-        if st.joints == 0 {
-            return say_whole(name, text, b"the study is empty");
-        }
+    if st.bodies == 0 && st.joints == 0 {
+        return EMPTY;
     }
     if runs {
-        return say_whole(name, text, b"no call, so that nothing is run");
+        return NO_CALL;
     }
-    false
+    NOTHING
+}
+
+fn warn_whole(name: &[u8], text: &[u8], k: u32) -> bool {
+    if k == NOTHING {
+        return false;
+    }
+    begin_warning(name, text, 0);
+    err_line(
+        b"\nthe study is empty\nno call, so that nothing is run\nno `table`, `read_rows`, `read_velocity` or `settle`, so that nothing is printed\n",
+        k,
+    );
+    err(b"\n");
+    true
 }
 
 // Whether there was a warning.
@@ -686,6 +529,6 @@ pub fn warnings(
         &changed,
         st.joints,
     );
-    let calls = warn_calls(name, text, st, s.called, s.prints, runs);
+    let calls = warn_whole(name, text, whole_warning(st, s.called, s.prints, runs));
     either(either(s.warned, dt), either(either(bodies, joints), calls))
 }

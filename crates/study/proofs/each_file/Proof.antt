@@ -5,10 +5,10 @@ use Rattle.study.proofs.each_file.Statement.{statement}
 use Rattle.study.proofs.each_file.Tie as tie
 
 abbrev Inv-loop : tie.InvT-loop
-Inv-loop from mode several i₀ status₀ count i status = Unit
+Inv-loop from mode i₀ status₀ count i status = Unit
 
 abbrev μ-loop : tie.MeasureT-loop
-μ-loop from mode several i₀ status₀ count i status = count - i
+μ-loop from mode i₀ status₀ count i status = count - i
 
 arg-count-requires : tie.Need-arg-count-requires Inv-loop μ-loop
 arg-count-requires c κs = search needs

@@ -5,10 +5,10 @@ use Rattle.study.proofs.csv.row_records.Statement.{statement}
 use Rattle.study.proofs.csv.row_records.Tie as tie
 
 abbrev Inv-loop : tie.InvT-loop
-Inv-loop name text names bodies words counts t h named made joint i₀ i = Unit
+Inv-loop name text names bodies words t h named made joint i₀ i = Unit
 
 abbrev μ-loop : tie.MeasureT-loop
-μ-loop name text names bodies words counts t h named made joint i₀ i = 6 - i
+μ-loop name text names bodies words t h named made joint i₀ i = 6 - i
 
 cast-joint : tie.Need-cast-joint Inv-loop μ-loop
 cast-joint c = search needs

@@ -5,10 +5,10 @@ use Rattle.study.proofs.draw.draw_bodies.Statement.{statement}
 use Rattle.study.proofs.draw.draw_bodies.Tie as tie
 
 abbrev Inv-loop : tie.InvT-loop
-Inv-loop pic draft bodies i₀ t6 i = Unit
+Inv-loop pic draft bodies i₀ i = Unit
 
 abbrev μ-loop : tie.MeasureT-loop
-μ-loop pic draft bodies i₀ t6 i = bodies - i
+μ-loop pic draft bodies i₀ i = bodies - i
 
 loop-holds : tie.Need-loop-holds Inv-loop μ-loop
 loop-holds c = search needs
@@ -21,9 +21,6 @@ at-requires c κs = search needs
 
 units-requires : tie.Need-units-requires Inv-loop μ-loop
 units-requires c κs = search needs
-
-slice-aggregate-circle : tie.Need-slice-aggregate-circle Inv-loop μ-loop
-slice-aggregate-circle c = search needs
 
 circle-requires : tie.Need-circle-requires Inv-loop μ-loop
 circle-requires c κs = search needs
@@ -56,7 +53,6 @@ draw-bodies-spec =
     body-at-requires
     at-requires
     units-requires
-    slice-aggregate-circle
     circle-requires
     draw-velocity-requires
     draw-turning-requires

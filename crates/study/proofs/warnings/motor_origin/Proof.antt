@@ -5,19 +5,19 @@ use Rattle.study.proofs.warnings.motor_origin.Statement.{statement}
 use Rattle.study.proofs.warnings.motor_origin.Tie as tie
 
 abbrev Inv-loop : tie.InvT-loop
-Inv-loop origins from i₀ i = Unit
+Inv-loop origins j from i₀ i = Unit
 
 abbrev μ-loop : tie.MeasureT-loop
-μ-loop origins from i₀ i = 5 - i
+μ-loop origins j from i₀ i = 5 - i
 
 loop-holds : tie.Need-loop-holds Inv-loop μ-loop
 loop-holds c = search needs
 
-add-word-at : tie.Need-add-word-at Inv-loop μ-loop
-add-word-at c = search needs
+add-joint-origin : tie.Need-add-joint-origin Inv-loop μ-loop
+add-joint-origin c = search needs
 
-word-at-requires : tie.Need-word-at-requires Inv-loop μ-loop
-word-at-requires c κs = search needs
+joint-origin-requires : tie.Need-joint-origin-requires Inv-loop μ-loop
+joint-origin-requires c κs = search needs
 
 returns : tie.Need-returns Inv-loop μ-loop
 returns c = search needs
@@ -41,8 +41,8 @@ motor-origin-spec =
     Inv-loop
     μ-loop
     loop-holds
-    add-word-at
-    word-at-requires
+    add-joint-origin
+    joint-origin-requires
     returns
     add-i
     loop-less

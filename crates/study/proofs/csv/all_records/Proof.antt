@@ -1,14 +1,14 @@
 -- `all_records` ends.
 use Prim.Native.Nat.{_-_}
 use borrow.Author.Needs.{needs}
-use Rattle.study.proofs.run.all_records.Statement.{statement}
-use Rattle.study.proofs.run.all_records.Tie as tie
+use Rattle.study.proofs.csv.all_records.Statement.{statement}
+use Rattle.study.proofs.csv.all_records.Tie as tie
 
 abbrev Inv-loop : tie.InvT-loop
-Inv-loop name text names header bodies words numbers rows counts joints t kind j₀ j = Unit
+Inv-loop name text names header bodies words numbers rows motors joints t kind j₀ j = Unit
 
 abbrev μ-loop : tie.MeasureT-loop
-μ-loop name text names header bodies words numbers rows counts joints t kind j₀ j = joints - j
+μ-loop name text names header bodies words numbers rows motors joints t kind j₀ j = joints - j
 
 loop-holds : tie.Need-loop-holds Inv-loop μ-loop
 loop-holds c = search needs

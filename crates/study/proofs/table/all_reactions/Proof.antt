@@ -1,14 +1,14 @@
 -- `all_reactions` ends.
 use Prim.Native.Nat.{_-_}
 use borrow.Author.Needs.{needs}
-use Rattle.study.proofs.run.all_reactions.Statement.{statement}
-use Rattle.study.proofs.run.all_reactions.Tie as tie
+use Rattle.study.proofs.table.all_reactions.Statement.{statement}
+use Rattle.study.proofs.table.all_reactions.Tie as tie
 
 abbrev Inv-loop : tie.InvT-loop
-Inv-loop text names header bodies words numbers rows counts joints csv j₀ j = Unit
+Inv-loop text names header bodies words numbers rows motors joints csv j₀ j = Unit
 
 abbrev μ-loop : tie.MeasureT-loop
-μ-loop text names header bodies words numbers rows counts joints csv j₀ j = joints - j
+μ-loop text names header bodies words numbers rows motors joints csv j₀ j = joints - j
 
 out-reaction-heading-requires : tie.Need-out-reaction-heading-requires Inv-loop μ-loop
 out-reaction-heading-requires c κs = search needs

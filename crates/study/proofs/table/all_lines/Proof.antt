@@ -1,14 +1,14 @@
 -- `all_lines` ends.
 use Prim.Native.Nat.{_-_}
 use borrow.Author.Needs.{needs}
-use Rattle.study.proofs.run.all_lines.Statement.{statement}
-use Rattle.study.proofs.run.all_lines.Tie as tie
+use Rattle.study.proofs.table.all_lines.Statement.{statement}
+use Rattle.study.proofs.table.all_lines.Tie as tie
 
 abbrev Inv-loop : tie.InvT-loop
-Inv-loop text names header bodies words numbers rows joints csv p₀ j₀ p j = Unit
+Inv-loop text names header bodies words numbers rows motors joints csv used₀ j₀ used j = Unit
 
 abbrev μ-loop : tie.MeasureT-loop
-μ-loop text names header bodies words numbers rows joints csv p₀ j₀ p j = joints - j
+μ-loop text names header bodies words numbers rows motors joints csv used₀ j₀ used j = joints - j
 
 loop-holds : tie.Need-loop-holds Inv-loop μ-loop
 loop-holds c = search needs
@@ -19,9 +19,6 @@ heading-of-requires c κs = search needs
 joint-lines-requires : tie.Need-joint-lines-requires Inv-loop μ-loop
 joint-lines-requires c κs = search needs
 
-returns : tie.Need-returns Inv-loop μ-loop
-returns c = search needs
-
 add-j : tie.Need-add-j Inv-loop μ-loop
 add-j c = search needs
 
@@ -31,8 +28,8 @@ loop-less c = search needs
 loop-again : tie.Need-loop-again Inv-loop μ-loop
 loop-again c = search needs
 
-returns-2 : tie.Need-returns-2 Inv-loop μ-loop
-returns-2 c = search needs
+returns : tie.Need-returns Inv-loop μ-loop
+returns c = search needs
 
 pub all-lines-spec : {M : Type 1} → statement M
 all-lines-spec =
@@ -43,8 +40,7 @@ all-lines-spec =
     loop-holds
     heading-of-requires
     joint-lines-requires
-    returns
     add-j
     loop-less
     loop-again
-    returns-2)
+    returns)
