@@ -13,9 +13,9 @@ use Rattle.study_run.specs.Acts.{actAt}
 use Rattle.study_run.specs.Unrolled.{actsFrom, actsOn, times, first, others, joined, levels, unrolled, closed}
 use Rattle.study_run.specs.Study.{Study, Ran, isRefused}
 use Rattle.study_run.specs.Runs.{runCall, withTable, runs}
-use Rattle.study_run.specs.Places.{place, moved, repeating, skipFrom, afterRepeat, afterEnd, placeAfter}
+use Rattle.study_run.specs.Places.{place, moved, repeating, isEnd, skipFrom, afterRepeat, afterEnd, placeAfter}
 use Rattle.study_run.specs.Turns.{Turn, turnAs, actedOn, turnOf, said, ended, turns, endsWithin}
-use Rattle.study_run.specs.Laws.{TurnsRun}
+use Rattle.study_run.specs.Laws.{TurnsRun, Ends, EveryStudyEnds}
 use Rattle.study_run.specs.declared.acts.StudyCall.{StudyCall}
 use Rattle.study_run.specs.declared.acts.Act.{Act}
 use Rattle.study_run.specs.declared.acts.Act.the-variants.{Nothing, Repeat, End, Call}
@@ -343,8 +343,107 @@ module _ (text names : List ℕ) (bodies joints : ℕ) where
       by-cases (leb (length text) at) (λ e. over n tables at first left s (leb-true (length text) at e) f)
       (λ e. line n (right n) tables at first s (leb-false _ _ e) left (act at) refl f w)
 
+  -- ---- every study ends
+
+  abbrev EndsAt : (ℕ → List ℕ) → Place → Study → Type 0
+  EndsAt tables p s = Ends text names bodies joints tables p s
+
+  module _ {tables : ℕ → List ℕ} {p : Place} {s : Study} where
+    from-over : turnOf text names bodies joints p s ≡ turnAs Over p s → EndsAt tables p s
+    unfolding endsWithin ended
+    from-over e = record { within = suc zero; ends = rw e }
+
+    from-pass : {q : Place} → turnOf text names bodies joints p s ≡ turnAs Passed q s → EndsAt tables q s → EndsAt tables p s
+    from-pass e d = record { within = suc (d .within); ends = ends-pass p s (d .within) tables e ∙ d .ends }
+
+    from-call : {q : Place} {reply : Reply} {left : Study} → turnOf text names bodies joints p s ≡ turnAs (Called reply) q left
+        → ((more : ℕ → List ℕ) (x : Study) → EndsAt more q x) → EndsAt tables p s
+    unfolding ended
+    from-call {q} {reply} {left} e h =
+        let r = withTable (tables 0) reply left in
+        let d = h (λ i. tables (suc i)) (r .left) in
+        by-cases (isRefused (r .reply)) (λ b. record { within = suc zero; ends = ends-call p s zero tables e ∙ rw b })
+        (λ b. record { within = suc (d .within); ends = ends-call p s (d .within) tables e ∙ rw b (d .ends) })
+
+  next-on : (at : ℕ) → at ≤ nextLine text at
+  unfolding nextLine
+  next-on at = omega arith
+
+  skip-far : (n at : ℕ) → at ≤ skipped n at
+  unfolding skipFrom
+  skip-far zero at = omega arith
+  skip-far (suc n) at =
+      by-cases (isEnd (act at)) (λ e. rw e (next-on at)) (λ e. rw e (omega (arith, next-on at, skip-far n (nextLine text at))))
+
+  abbrev From : ℕ → ℕ → ℕ → Type 0
+  From at first left = (tables : ℕ → List ℕ) (s : Study) → EndsAt tables (place at first left) s
+
+  within-level : {a : Act} (at : ℕ) → at < length text → act at ≡ a → closed true (acts at) ≡ true → closed true (a ∷ acts (nextLine text at)) ≡ true
+  within-level at h e f = subst (λ (x : List Act). closed true x ≡ true) (acts-here at h e) f
+
+  outside-levels : {a : Act} (at : ℕ) → at < length text → act at ≡ a → closed false (acts at) ≡ true → closed false (a ∷ acts (nextLine text at)) ≡ true
+  outside-levels at h e f = subst (λ (x : List Act). closed false x ≡ true) (acts-here at h e) f
+
+  -- the rest of a turn of a level, by what is so at its `end`
+  module _ (low first left : ℕ) (last : (at : ℕ) → low ≤ at → at < length text → act at ≡ End → closed false (acts (nextLine text at)) ≡ true → From at first left) where
+    level-line : (at : ℕ) (a : Act) → at < length text → act at ≡ a → low ≤ at → closed true (acts at) ≡ true
+        → (closed true (acts (nextLine text at)) ≡ true → From (nextLine text at) first left) → From at first left
+    unfolding closed
+    level-line at Nothing h e l f ih tables s = from-pass (turn-nothing at first left s h e) (ih (within-level at h e f) tables s)
+    level-line at (Call c) h e l f ih tables s = from-call (turn-call at first left s h c e) (ih (within-level at h e f))
+    level-line at End h e l f ih tables s = last at l h e (within-level at h e f) tables s
+    level-line at (Repeat m) h e l f ih tables s = absurd (false-not-true (within-level at h e f))
+
+    in-level : (g at : ℕ) → length text ≤ at + g → low ≤ at → closed true (acts at) ≡ true → From at first left
+    unfolding closed
+    in-level zero at h l f tables s = absurd (false-not-true (subst (λ (x : List Act). closed true x ≡ true) (acts-over at (omega arith)) f))
+    in-level (suc g) at h l f tables s =
+        by-cases (leb (length text) at)
+        (λ e. absurd (false-not-true (subst (λ (x : List Act). closed true x ≡ true) (acts-over at (leb-true (length text) at e)) f)))
+        (λ e. level-line at (act at) (leb-false _ _ e) refl l f
+        (in-level g (nextLine text at) (omega (arith, h, next-line-far text at (leb-false _ _ e))) (omega (arith, l, next-on at))) tables s)
+
+  -- all turns of a level
+  level : (k low first : ℕ) → low ≤ first → closed true (acts first) ≡ true → ((at : ℕ) → low ≤ at → closed false (acts at) ≡ true → From at first 0)
+      → (at : ℕ) → low ≤ at → closed true (acts at) ≡ true → From at first k
+  level zero low first b c after at l f =
+      in-level low first 0
+      (λ to m h e d tables s. from-pass (turn-end to first 0 s h e ∙ ap (λ (p : Place). turnAs Passed p s) (end-none to first))
+      (after (nextLine text to) (omega (arith, m, next-on to)) d tables s)) (length text) at (omega arith) l f
+  level (suc k) low first b c after at l f =
+      in-level low first (suc k)
+      (λ to m h e d tables s. from-pass (turn-end to first (suc k) s h e ∙ ap (λ (p : Place). turnAs Passed p s) (end-more to first k))
+      (level k low first b c after first b c tables s)) (length text) at (omega arith) l f
+
+  outer-line : (at : ℕ) (a : Act) → at < length text → act at ≡ a → closed false (acts at) ≡ true
+      → ((to : ℕ) → nextLine text at ≤ to → closed false (acts to) ≡ true → (first : ℕ) → From to first 0) → (first : ℕ) → From at first 0
+  unfolding closed
+  outer-line at Nothing h e f ih first tables s = from-pass (turn-nothing at first 0 s h e) (ih (nextLine text at) (omega arith) (outside-levels at h e f) first tables s)
+  outer-line at (Call c) h e f ih first tables s = from-call (turn-call at first 0 s h c e) (ih (nextLine text at) (omega arith) (outside-levels at h e f) first)
+  outer-line at End h e f ih first tables s =
+      from-pass (turn-end at first 0 s h e ∙ ap (λ (p : Place). turnAs Passed p s) (end-none at first)) (ih (nextLine text at) (omega arith) (outside-levels at h e f) first tables s)
+  outer-line at (Repeat zero) h e f ih first tables s =
+      let to = skipped (length text) (nextLine text at) in
+      let p = past (length text) (nextLine text at) (omega arith) (outside-levels at h e f) in
+      from-pass (turn-repeat at first 0 s h 0 e ∙ ap (λ (p : Place). turnAs Passed p s) (repeat-none at first 0))
+      (ih to (skip-far (length text) (nextLine text at)) (p .outside) first tables s)
+  outer-line at (Repeat (suc k)) h e f ih first tables s =
+      let next = nextLine text at in
+      let c = outside-levels at h e f in
+      from-pass (turn-repeat at first 0 s h (suc k) e ∙ ap (λ (p : Place). turnAs Passed p s) (repeat-some at first 0 k))
+      (level k next next (omega arith) c (λ to l d. ih to l d next) next (omega arith) c tables s)
+
+  outer : (g at : ℕ) → length text ≤ at + g → closed false (acts at) ≡ true → (first : ℕ) → From at first 0
+  outer zero at h f first tables s = from-over (turn-over (place at first 0) s (omega arith))
+  outer (suc g) at h f first tables s =
+      by-cases (leb (length text) at) (λ e. from-over (turn-over (place at first 0) s (leb-true (length text) at e)))
+      (λ e. outer-line at (act at) (leb-false _ _ e) refl f (λ to l d. outer g to (omega (arith, h, l, next-line-far text at (leb-false _ _ e))) d) first tables s)
+
 pub turns-run : TurnsRun
 unfolding unrolled Fits
 turns-run text names bodies joints calls n tables s f w =
     right text names bodies joints n tables calls 0 0 s f w
     ∙ ap (λ (l : List StudyCall). runs joints tables l s) (sym (at-start (actsOn text names bodies joints calls) (actsOn text names bodies joints 0)))
+
+pub every-study-ends : EveryStudyEnds
+every-study-ends text names bodies joints calls tables s f = outer text names bodies joints (length text) calls (omega arith) f 0 tables s
