@@ -16,8 +16,8 @@ use Rattle.rows.proofs.RowIdsCount.{at-most-six}
 use Rattle.rows.proofs.RowArrays.{rowIdsArray-len, rowIdsArray-ids}
 use Rattle.model.specs.Store.{axisOf}
 use Rattle.texts.specs.Ascii.{ascii, LF, SPACE}
-use Rattle.texts.specs.Sink.{Sunk, entry as word}
-use Rattle.texts.proofs.SinkLaws.{sunk-none, sunk-then, sunk-text}
+use Rattle.texts.specs.Sink.{Appended, entry as word}
+use Rattle.texts.proofs.SinkLaws.{appended-none, appended-then, appended-text}
 use Rattle.catalogue.specs.Choices.{choices, choiceOf, entry, Legal}
 use Rattle.catalogue.specs.Text.{axisDigit, kindIndex, idText, spacedId, idsText, headText, lineText, catalogueText, lineAt}
 use Rattle.catalogue.proofs.FlatLaws.{flat-turn, flat-none}
@@ -26,25 +26,25 @@ use Rattle.catalogue.proofs.ChoicesLaws.{choices-length, entry-at, lega
 -- ---- the texts of a list's elements, one after the other
 module _ {A : Type 0} (f : A → List ℕ) (l : List A) {out : List ℕ} {at : ℕ} where
   -- before the first
-  pub sunk-first : Sunk out at (flatMap f (take 0 l)) out at
-  sunk-first = sunk-text (sym (flat-none f l)) (sunk-none out at)
+  pub appended-first : Appended out at (flatMap f (take 0 l)) out at
+  appended-first = appended-text (sym (flat-none f l)) (appended-none out at)
 
-  module _ (i : ℕ) {mid : List ℕ} {end : ℕ} (p : Sunk out at (flatMap f (take i l)) mid end) where
+  module _ (i : ℕ) {mid : List ℕ} {end : ℕ} (p : Appended out at (flatMap f (take i l)) mid end) where
     -- one more
-    pub sunk-more : (d : A) → i < length l → {last : List ℕ} {r : ℕ} → Sunk mid end (f (getD l i d)) last r → Sunk out at (flatMap f (take (i + 1) l)) last r
-    sunk-more d h q = sunk-text (sym (flat-turn f l i d h)) (sunk-then p q)
+    pub appended-more : (d : A) → i < length l → {last : List ℕ} {r : ℕ} → Appended mid end (f (getD l i d)) last r → Appended out at (flatMap f (take (i + 1) l)) last r
+    appended-more d h q = appended-text (sym (flat-turn f l i d h)) (appended-then p q)
 
     -- after the last
-    pub sunk-last : length l ≤ i → Sunk out at (flatMap f l) mid end
-    sunk-last h = sunk-text (ap (flatMap f) (take-all i l h)) p
+    pub appended-last : length l ≤ i → Appended out at (flatMap f l) mid end
+    appended-last h = appended-text (ap (flatMap f) (take-all i l h)) p
 
 -- ---- an id
 
 pub id-entry : (id : WritebackId) (i d : ℕ) → i ≡ kindIndex id → d ≡ axisDigit (axisOf id) → {out : List ℕ} {at : ℕ} {out′ : List ℕ} {r : ℕ}
-    → Sunk out at (word i (ascii "Dof\nLimit\nMotor\n") ++ d ∷ []) out′ r → Sunk out at (idText id) out′ r
+    → Appended out at (word i (ascii "Dof\nLimit\nMotor\n") ++ d ∷ []) out′ r → Appended out at (idText id) out′ r
 unfolding word
 id-entry id i d e f s =
-    sunk-text (ap (λ (n : ℕ). word n (ascii "Dof\nLimit\nMotor\n") ++ d ∷ []) e ∙ ap (λ (m : ℕ). word (kindIndex id) (ascii "Dof\nLimit\nMotor\n") ++ m ∷ []) f ∙ go id) s
+    appended-text (ap (λ (n : ℕ). word n (ascii "Dof\nLimit\nMotor\n") ++ d ∷ []) e ∙ ap (λ (m : ℕ). word (kindIndex id) (ascii "Dof\nLimit\nMotor\n") ++ m ∷ []) f ∙ go id) s
   where
     go : (id : WritebackId) → word (kindIndex id) (ascii "Dof\nLimit\nMotor\n") ++ axisDigit (axisOf id) ∷ [] ≡ idText id
     go (Dof i) = refl
@@ -57,10 +57,10 @@ id-entry id i d e f s =
 abbrev pub named : RowId → List ℕ
 named r = spacedId (r .id)
 
-pub named-sunk : (r : RowId) {out : List ℕ} {at : ℕ} {mid : List ℕ} {a : ℕ} {last : List ℕ} {e : ℕ} → Sunk out at (SPACE ∷ []) mid a → Sunk mid a (idText (r .id)) last e
-    → Sunk out at (named r) last e
+pub named-appended : (r : RowId) {out : List ℕ} {at : ℕ} {mid : List ℕ} {a : ℕ} {last : List ℕ} {e : ℕ} → Appended out at (SPACE ∷ []) mid a → Appended mid a (idText (r .id)) last e
+    → Appended out at (named r) last e
 unfolding spacedId
-named-sunk r p q = sunk-then p q
+named-appended r p q = appended-then p q
 
 named-ids : (l : List RowId) → flatMap named l ≡ idsText (map (λ (i : RowId). i .id) l)
 unfolding flatMap
@@ -84,14 +84,14 @@ module _ (k : Masks) {ids : RowIds} (e : ids ≡ rowIdsArray k) where
   first-len = length-take-le (ids .len) (ids .ids) (omega (arith, ids-few, ids-array))
 
   -- of which i are written
-  module _ {out : List ℕ} {at : ℕ} (i : ℕ) {mid : List ℕ} {end : ℕ} (p : Sunk out at (flatMap named (take i (take (ids .len) (ids .ids)))) mid end) where
-    pub ids-turn : i < ids .len → {last : List ℕ} {r : ℕ} → Sunk mid end (named (getD (ids .ids) i (rowId (Dof 0)))) last r
-        → Sunk out at (flatMap named (take (i + 1) (take (ids .len) (ids .ids)))) last r
+  module _ {out : List ℕ} {at : ℕ} (i : ℕ) {mid : List ℕ} {end : ℕ} (p : Appended out at (flatMap named (take i (take (ids .len) (ids .ids)))) mid end) where
+    pub ids-turn : i < ids .len → {last : List ℕ} {r : ℕ} → Appended mid end (named (getD (ids .ids) i (rowId (Dof 0)))) last r
+        → Appended out at (flatMap named (take (i + 1) (take (ids .len) (ids .ids)))) last r
     ids-turn h q =
-        sunk-more named (take (ids .len) (ids .ids)) i p (rowId (Dof 0)) (omega (arith, first-len)) (sunk-text (sym (ap named (getD-take (ids .len) (ids .ids) i (rowId (Dof 0)) h))) q)
+        appended-more named (take (ids .len) (ids .ids)) i p (rowId (Dof 0)) (omega (arith, first-len)) (appended-text (sym (ap named (getD-take (ids .len) (ids .ids) i (rowId (Dof 0)) h))) q)
 
-    pub ids-end : ids .len ≤ i → Sunk out at (idsText (rowIds 2 1 k)) mid end
-    ids-end h = sunk-text ids-text (sunk-last named (take (ids .len) (ids .ids)) i p (omega (arith, first-len)))
+    pub ids-end : ids .len ≤ i → Appended out at (idsText (rowIds 2 1 k)) mid end
+    ids-end h = appended-text ids-text (appended-last named (take (ids .len) (ids .ids)) i p (omega (arith, first-len)))
 
 -- ---- lines
 
@@ -102,23 +102,23 @@ module _ (n : ℕ) (k : Masks) (chosen : k ≡ choiceOf n) (count : ℕ) (counte
       let l : Legal k = rw chosen (legal-choice n h) in
       (omega (arith, l .locked), omega (arith, l .limit), omega (arith, l .motor), omega (arith, l .coupled), omega (arith, at-most-six k))
 
-  pub line-sunk : {out : List ℕ} {at : ℕ} {m₁ : List ℕ} {a₁ : ℕ} {m₂ : List ℕ} {a₂ : ℕ} {last : List ℕ} {r : ℕ} → Sunk out at (headText k count) m₁ a₁ → Sunk m₁ a₁ (idsText (rowIds 2 1 k)) m₂ a₂
-      → Sunk m₂ a₂ (LF ∷ []) last r → Sunk out at (lineText (choiceOf n)) last r
+  pub line-appended : {out : List ℕ} {at : ℕ} {m₁ : List ℕ} {a₁ : ℕ} {m₂ : List ℕ} {a₂ : ℕ} {last : List ℕ} {r : ℕ} → Appended out at (headText k count) m₁ a₁ → Appended m₁ a₁ (idsText (rowIds 2 1 k)) m₂ a₂
+      → Appended m₂ a₂ (LF ∷ []) last r → Appended out at (lineText (choiceOf n)) last r
   unfolding lineText
-  line-sunk p q s =
-      sunk-text (ap (λ (c : ℕ). headText k c ++ idsText (rowIds 2 1 k) ++ (LF ∷ [])) counted ∙ ap lineText chosen) (sunk-then (sunk-then p q) s)
+  line-appended p q s =
+      appended-text (ap (λ (c : ℕ). headText k c ++ idsText (rowIds 2 1 k) ++ (LF ∷ [])) counted ∙ ap lineText chosen) (appended-then (appended-then p q) s)
 
 line-at : (n : ℕ) → n < 4096 → lineText (entry n) ≡ lineText (choiceOf n)
 line-at n h = ap lineText (entry-at n h)
 
 -- of all lines n are written
-module _ {out : List ℕ} (n : ℕ) {mid : List ℕ} {end : ℕ} (p : Sunk out 0 (flatMap lineText (take n choices)) mid end) where
-  pub lines-turn : n < 4096 → {last : List ℕ} {r : ℕ} → Sunk mid end (lineText (choiceOf n)) last r → Sunk out 0 (flatMap lineText (take (n + 1) choices)) last r
-  lines-turn h q = sunk-more lineText choices n p noMasks (omega (arith, choices-length)) (sunk-text (sym (line-at n h)) q)
+module _ {out : List ℕ} (n : ℕ) {mid : List ℕ} {end : ℕ} (p : Appended out 0 (flatMap lineText (take n choices)) mid end) where
+  pub lines-turn : n < 4096 → {last : List ℕ} {r : ℕ} → Appended mid end (lineText (choiceOf n)) last r → Appended out 0 (flatMap lineText (take (n + 1) choices)) last r
+  lines-turn h q = appended-more lineText choices n p noMasks (omega (arith, choices-length)) (appended-text (sym (line-at n h)) q)
 
-  pub lines-end : 4096 ≤ n → Sunk out 0 catalogueText mid end
+  pub lines-end : 4096 ≤ n → Appended out 0 catalogueText mid end
   unfolding catalogueText
-  lines-end h = sunk-last lineText choices n p (omega (arith, choices-length))
+  lines-end h = appended-last lineText choices n p (omega (arith, choices-length))
 
 -- line n
 

@@ -4,7 +4,7 @@ ghost use mathlib.Core.Path.{_≡_};
 ghost use Prim.Native.Nat.{_<_};
 ghost use Rattle.rows.specs.RowIds.{rowIds};
 ghost use Rattle.model.specs.Store.{axisOf};
-ghost use Rattle.texts.specs.Sink.{Sunk, Wrote};
+ghost use Rattle.texts.specs.Sink.{Appended, Wrote};
 ghost use Rattle.catalogue.specs.Choices.{choiceOf};
 ghost use Rattle.catalogue.specs.Text.{axisDigit, kindIndex, idText, idsText, headText, lineText, catalogueText, lineAt};
 use crate::choices::CHOICES;
@@ -54,7 +54,7 @@ pub fn axis_of(id: WritebackId) -> usize
 }
 
 pub fn put_id(out: &mut [u8], at: usize, id: WritebackId) -> usize
-    ensures { λ r. ⌜ Sunk (now (out .entry)) at (idText id) (now (out .exit)) r ⌝ }
+    ensures { λ r. ⌜ Appended (now (out .entry)) at (idText id) (now (out .exit)) r ⌝ }
 {
     let kind = kind_index(id);
     let digit = axis_digit(axis_of(id));
@@ -65,7 +65,7 @@ pub fn put_id(out: &mut [u8], at: usize, id: WritebackId) -> usize
 // ---- a line
 
 fn put_ids(out: &mut [u8], at: usize, k: Masks) -> usize
-    ensures { λ r. ⌜ Sunk (now (out .entry)) at (idsText (rowIds 2 1 k)) (now (out .exit)) r ⌝ }
+    ensures { λ r. ⌜ Appended (now (out .entry)) at (idsText (rowIds 2 1 k)) (now (out .exit)) r ⌝ }
 {
     let ids = row_ids(k);
     let all = ids.ids;
@@ -84,7 +84,7 @@ fn put_ids(out: &mut [u8], at: usize, k: Masks) -> usize
 
 fn put_head(out: &mut [u8], at: usize, k: Masks, count: usize) -> usize
     requires { ⌜ (k .«locked_axes» < 8) × (k .«limit_axes» < 8) × (k .«motor_axes» < 8) × (k .«coupled_axes» < 8) × (count < 8) ⌝ }
-    ensures { λ r. ⌜ Sunk (now (out .entry)) at (headText k count) (now (out .exit)) r ⌝ }
+    ensures { λ r. ⌜ Appended (now (out .entry)) at (headText k count) (now (out .exit)) r ⌝ }
 {
     let head = [
         48 + k.locked_axes as u8,
@@ -102,7 +102,7 @@ fn put_head(out: &mut [u8], at: usize, k: Masks, count: usize) -> usize
 
 fn put_line(out: &mut [u8], at: usize, n: u32) -> usize
     requires { ⌜ n < 4096 ⌝ }
-    ensures { λ r. ⌜ Sunk (now (out .entry)) at (lineText (choiceOf n)) (now (out .exit)) r ⌝ }
+    ensures { λ r. ⌜ Appended (now (out .entry)) at (lineText (choiceOf n)) (now (out .exit)) r ⌝ }
 {
     let k = choice(n);
     let first = put_head(&mut *out, at, k, row_count(k));
@@ -112,7 +112,7 @@ fn put_line(out: &mut [u8], at: usize, n: u32) -> usize
 
 // Line n, if there is one.
 fn put_line_at(out: &mut [u8], n: u32) -> usize
-    ensures { λ r. ⌜ Sunk (now (out .entry)) 0 (lineAt n) (now (out .exit)) r ⌝ }
+    ensures { λ r. ⌜ Appended (now (out .entry)) 0 (lineAt n) (now (out .exit)) r ⌝ }
 {
     if n < CHOICES {
         return put_line(&mut *out, 0, n);
@@ -121,7 +121,7 @@ fn put_line_at(out: &mut [u8], n: u32) -> usize
 }
 
 fn put_catalogue(out: &mut [u8]) -> usize
-    ensures { λ r. ⌜ Sunk (now (out .entry)) 0 catalogueText (now (out .exit)) r ⌝ }
+    ensures { λ r. ⌜ Appended (now (out .entry)) 0 catalogueText (now (out .exit)) r ⌝ }
 {
     let mut n: u32 = 0;
     let mut end: usize = 0;

@@ -16,7 +16,7 @@ use lib.Ieee.Nearest.{closest}
 use lib.Ieee.Bits.{ofBits-toBits, ofBits-fits}
 use lib.Ieee.Fits.{round-fits, cond-fits, inf-fits}
 use Rattle.texts.specs.Ascii.{PLUS, MINUS, POINT, SPACE}
-use Rattle.texts.specs.Sink.{Sunk}
+use Rattle.texts.specs.Sink.{Appended}
 use Rattle.texts.proofs.SinkLaws.{put-there, end-there}
 use Rattle.texts.specs.Hex.{hexWord}
 use Rattle.floats.specs.Bits.{unitsOf, partsOf}
@@ -124,13 +124,13 @@ abbrev of : List ℕ → ℕ → Spelling
 of bytes len = record { bytes = bytes; len = len }
 
 module _ (t bytes : List ℕ) (n k : ℕ) (long : length t ≡ k) where
-  pub plain-is : k ≤ 15 → drop k (replicate 15 SPACE) ≡ replicate (15 - k) SPACE → Sunk (replicate 15 SPACE) 0 t bytes n → of bytes n ≡ spelled t
+  pub plain-is : k ≤ 15 → drop k (replicate 15 SPACE) ≡ replicate (15 - k) SPACE → Appended (replicate 15 SPACE) 0 t bytes n → of bytes n ≡ spelled t
   unfolding spelled
   plain-is few filled p =
       ap (λ (l : List ℕ). of l n) (p .holds ∙ put-there (replicate 15 SPACE) 0 t (omega (arith, length-replicate {A = ℕ} 15 SPACE)) (omega arith) ∙ ap (λ (j : ℕ). t ++ drop j (replicate 15 SPACE)) (zero-add (length t) ∙ long) ∙ ap (λ (l : List ℕ). t ++ l) filled ∙ ap (λ (j : ℕ). t ++ replicate (15 - j) SPACE) (sym long))
       ∙ ap (of (t ++ replicate (15 - length t) SPACE)) (p .ends ∙ end-there 0 t (omega arith) ∙ zero-add (length t))
 
-  pub minus-is : k ≤ 14 → drop k (replicate 14 SPACE) ≡ replicate (14 - k) SPACE → Sunk (MINUS ∷ replicate 14 SPACE) 1 t bytes n → of bytes n ≡ spelled (MINUS ∷ t)
+  pub minus-is : k ≤ 14 → drop k (replicate 14 SPACE) ≡ replicate (14 - k) SPACE → Appended (MINUS ∷ replicate 14 SPACE) 1 t bytes n → of bytes n ≡ spelled (MINUS ∷ t)
   unfolding spelled
   minus-is few filled p =
       ap (λ (l : List ℕ). of l n) (p .holds ∙ put-there (MINUS ∷ replicate 14 SPACE) 1 t (omega (arith, length-replicate {A = ℕ} 14 SPACE)) (omega arith) ∙ ap (λ (j : ℕ). MINUS ∷ t ++ drop j (MINUS ∷ replicate 14 SPACE)) (one-more (length t) ∙ ap suc long) ∙ ap (λ (l : List ℕ). MINUS ∷ t ++ l) filled ∙ ap (λ (j : ℕ). MINUS ∷ t ++ replicate j SPACE) room)

@@ -3,7 +3,7 @@
 ghost use mathlib.Core.Path.{_≡_};
 ghost use Prim.Native.Nat.{_+_, _*_, _≤_};
 ghost use lib.ListN.{length};
-ghost use Rattle.texts.specs.Sink.{Sunk};
+ghost use Rattle.texts.specs.Sink.{Appended};
 ghost use Rattle.motor_table.specs.Text.{numberText, fieldText, recordText, textOf, wordNumber, entryAt, entriesOf, isSized, tableOf, refusalIn, writtenAnswer, writtenText};
 use crate::record::Entry;
 use crate::record::is_present;
@@ -98,7 +98,7 @@ fn table_refusal(table: &[u32], joints: u32) -> u32
 
 // A minus before a negative number, and its digits.
 pub fn put_number(out: &mut [u8], at: usize, n: Number) -> usize
-    ensures { λ r. ⌜ Sunk (now (out .entry)) at (numberText n) (now (out .exit)) r ⌝ }
+    ensures { λ r. ⌜ Appended (now (out .entry)) at (numberText n) (now (out .exit)) r ⌝ }
 {
     let negative = n.negative;
     let size = n.size;
@@ -110,14 +110,14 @@ pub fn put_number(out: &mut [u8], at: usize, n: Number) -> usize
 }
 
 fn put_field(out: &mut [u8], at: usize, n: Number) -> usize
-    ensures { λ r. ⌜ Sunk (now (out .entry)) at (fieldText n) (now (out .exit)) r ⌝ }
+    ensures { λ r. ⌜ Appended (now (out .entry)) at (fieldText n) (now (out .exit)) r ⌝ }
 {
     let a = put_number(&mut *out, at, n);
     put_byte(&mut *out, a, b',')
 }
 
 fn put_record(out: &mut [u8], at: usize, e: Entry) -> usize
-    ensures { λ r. ⌜ Sunk (now (out .entry)) at (recordText e) (now (out .exit)) r ⌝ }
+    ensures { λ r. ⌜ Appended (now (out .entry)) at (recordText e) (now (out .exit)) r ⌝ }
 {
     let joint = e.joint;
     let axis = e.axis;
@@ -129,7 +129,7 @@ fn put_record(out: &mut [u8], at: usize, e: Entry) -> usize
 }
 
 fn put_table(table: &[u32], out: &mut [u8]) -> usize
-    ensures { λ r. ⌜ Sunk (now (out .entry)) 0 (textOf (entriesOf (now (table .entry)))) (now (out .exit)) r ⌝ }
+    ensures { λ r. ⌜ Appended (now (out .entry)) 0 (textOf (entriesOf (now (table .entry)))) (now (out .exit)) r ⌝ }
 {
     let count = table.len() / 3;
     let mut k: usize = 0;

@@ -21,8 +21,8 @@ use Rattle.floats.specs.declared.bits.Parts.the-variants as parts
 use Rattle.floats.specs.declared.micro_report.MicroReport.{MicroReport}
 use Rattle.decimals.specs.Spelled.{spelledText}
 use Rattle.texts.specs.Ascii.{SPACE}
-use Rattle.texts.specs.Sink.{largestPlace, Sunk}
-use Rattle.texts.proofs.SinkLaws.{sunk-then, sunk-text, place-length}
+use Rattle.texts.specs.Sink.{largestPlace, Appended}
+use Rattle.texts.proofs.SinkLaws.{appended-then, appended-text, place-length}
 use Rattle.motor_table.specs.Text.{numberText}
 use Rattle.motor_table.specs.declared.whole_number.Number.{Number}
 use Rattle.motor_table.proofs.TextLaws.{number-short}
@@ -98,29 +98,29 @@ signed-size (pos n) h = omega arith
 signed-size (negsuc n) h = omega arith
 
 -- at the right of its column, with the length from a first run
-module _ (z : ℤ) (f : SFits w32 z) (n : Number) (same : n ≡ signed z) {none none′ : List ℕ} {len : ℕ} (first : Sunk none 0 (numberText n) none′ len) where
+module _ (z : ℤ) (f : SFits w32 z) (n : Number) (same : n ≡ signed z) {none none′ : List ℕ} {len : ℕ} (first : Appended none 0 (numberText n) none′ len) where
   is-short : length (numberText n) < largestPlace
   is-short = omega (arith, number-short n, ap (λ (m : Number). m .size) same, signed-size z (f .sfits))
 
-  pub right-whole : {out : List ℕ} {at k : ℕ} {m₁ : List ℕ} {a : ℕ} {m₂ : List ℕ} {b : ℕ} {last : List ℕ} {r : ℕ} → k ≡ 15 - len → Sunk out at (replicate k SPACE) m₁ a
-      → Sunk m₁ a (numberText n) m₂ b → Sunk m₂ b (SPACE ∷ []) last r → Sunk out at (rightColumn (numberText (signed z))) last r
+  pub right-whole : {out : List ℕ} {at k : ℕ} {m₁ : List ℕ} {a : ℕ} {m₂ : List ℕ} {b : ℕ} {last : List ℕ} {r : ℕ} → k ≡ 15 - len → Appended out at (replicate k SPACE) m₁ a
+      → Appended m₁ a (numberText n) m₂ b → Appended m₂ b (SPACE ∷ []) last r → Appended out at (rightColumn (numberText (signed z))) last r
   unfolding rightColumn
   right-whole e p q s =
       let l : 15 - len ≡ 15 - length (numberText n) = ap (λ (m : ℕ). 15 - m) (place-length (numberText n) len (first .ends) is-short) in
-      sunk-text
+      appended-text
       (ap (λ (m : Number). replicate (15 - length (numberText m)) SPACE ++ numberText m ++ SPACE ∷ []) same)
-      (sunk-then (sunk-then (sunk-text (ap (λ (m : ℕ). replicate m SPACE) (e ∙ l)) p) q) s)
+      (appended-then (appended-then (appended-text (ap (λ (m : ℕ). replicate m SPACE) (e ∙ l)) p) q) s)
 
 -- ---- by the report
 
 module _ {out : List ℕ} {at : ℕ} {out′ : List ℕ} {r : ℕ} (x : Float) (report : MicroReport) (e : report ≡ microReportOf x) where
-  pub millionths-by : Sunk out at (reportText x report) out′ r → Sunk out at (millionthsText x) out′ r
+  pub millionths-by : Appended out at (reportText x report) out′ r → Appended out at (millionthsText x) out′ r
   unfolding millionthsText
-  millionths-by s = sunk-text (ap (reportText x) e) s
+  millionths-by s = appended-text (ap (reportText x) e) s
 
-  pub column-by : Sunk out at (rightColumn (cond (isOver report) (spelledText x) (reportText x report))) out′ r → Sunk out at (numberColumn x) out′ r
+  pub column-by : Appended out at (rightColumn (cond (isOver report) (spelledText x) (reportText x report))) out′ r → Appended out at (numberColumn x) out′ r
   unfolding numberColumn impulseText millionthsText
-  column-by s = sunk-text (ap (λ (m : MicroReport). rightColumn (cond (isOver m) (spelledText x) (reportText x m))) e) s
+  column-by s = appended-text (ap (λ (m : MicroReport). rightColumn (cond (isOver m) (spelledText x) (reportText x m))) e) s
 
 -- ---- what is Over
 

@@ -5,8 +5,8 @@ use mathlib.Core.List.{List, [], _∷_, _++_, map, append-assoc}
 use borrow.Author.Tests.{eq-eqb, ne-eqb}
 use lib.ListN.{length, getD, replicate-append-replicate}
 use Rattle.texts.specs.Ascii.{ascii, LF, SPACE}
-use Rattle.texts.specs.Sink.{Sunk, entry}
-use Rattle.texts.proofs.SinkLaws.{sunk-text}
+use Rattle.texts.specs.Sink.{Appended, entry}
+use Rattle.texts.proofs.SinkLaws.{appended-text}
 use Rattle.rows.specs.declared.joint_velocity_constraint.WritebackId.{WritebackId}
 use Rattle.rows.specs.declared.joint_velocity_constraint.WritebackId.the-variants.{Dof, Limit, Motor}
 use Rattle.catalogue.specs.Text.{kindIndex, idText}
@@ -49,9 +49,9 @@ abbrev pub Tabled : (Rule → List ℕ) → Type 0
 Tabled word = map (λ (rule : Rule). entry (indexOf rule) (tableOf word)) rules ≡ map word rules
 
 pub looked-up : (word : Rule → List ℕ) → Tabled word → (rule : Rule) (i : ℕ) → i ≡ indexOf rule → {out : List ℕ} {at : ℕ} {out′ : List ℕ} {r : ℕ}
-    → Sunk out at (entry i (tableOf word)) out′ r → Sunk out at (word rule) out′ r
+    → Appended out at (entry i (tableOf word)) out′ r → Appended out at (word rule) out′ r
 looked-up word all rule i e s =
-    sunk-text (ap (λ (n : ℕ). entry n (tableOf word)) e ∙ each (λ (rule : Rule). entry (indexOf rule) (tableOf word)) word all rule) s
+    appended-text (ap (λ (n : ℕ). entry n (tableOf word)) e ∙ each (λ (rule : Rule). entry (indexOf rule) (tableOf word)) word all rule) s
 
 pub numbers-tabled : Tabled numberOf
 unfolding entry
@@ -77,27 +77,27 @@ number-column = each (λ (rule : Rule). numberOf rule ++ SPACE ∷ []) (λ (rule
 -- ---- ids and bounds
 
 module _ {out : List ℕ} {at : ℕ} {out′ : List ℕ} {r : ℕ} where
-  pub id-column : (id : WritebackId) (i : ℕ) → i ≡ kindIndex id → Sunk out at (idText id ++ entry i (ascii "   \n \n \n")) out′ r → Sunk out at (column 6 (idText id)) out′ r
+  pub id-column : (id : WritebackId) (i : ℕ) → i ≡ kindIndex id → Appended out at (idText id ++ entry i (ascii "   \n \n \n")) out′ r → Appended out at (column 6 (idText id)) out′ r
   unfolding entry column
-  id-column id i e s = sunk-text (ap (λ (n : ℕ). idText id ++ entry n (ascii "   \n \n \n")) e ∙ go id) s
+  id-column id i e s = appended-text (ap (λ (n : ℕ). idText id ++ entry n (ascii "   \n \n \n")) e ∙ go id) s
     where
       go : (id : WritebackId) → idText id ++ entry (kindIndex id) (ascii "   \n \n \n") ≡ column 6 (idText id)
       go (Dof i) = refl
       go (Limit i) = refl
       go (Motor i) = refl
 
-  pub bound-entry : (bound : Bound) (i : ℕ) → i ≡ boundIndex bound → Sunk out at (entry i (ascii "low  \nhigh \n-    \n")) out′ r → Sunk out at (column 4 (boundText bound)) out′ r
+  pub bound-entry : (bound : Bound) (i : ℕ) → i ≡ boundIndex bound → Appended out at (entry i (ascii "low  \nhigh \n-    \n")) out′ r → Appended out at (column 4 (boundText bound)) out′ r
   unfolding entry column
-  bound-entry bound i e s = sunk-text (ap (λ (n : ℕ). entry n (ascii "low  \nhigh \n-    \n")) e ∙ go bound) s
+  bound-entry bound i e s = appended-text (ap (λ (n : ℕ). entry n (ascii "low  \nhigh \n-    \n")) e ∙ go bound) s
     where
       go : (bound : Bound) → entry (boundIndex bound) (ascii "low  \nhigh \n-    \n") ≡ column 4 (boundText bound)
       go Low = refl
       go High = refl
       go No = refl
 
-  pub at-entry : (bound : Bound) (i : ℕ) → i ≡ boundIndex bound → Sunk out at (entry i (ascii "low,\nhigh,\nno,\n")) out′ r → Sunk out at (field (atText bound)) out′ r
+  pub at-entry : (bound : Bound) (i : ℕ) → i ≡ boundIndex bound → Appended out at (entry i (ascii "low,\nhigh,\nno,\n")) out′ r → Appended out at (field (atText bound)) out′ r
   unfolding entry field
-  at-entry bound i e s = sunk-text (ap (λ (n : ℕ). entry n (ascii "low,\nhigh,\nno,\n")) e ∙ go bound) s
+  at-entry bound i e s = appended-text (ap (λ (n : ℕ). entry n (ascii "low,\nhigh,\nno,\n")) e ∙ go bound) s
     where
       go : (bound : Bound) → entry (boundIndex bound) (ascii "low,\nhigh,\nno,\n") ≡ field (atText bound)
       go Low = refl

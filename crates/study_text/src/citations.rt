@@ -2,7 +2,7 @@
 ghost use mathlib.Core.Path.{_≡_};
 ghost use mathlib.Core.List.{flatMap};
 ghost use lib.ListN.{getD};
-ghost use Rattle.texts.specs.Sink.{Sunk, Wrote};
+ghost use Rattle.texts.specs.Sink.{Appended, Wrote};
 ghost use Rattle.study_text.specs.declared.rules.Rule.the-variants.{LimitF};
 ghost use Rattle.study_text.specs.Citations.{wordsText, rustText, citedWords, citedSource, citation, rules, citedIn, rulesText};
 use crate::rules::Rule;
@@ -18,7 +18,7 @@ use texts::sink::put_text;
 // ---- one rule
 
 fn put_words(out: &mut [u8], at: usize, rule: Rule) -> usize
-    ensures { λ r. ⌜ Sunk (now (out .entry)) at (wordsText rule) (now (out .exit)) r ⌝ }
+    ensures { λ r. ⌜ Appended (now (out .entry)) at (wordsText rule) (now (out .exit)) r ⌝ }
 {
     let index = rule_index(rule);
     put_entry(
@@ -31,7 +31,7 @@ fn put_words(out: &mut [u8], at: usize, rule: Rule) -> usize
 
 // The Rust function that makes the row.
 fn put_rust(out: &mut [u8], at: usize, rule: Rule) -> usize
-    ensures { λ r. ⌜ Sunk (now (out .entry)) at (rustText rule) (now (out .exit)) r ⌝ }
+    ensures { λ r. ⌜ Appended (now (out .entry)) at (rustText rule) (now (out .exit)) r ⌝ }
 {
     let index = rule_index(rule);
     put_entry(
@@ -43,7 +43,7 @@ fn put_rust(out: &mut [u8], at: usize, rule: Rule) -> usize
 }
 
 fn put_cited_words(out: &mut [u8], at: usize, rule: Rule) -> usize
-    ensures { λ r. ⌜ Sunk (now (out .entry)) at (citedWords rule) (now (out .exit)) r ⌝ }
+    ensures { λ r. ⌜ Appended (now (out .entry)) at (citedWords rule) (now (out .exit)) r ⌝ }
 {
     let a = put_text(&mut *out, at, b"  ");
     let b = put_rule_number(&mut *out, a, rule);
@@ -53,7 +53,7 @@ fn put_cited_words(out: &mut [u8], at: usize, rule: Rule) -> usize
 }
 
 fn put_cited_source(out: &mut [u8], at: usize, rule: Rule) -> usize
-    ensures { λ r. ⌜ Sunk (now (out .entry)) at (citedSource rule) (now (out .exit)) r ⌝ }
+    ensures { λ r. ⌜ Appended (now (out .entry)) at (citedSource rule) (now (out .exit)) r ⌝ }
 {
     let a = put_text(&mut *out, at, b"       Definition ");
     let b = put_definition(&mut *out, a, rule);
@@ -67,7 +67,7 @@ fn put_cited_source(out: &mut [u8], at: usize, rule: Rule) -> usize
 }
 
 fn put_citation(out: &mut [u8], at: usize, rule: Rule) -> usize
-    ensures { λ r. ⌜ Sunk (now (out .entry)) at (citation rule) (now (out .exit)) r ⌝ }
+    ensures { λ r. ⌜ Appended (now (out .entry)) at (citation rule) (now (out .exit)) r ⌝ }
 {
     let a = put_cited_words(&mut *out, at, rule);
     put_cited_source(&mut *out, a, rule)
@@ -95,7 +95,7 @@ fn rule_at(i: usize) -> Rule
 }
 
 fn put_cited_in(out: &mut [u8], at: usize, used: u32, rule: Rule) -> usize
-    ensures { λ r. ⌜ Sunk (now (out .entry)) at (citedIn used rule) (now (out .exit)) r ⌝ }
+    ensures { λ r. ⌜ Appended (now (out .entry)) at (citedIn used rule) (now (out .exit)) r ⌝ }
 {
     if has_axis(used, rule_index(rule) as usize) {
         return put_citation(&mut *out, at, rule);
@@ -104,7 +104,7 @@ fn put_cited_in(out: &mut [u8], at: usize, used: u32, rule: Rule) -> usize
 }
 
 fn put_all(out: &mut [u8], at: usize, used: u32) -> usize
-    ensures { λ r. ⌜ Sunk (now (out .entry)) at (flatMap (citedIn used) rules) (now (out .exit)) r ⌝ }
+    ensures { λ r. ⌜ Appended (now (out .entry)) at (flatMap (citedIn used) rules) (now (out .exit)) r ⌝ }
 {
     let mut i: usize = 0;
     let mut end = at;
@@ -116,7 +116,7 @@ fn put_all(out: &mut [u8], at: usize, used: u32) -> usize
 }
 
 fn put_rules(out: &mut [u8], used: u32) -> usize
-    ensures { λ r. ⌜ Sunk (now (out .entry)) 0 (rulesText used) (now (out .exit)) r ⌝ }
+    ensures { λ r. ⌜ Appended (now (out .entry)) 0 (rulesText used) (now (out .exit)) r ⌝ }
 {
     let a = put_text(
         &mut *out,

@@ -1,6 +1,6 @@
 // A line of the table as a record of comma-separated values.
 ghost use mathlib.Core.Path.{_≡_};
-ghost use Rattle.texts.specs.Sink.{Sunk, Wrote};
+ghost use Rattle.texts.specs.Sink.{Appended, Wrote};
 ghost use Rattle.study_text.specs.Words.{boundOf};
 ghost use Rattle.study_text.specs.Csv.{field, unitOf, csvNames, csvId, csvNumber, csvNumbers, csvRule, csvValues, csvText};
 use crate::number::put_millionths;
@@ -24,7 +24,7 @@ use texts::sink::put_entry;
 use texts::sink::put_text;
 
 fn put_field(out: &mut [u8], at: usize, text: &[u8]) -> usize
-    ensures { λ r. ⌜ Sunk (now (out .entry)) at (field (now (text .entry))) (now (out .exit)) r ⌝ }
+    ensures { λ r. ⌜ Appended (now (out .entry)) at (field (now (text .entry))) (now (out .exit)) r ⌝ }
 {
     let end = put_text(&mut *out, at, text);
     put_byte(&mut *out, end, b',')
@@ -37,7 +37,7 @@ pub(crate) fn put_csv_names(
     body1: &[u8],
     body2: &[u8],
 ) -> usize
-    ensures { λ r. ⌜ Sunk (now (out .entry)) at (csvNames (now (joint .entry)) (now (body1 .entry)) (now (body2 .entry))) (now (out .exit)) r ⌝ }
+    ensures { λ r. ⌜ Appended (now (out .entry)) at (csvNames (now (joint .entry)) (now (body1 .entry)) (now (body2 .entry))) (now (out .exit)) r ⌝ }
 {
     let a = put_field(&mut *out, at, joint);
     let b = put_field(&mut *out, a, body1);
@@ -45,7 +45,7 @@ pub(crate) fn put_csv_names(
 }
 
 fn put_unit(out: &mut [u8], at: usize, axis: usize) -> usize
-    ensures { λ r. ⌜ Sunk (now (out .entry)) at (field (unitOf axis)) (now (out .exit)) r ⌝ }
+    ensures { λ r. ⌜ Appended (now (out .entry)) at (field (unitOf axis)) (now (out .exit)) r ⌝ }
 {
     if axis == 2 {
         return put_text(&mut *out, at, b"N*m*s,");
@@ -54,7 +54,7 @@ fn put_unit(out: &mut [u8], at: usize, axis: usize) -> usize
 }
 
 fn put_csv_id(out: &mut [u8], at: usize, id: WritebackId) -> usize
-    ensures { λ r. ⌜ Sunk (now (out .entry)) at (csvId id) (now (out .exit)) r ⌝ }
+    ensures { λ r. ⌜ Appended (now (out .entry)) at (csvId id) (now (out .exit)) r ⌝ }
 {
     let axis = axis_of(id);
     let a = put_id(&mut *out, at, id);
@@ -63,7 +63,7 @@ fn put_csv_id(out: &mut [u8], at: usize, id: WritebackId) -> usize
 }
 
 pub(crate) fn put_csv_number(out: &mut [u8], at: usize, x: f32) -> usize
-    ensures { λ r. ⌜ Sunk (now (out .entry)) at (csvNumber x) (now (out .exit)) r ⌝ }
+    ensures { λ r. ⌜ Appended (now (out .entry)) at (csvNumber x) (now (out .exit)) r ⌝ }
 {
     let bits = hex_word(false, to_bits(x));
     let a = put_millionths(&mut *out, at, x);
@@ -74,7 +74,7 @@ pub(crate) fn put_csv_number(out: &mut [u8], at: usize, x: f32) -> usize
 }
 
 pub(crate) fn put_csv_numbers(out: &mut [u8], at: usize, impulse: f32, low: f32, high: f32) -> usize
-    ensures { λ r. ⌜ Sunk (now (out .entry)) at (csvNumbers impulse low high) (now (out .exit)) r ⌝ }
+    ensures { λ r. ⌜ Appended (now (out .entry)) at (csvNumbers impulse low high) (now (out .exit)) r ⌝ }
 {
     let a = put_csv_number(&mut *out, at, impulse);
     let b = put_csv_number(&mut *out, a, low);
@@ -82,7 +82,7 @@ pub(crate) fn put_csv_numbers(out: &mut [u8], at: usize, impulse: f32, low: f32,
 }
 
 fn put_csv_rule(out: &mut [u8], at: usize, bound: Bound, rule: Rule) -> usize
-    ensures { λ r. ⌜ Sunk (now (out .entry)) at (csvRule bound rule) (now (out .exit)) r ⌝ }
+    ensures { λ r. ⌜ Appended (now (out .entry)) at (csvRule bound rule) (now (out .exit)) r ⌝ }
 {
     let index = bound_index(bound);
     let a = put_entry(&mut *out, at, b"low,\nhigh,\nno,\n", index);
@@ -102,7 +102,7 @@ fn put_csv_values(
     high: f32,
     residual: f32,
 ) -> usize
-    ensures { λ r. ⌜ Sunk (now (out .entry)) at (csvValues id rule impulse low high residual) (now (out .exit)) r ⌝ }
+    ensures { λ r. ⌜ Appended (now (out .entry)) at (csvValues id rule impulse low high residual) (now (out .exit)) r ⌝ }
 {
     let bound = bound_of(impulse, low, high);
     let a = put_csv_id(&mut *out, at, id);
@@ -123,7 +123,7 @@ fn put_csv_row(
     high: f32,
     residual: f32,
 ) -> usize
-    ensures { λ r. ⌜ Sunk (now (out .entry)) 0 (csvText (now (joint .entry)) (now (body1 .entry)) (now (body2 .entry)) id coupled impulse low high residual) (now (out .exit)) r ⌝ }
+    ensures { λ r. ⌜ Appended (now (out .entry)) 0 (csvText (now (joint .entry)) (now (body1 .entry)) (now (body2 .entry)) id coupled impulse low high residual) (now (out .exit)) r ⌝ }
 {
     let rule = rule_of(id, coupled);
     let a = put_csv_names(&mut *out, 0, joint, body1, body2);

@@ -1,6 +1,6 @@
 // A joint's reaction as a record of comma-separated values.
 ghost use mathlib.Core.Path.{_≡_};
-ghost use Rattle.texts.specs.Sink.{Sunk, Wrote};
+ghost use Rattle.texts.specs.Sink.{Appended, Wrote};
 ghost use Rattle.study_text.specs.CsvReaction.{csvForces, csvTurned, csvReactionText, csvReactionHeading};
 use crate::csv::put_csv_names;
 use crate::csv::put_csv_number;
@@ -14,7 +14,7 @@ use texts::sink::put_text;
 use texts::sink::write_text;
 
 fn put_csv_forces(out: &mut [u8], at: usize, reaction: Reaction) -> usize
-    ensures { λ r. ⌜ Sunk (now (out .entry)) at (csvForces reaction) (now (out .exit)) r ⌝ }
+    ensures { λ r. ⌜ Appended (now (out .entry)) at (csvForces reaction) (now (out .exit)) r ⌝ }
 {
     let force = reaction.impulses.body1.linear;
     let along = reaction.along;
@@ -29,7 +29,7 @@ fn put_csv_forces(out: &mut [u8], at: usize, reaction: Reaction) -> usize
 }
 
 fn put_csv_turned(out: &mut [u8], at: usize, angular: f32, swept: bool, motors: u8) -> usize
-    ensures { λ r. ⌜ Sunk (now (out .entry)) at (csvTurned angular swept motors) (now (out .exit)) r ⌝ }
+    ensures { λ r. ⌜ Appended (now (out .entry)) at (csvTurned angular swept motors) (now (out .exit)) r ⌝ }
 {
     let digit = motors_digit(swept, motors);
     let a = put_csv_number(&mut *out, at, angular);
@@ -47,7 +47,7 @@ fn put_csv_reaction(
     swept: bool,
     motors: u8,
 ) -> usize
-    ensures { λ r. ⌜ Sunk (now (out .entry)) 0 (csvReactionText (now (joint .entry)) (now (body1 .entry)) (now (body2 .entry)) reaction swept motors) (now (out .exit)) r ⌝ }
+    ensures { λ r. ⌜ Appended (now (out .entry)) 0 (csvReactionText (now (joint .entry)) (now (body1 .entry)) (now (body2 .entry)) reaction swept motors) (now (out .exit)) r ⌝ }
 {
     let a = put_csv_names(&mut *out, 0, joint, body1, body2);
     let b = put_csv_forces(&mut *out, a, reaction);

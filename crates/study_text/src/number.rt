@@ -3,7 +3,7 @@
 ghost use mathlib.Core.Path.{_≡_};
 ghost use Prim.Native.Nat.{_-_};
 ghost use lib.ListN.{length};
-ghost use Rattle.texts.specs.Sink.{Sunk};
+ghost use Rattle.texts.specs.Sink.{Appended};
 ghost use Rattle.study_text.specs.Number.{signed, overText, millionthsText, numberColumn, rightColumn};
 ghost use Rattle.motor_table.specs.Text.{numberText};
 ghost use Rattle.decimals.specs.Spelled.{spelledText};
@@ -35,7 +35,7 @@ fn signed(n: i32) -> Number
 }
 
 fn put_over(out: &mut [u8], at: usize, x: f32) -> usize
-    ensures { λ r. ⌜ Sunk (now (out .entry)) at (overText x) (now (out .exit)) r ⌝ }
+    ensures { λ r. ⌜ Appended (now (out .entry)) at (overText x) (now (out .exit)) r ⌝ }
 {
     let parts = parts_of(x);
     match parts {
@@ -51,7 +51,7 @@ fn put_over(out: &mut [u8], at: usize, x: f32) -> usize
 }
 
 pub fn put_millionths(out: &mut [u8], at: usize, x: f32) -> usize
-    ensures { λ r. ⌜ Sunk (now (out .entry)) at (millionthsText x) (now (out .exit)) r ⌝ }
+    ensures { λ r. ⌜ Appended (now (out .entry)) at (millionthsText x) (now (out .exit)) r ⌝ }
 {
     let report = micro_report(x);
     match report {
@@ -63,7 +63,7 @@ pub fn put_millionths(out: &mut [u8], at: usize, x: f32) -> usize
 
 // The number as a decimal that reads as it.
 pub fn put_spelled(out: &mut [u8], at: usize, x: f32) -> usize
-    ensures { λ r. ⌜ Sunk (now (out .entry)) at (spelledText x) (now (out .exit)) r ⌝ }
+    ensures { λ r. ⌜ Appended (now (out .entry)) at (spelledText x) (now (out .exit)) r ⌝ }
 {
     let word = spelled(x);
     let bytes = word.bytes;
@@ -83,7 +83,7 @@ fn blanks_before(len: usize) -> usize
 }
 
 fn put_right(out: &mut [u8], at: usize, text: &[u8]) -> usize
-    ensures { λ r. ⌜ Sunk (now (out .entry)) at (rightColumn (now (text .entry))) (now (out .exit)) r ⌝ }
+    ensures { λ r. ⌜ Appended (now (out .entry)) at (rightColumn (now (text .entry))) (now (out .exit)) r ⌝ }
 {
     let n = blanks_before(text.len());
     let a = put_blanks(&mut *out, at, n);
@@ -92,7 +92,7 @@ fn put_right(out: &mut [u8], at: usize, text: &[u8]) -> usize
 }
 
 pub(crate) fn put_right_spelled(out: &mut [u8], at: usize, x: f32) -> usize
-    ensures { λ r. ⌜ Sunk (now (out .entry)) at (rightColumn (spelledText x)) (now (out .exit)) r ⌝ }
+    ensures { λ r. ⌜ Appended (now (out .entry)) at (rightColumn (spelledText x)) (now (out .exit)) r ⌝ }
 {
     let word = spelled(x);
     let bytes = word.bytes;
@@ -102,7 +102,7 @@ pub(crate) fn put_right_spelled(out: &mut [u8], at: usize, x: f32) -> usize
 
 // A first run tells the length.
 fn put_right_whole(out: &mut [u8], at: usize, n: i32) -> usize
-    ensures { λ r. ⌜ Sunk (now (out .entry)) at (rightColumn (numberText (signed n))) (now (out .exit)) r ⌝ }
+    ensures { λ r. ⌜ Appended (now (out .entry)) at (rightColumn (numberText (signed n))) (now (out .exit)) r ⌝ }
 {
     let number = signed(n);
     let mut none = [0u8; 1];
@@ -114,7 +114,7 @@ fn put_right_whole(out: &mut [u8], at: usize, n: i32) -> usize
 
 // An impulse or a bound: its millionths, or the number itself where it has none.
 pub(crate) fn put_number_column(out: &mut [u8], at: usize, x: f32) -> usize
-    ensures { λ r. ⌜ Sunk (now (out .entry)) at (numberColumn x) (now (out .exit)) r ⌝ }
+    ensures { λ r. ⌜ Appended (now (out .entry)) at (numberColumn x) (now (out .exit)) r ⌝ }
 {
     let report = micro_report(x);
     match report {

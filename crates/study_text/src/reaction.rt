@@ -1,6 +1,6 @@
 // A joint's reaction, a line under the table's rows: what its rows together gave its two bodies.
 ghost use mathlib.Core.Path.{_≡_};
-ghost use Rattle.texts.specs.Sink.{Sunk, Wrote};
+ghost use Rattle.texts.specs.Sink.{Appended, Wrote};
 ghost use Rattle.study_text.specs.Reaction.{forcesText, turnedText, reactionText, reactionHeading, reactionNotes};
 use crate::number::put_number_column;
 use crate::row::put_names;
@@ -14,7 +14,7 @@ use texts::sink::put_text;
 use texts::sink::write_text;
 
 fn put_forces(out: &mut [u8], at: usize, reaction: Reaction) -> usize
-    ensures { λ r. ⌜ Sunk (now (out .entry)) at (forcesText reaction) (now (out .exit)) r ⌝ }
+    ensures { λ r. ⌜ Appended (now (out .entry)) at (forcesText reaction) (now (out .exit)) r ⌝ }
 {
     let force = reaction.impulses.body1.linear;
     let along = reaction.along;
@@ -29,7 +29,7 @@ fn put_forces(out: &mut [u8], at: usize, reaction: Reaction) -> usize
 }
 
 fn put_turned(out: &mut [u8], at: usize, angular: f32, swept: bool, motors: u8) -> usize
-    ensures { λ r. ⌜ Sunk (now (out .entry)) at (turnedText angular swept motors) (now (out .exit)) r ⌝ }
+    ensures { λ r. ⌜ Appended (now (out .entry)) at (turnedText angular swept motors) (now (out .exit)) r ⌝ }
 {
     let digit = motors_digit(swept, motors);
     let a = put_number_column(&mut *out, at, angular);
@@ -47,7 +47,7 @@ fn put_reaction(
     swept: bool,
     motors: u8,
 ) -> usize
-    ensures { λ r. ⌜ Sunk (now (out .entry)) 0 (reactionText (now (joint .entry)) (now (body1 .entry)) (now (body2 .entry)) reaction swept motors) (now (out .exit)) r ⌝ }
+    ensures { λ r. ⌜ Appended (now (out .entry)) 0 (reactionText (now (joint .entry)) (now (body1 .entry)) (now (body2 .entry)) reaction swept motors) (now (out .exit)) r ⌝ }
 {
     let a = put_names(&mut *out, 0, joint, body1, body2);
     let b = put_forces(&mut *out, a, reaction);

@@ -1,6 +1,6 @@
 // How far from settled a table's rows are, as the line below it says.
 ghost use mathlib.Core.Path.{_≡_};
-ghost use Rattle.texts.specs.Sink.{Sunk, Wrote};
+ghost use Rattle.texts.specs.Sink.{Appended, Wrote};
 ghost use Rattle.study_text.specs.Residual.{changeText, residualText};
 use crate::number::put_spelled;
 use catalogue::text::put_id;
@@ -10,7 +10,7 @@ use texts::sink::length_to;
 use texts::sink::put_text;
 
 fn put_change(out: &mut [u8], at: usize, id: WritebackId, x: f32) -> usize
-    ensures { λ r. ⌜ Sunk (now (out .entry)) at (changeText id x) (now (out .exit)) r ⌝ }
+    ensures { λ r. ⌜ Appended (now (out .entry)) at (changeText id x) (now (out .exit)) r ⌝ }
 {
     let a = put_text(&mut *out, at, b" ");
     let b = put_id(&mut *out, a, id);
@@ -20,7 +20,7 @@ fn put_change(out: &mut [u8], at: usize, id: WritebackId, x: f32) -> usize
 }
 
 fn put_residual(out: &mut [u8], joint: &[u8], id: WritebackId, x: f32) -> usize
-    ensures { λ r. ⌜ Sunk (now (out .entry)) 0 (residualText (now (joint .entry)) id x) (now (out .exit)) r ⌝ }
+    ensures { λ r. ⌜ Appended (now (out .entry)) 0 (residualText (now (joint .entry)) id x) (now (out .exit)) r ⌝ }
 {
     let a = put_text(&mut *out, 0, joint);
     put_change(&mut *out, a, id, x)

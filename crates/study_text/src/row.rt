@@ -2,7 +2,7 @@
 ghost use mathlib.Core.Path.{_≡_};
 ghost use Prim.Native.Nat.{_+_, _-_, _≤_};
 ghost use lib.ListN.{length};
-ghost use Rattle.texts.specs.Sink.{Sunk, Wrote};
+ghost use Rattle.texts.specs.Sink.{Appended, Wrote};
 ghost use Rattle.study_text.specs.Words.{boundOf};
 ghost use Rattle.study_text.specs.Row.{column, namesText, numbersText, valuesText, ruleText, rowText};
 use crate::number::put_number_column;
@@ -34,7 +34,7 @@ fn blanks_after(len: usize, width: usize) -> usize
 
 fn put_column(out: &mut [u8], at: usize, text: &[u8], width: usize) -> usize
     requires { ⌜ width ≤ 11 ⌝ }
-    ensures { λ r. ⌜ Sunk (now (out .entry)) at (column width (now (text .entry))) (now (out .exit)) r ⌝ }
+    ensures { λ r. ⌜ Appended (now (out .entry)) at (column width (now (text .entry))) (now (out .exit)) r ⌝ }
 {
     let n = blanks_after(text.len(), width);
     let end = put_text(&mut *out, at, text);
@@ -48,7 +48,7 @@ pub(crate) fn put_names(
     body1: &[u8],
     body2: &[u8],
 ) -> usize
-    ensures { λ r. ⌜ Sunk (now (out .entry)) at (namesText (now (joint .entry)) (now (body1 .entry)) (now (body2 .entry))) (now (out .exit)) r ⌝ }
+    ensures { λ r. ⌜ Appended (now (out .entry)) at (namesText (now (joint .entry)) (now (body1 .entry)) (now (body2 .entry))) (now (out .exit)) r ⌝ }
 {
     let a = put_column(&mut *out, at, joint, 11);
     let b = put_column(&mut *out, a, body1, 9);
@@ -56,7 +56,7 @@ pub(crate) fn put_names(
 }
 
 pub(crate) fn put_numbers(out: &mut [u8], at: usize, impulse: f32, low: f32, high: f32) -> usize
-    ensures { λ r. ⌜ Sunk (now (out .entry)) at (numbersText impulse low high) (now (out .exit)) r ⌝ }
+    ensures { λ r. ⌜ Appended (now (out .entry)) at (numbersText impulse low high) (now (out .exit)) r ⌝ }
 {
     let a = put_number_column(&mut *out, at, impulse);
     let b = put_number_column(&mut *out, a, low);
@@ -72,7 +72,7 @@ fn put_values(
     high: f32,
     residual: f32,
 ) -> usize
-    ensures { λ r. ⌜ Sunk (now (out .entry)) at (valuesText id impulse low high residual) (now (out .exit)) r ⌝ }
+    ensures { λ r. ⌜ Appended (now (out .entry)) at (valuesText id impulse low high residual) (now (out .exit)) r ⌝ }
 {
     let bound = bound_of(impulse, low, high);
     let a = put_id_column(&mut *out, at, id);
@@ -82,7 +82,7 @@ fn put_values(
 }
 
 fn put_rule(out: &mut [u8], at: usize, rule: Rule) -> usize
-    ensures { λ r. ⌜ Sunk (now (out .entry)) at (ruleText rule) (now (out .exit)) r ⌝ }
+    ensures { λ r. ⌜ Appended (now (out .entry)) at (ruleText rule) (now (out .exit)) r ⌝ }
 {
     let a = put_rule_number(&mut *out, at, rule);
     let b = put_byte(&mut *out, a, b' ');
@@ -102,7 +102,7 @@ fn put_row(
     high: f32,
     residual: f32,
 ) -> usize
-    ensures { λ r. ⌜ Sunk (now (out .entry)) 0 (rowText (now (joint .entry)) (now (body1 .entry)) (now (body2 .entry)) id coupled impulse low high residual) (now (out .exit)) r ⌝ }
+    ensures { λ r. ⌜ Appended (now (out .entry)) 0 (rowText (now (joint .entry)) (now (body1 .entry)) (now (body2 .entry)) id coupled impulse low high residual) (now (out .exit)) r ⌝ }
 {
     let rule = rule_of(id, coupled);
     let a = put_names(&mut *out, 0, joint, body1, body2);

@@ -1,6 +1,6 @@
 // A body's velocity, as a velocity read prints it.
 ghost use mathlib.Core.Path.{_≡_};
-ghost use Rattle.texts.specs.Sink.{Sunk, Wrote};
+ghost use Rattle.texts.specs.Sink.{Appended, Wrote};
 ghost use Rattle.study_text.specs.Velocity.{movesText, velocityText};
 use crate::number::put_millionths;
 use texts::sink::has_room;
@@ -8,7 +8,7 @@ use texts::sink::length_to;
 use texts::sink::put_text;
 
 fn put_moves(out: &mut [u8], at: usize, x: f32, y: f32) -> usize
-    ensures { λ r. ⌜ Sunk (now (out .entry)) at (movesText x y) (now (out .exit)) r ⌝ }
+    ensures { λ r. ⌜ Appended (now (out .entry)) at (movesText x y) (now (out .exit)) r ⌝ }
 {
     let a = put_text(&mut *out, at, b" moves ");
     let b = put_millionths(&mut *out, a, x);
@@ -18,7 +18,7 @@ fn put_moves(out: &mut [u8], at: usize, x: f32, y: f32) -> usize
 }
 
 fn put_velocity(out: &mut [u8], name: &[u8], x: f32, y: f32, angular: f32) -> usize
-    ensures { λ r. ⌜ Sunk (now (out .entry)) 0 (velocityText (now (name .entry)) x y angular) (now (out .exit)) r ⌝ }
+    ensures { λ r. ⌜ Appended (now (out .entry)) 0 (velocityText (now (name .entry)) x y angular) (now (out .exit)) r ⌝ }
 {
     let a = put_text(&mut *out, 0, name);
     let b = put_moves(&mut *out, a, x, y);

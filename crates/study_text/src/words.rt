@@ -1,7 +1,7 @@
 // The words of a line, each put in from `at` on; a word that goes by a number is an entry of a table. Each function answers where its word ends.
 ghost use mathlib.Core.Path.{_≡_};
 ghost use mathlib.Core.List.{[], _∷_};
-ghost use Rattle.texts.specs.Sink.{Sunk};
+ghost use Rattle.texts.specs.Sink.{Appended};
 ghost use Rattle.catalogue.specs.Text.{idText};
 ghost use Rattle.study_text.specs.Words.{boundIndex, numberOf, definitionText, boundOf, boundText, motorsText};
 ghost use Rattle.study_text.specs.Row.{column};
@@ -21,7 +21,7 @@ pub enum Bound {
 
 // An id in its column.
 pub(crate) fn put_id_column(out: &mut [u8], at: usize, id: WritebackId) -> usize
-    ensures { λ r. ⌜ Sunk (now (out .entry)) at (column 6 (idText id)) (now (out .exit)) r ⌝ }
+    ensures { λ r. ⌜ Appended (now (out .entry)) at (column 6 (idText id)) (now (out .exit)) r ⌝ }
 {
     let kind = kind_index(id);
     let a = put_id(&mut *out, at, id);
@@ -56,7 +56,7 @@ pub(crate) fn bound_index(bound: Bound) -> usize
 }
 
 pub(crate) fn put_bound(out: &mut [u8], at: usize, bound: Bound) -> usize
-    ensures { λ r. ⌜ Sunk (now (out .entry)) at (column 4 (boundText bound)) (now (out .exit)) r ⌝ }
+    ensures { λ r. ⌜ Appended (now (out .entry)) at (column 4 (boundText bound)) (now (out .exit)) r ⌝ }
 {
     let index = bound_index(bound);
     put_entry(&mut *out, at, b"low  \nhigh \n-    \n", index)
@@ -87,7 +87,7 @@ pub fn motors_digit(swept: bool, motors: u8) -> u8
 
 // The rule's number in the table.
 pub fn put_rule_number(out: &mut [u8], at: usize, rule: Rule) -> usize
-    ensures { λ r. ⌜ Sunk (now (out .entry)) at (numberOf rule) (now (out .exit)) r ⌝ }
+    ensures { λ r. ⌜ Appended (now (out .entry)) at (numberOf rule) (now (out .exit)) r ⌝ }
 {
     let index = rule_index(rule);
     put_entry(
@@ -100,7 +100,7 @@ pub fn put_rule_number(out: &mut [u8], at: usize, rule: Rule) -> usize
 
 // The definition that makes the row.
 pub fn put_definition(out: &mut [u8], at: usize, rule: Rule) -> usize
-    ensures { λ r. ⌜ Sunk (now (out .entry)) at (definitionText rule) (now (out .exit)) r ⌝ }
+    ensures { λ r. ⌜ Appended (now (out .entry)) at (definitionText rule) (now (out .exit)) r ⌝ }
 {
     let index = rule_index(rule);
     put_entry(

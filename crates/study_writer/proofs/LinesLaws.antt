@@ -9,8 +9,8 @@ use lib.Dec.{eqb}
 use lib.Ieee.{Float}
 use lib.ListN.{getD}
 use Rattle.texts.specs.Ascii.{ascii, LF, SPACE}
-use Rattle.texts.specs.Sink.{Sunk}
-use Rattle.texts.proofs.SinkLaws.{sunk-then, sunk-none, sunk-text}
+use Rattle.texts.specs.Sink.{Appended}
+use Rattle.texts.proofs.SinkLaws.{appended-then, appended-none, appended-text}
 use Rattle.model.specs.Layout.{wordsWidth, body1Place, body2Place}
 use Rattle.study_writer.specs.Text.{Line, lineOnto, wordsOnto, linesText, one, two, bodyWord, jointWord, endWord, modelWord, enabledWord, centerLine, itemsFrom}
 
@@ -33,9 +33,9 @@ lines-append (l ∷ ls) b =
     ∙ sym (append-assoc (lineOnto l []) (linesText ls) (linesText b))
     ∙ ap (λ (t : List ℕ). t ++ linesText b) (sym (onto-append l (linesText ls)))
 
-pub lines-then : (a b : List Line) {out : List ℕ} {at : ℕ} {mid : List ℕ} {e : ℕ} {last : List ℕ} {r : ℕ} → Sunk out at (linesText a) mid e
-    → Sunk mid e (linesText b) last r → Sunk out at (linesText (a ++ b)) last r
-lines-then a b s t = sunk-text (sym (lines-append a b)) (sunk-then s t)
+pub lines-then : (a b : List Line) {out : List ℕ} {at : ℕ} {mid : List ℕ} {e : ℕ} {last : List ℕ} {r : ℕ} → Appended out at (linesText a) mid e
+    → Appended mid e (linesText b) last r → Appended out at (linesText (a ++ b)) last r
+lines-then a b s t = appended-text (sym (lines-append a b)) (appended-then s t)
 
 -- ---- words that depend on a number
 
@@ -92,19 +92,19 @@ settings-first = refl
 -- ---- lines after lines
 
 module _ {out : List ℕ} {at : ℕ} {mid : List ℕ} {e : ℕ} {last : List ℕ} {r : ℕ} where
-  pub lines-one : (l : Line) (ls : List Line) → Sunk out at (linesText (l ∷ [])) mid e → Sunk mid e (linesText ls) last r → Sunk out at (linesText (l ∷ ls)) last r
+  pub lines-one : (l : Line) (ls : List Line) → Appended out at (linesText (l ∷ [])) mid e → Appended mid e (linesText ls) last r → Appended out at (linesText (l ∷ ls)) last r
   lines-one l ls s t = lines-then (l ∷ []) ls s t
 
-  pub lines-two : (l l₂ : Line) (ls : List Line) → Sunk out at (linesText (l ∷ l₂ ∷ [])) mid e → Sunk mid e (linesText ls) last r
-      → Sunk out at (linesText (l ∷ l₂ ∷ ls)) last r
+  pub lines-two : (l l₂ : Line) (ls : List Line) → Appended out at (linesText (l ∷ l₂ ∷ [])) mid e → Appended mid e (linesText ls) last r
+      → Appended out at (linesText (l ∷ l₂ ∷ ls)) last r
   lines-two l l₂ ls s t = lines-then (l ∷ l₂ ∷ []) ls s t
 
-  pub lines-three : (l l₂ l₃ : Line) (ls : List Line) → Sunk out at (linesText (l ∷ l₂ ∷ l₃ ∷ [])) mid e → Sunk mid e (linesText ls) last r
-      → Sunk out at (linesText (l ∷ l₂ ∷ l₃ ∷ ls)) last r
+  pub lines-three : (l l₂ l₃ : Line) (ls : List Line) → Appended out at (linesText (l ∷ l₂ ∷ l₃ ∷ [])) mid e → Appended mid e (linesText ls) last r
+      → Appended out at (linesText (l ∷ l₂ ∷ l₃ ∷ ls)) last r
   lines-three l l₂ l₃ ls s t = lines-then (l ∷ l₂ ∷ l₃ ∷ []) ls s t
 
-  pub lines-four : (l l₂ l₃ l₄ : Line) (ls : List Line) → Sunk out at (linesText (l ∷ l₂ ∷ l₃ ∷ l₄ ∷ [])) mid e → Sunk mid e (linesText ls) last r
-      → Sunk out at (linesText (l ∷ l₂ ∷ l₃ ∷ l₄ ∷ ls)) last r
+  pub lines-four : (l l₂ l₃ l₄ : Line) (ls : List Line) → Appended out at (linesText (l ∷ l₂ ∷ l₃ ∷ l₄ ∷ [])) mid e → Appended mid e (linesText ls) last r
+      → Appended out at (linesText (l ∷ l₂ ∷ l₃ ∷ l₄ ∷ ls)) last r
   lines-four l l₂ l₃ l₄ ls s t = lines-then (l ∷ l₂ ∷ l₃ ∷ l₄ ∷ []) ls s t
 
 -- ---- so many items
@@ -122,12 +122,12 @@ module _ (lines : ℕ → List Line) where
       ∙ sym (append-assoc (lines i) (itemsFrom lines (i + 1) n) (lines (i + suc n)))
 
   module _ (out : List ℕ) (at : ℕ) where
-    pub items-none : Sunk out at (linesText (itemsFrom lines 0 0)) out at
+    pub items-none : Appended out at (linesText (itemsFrom lines 0 0)) out at
     unfolding itemsFrom linesText
-    items-none = sunk-none out at
+    items-none = appended-none out at
 
-    pub items-turn : (i : ℕ) {mid : List ℕ} {e : ℕ} {last : List ℕ} {r : ℕ} → Sunk out at (linesText (itemsFrom lines 0 i)) mid e → Sunk mid e (linesText (lines i)) last r
-        → Sunk out at (linesText (itemsFrom lines 0 (i + 1))) last r
+    pub items-turn : (i : ℕ) {mid : List ℕ} {e : ℕ} {last : List ℕ} {r : ℕ} → Appended out at (linesText (itemsFrom lines 0 i)) mid e → Appended mid e (linesText (lines i)) last r
+        → Appended out at (linesText (itemsFrom lines 0 (i + 1))) last r
     items-turn i s t =
         let z : 0 + i ≡ i = omega arith in
-        sunk-text (ap linesText (sym (items-snoc 0 i ∙ ap (λ (k : ℕ). itemsFrom lines 0 i ++ lines k) z))) (lines-then (itemsFrom lines 0 i) (lines i) s t)
+        appended-text (ap linesText (sym (items-snoc 0 i ∙ ap (λ (k : ℕ). itemsFrom lines 0 i ++ lines k) z))) (lines-then (itemsFrom lines 0 i) (lines i) s t)

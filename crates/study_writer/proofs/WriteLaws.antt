@@ -17,7 +17,7 @@ use Rattle.multibody.specs.Counts.{bodyCount, jointCount}
 use Rattle.model.specs.Planar.{plane}
 use Rattle.model.specs.declared.header.Header.{Header}
 use Rattle.study_writer.specs.Text.{linesText, settingsLines, bodiesFrom, jointsFrom, studyLines, studyText}
-use Rattle.texts.specs.Sink.{Sunk}
+use Rattle.texts.specs.Sink.{Appended}
 use Rattle.study_writer.specs.Printed.{printedText}
 use Rattle.study_writer.proofs.Sizes.{Small, study-size}
 use Rattle.texts.proofs.SinkLaws.{put-there, end-there}
@@ -90,10 +90,10 @@ module _ (h : Header) (bodies : List Float) (words : List ℕ) (numbers : List F
     short : length whole < 4294967295
     short = let s = study-size m (omega arith) (omega arith) (λ j _. joint-small j) in omega (arith, s .0, ap length whole-is)
 
-    pub answered : (out out′ : List ℕ) (r : ℕ) → Sunk out 0 whole out′ r → r ≡ length (printedText m)
+    pub answered : (out out′ : List ℕ) (r : ℕ) → Appended out 0 whole out′ r → r ≡ length (printedText m)
     answered out out′ r s = s .ends ∙ end-there 0 whole (omega (arith, short)) ∙ omega (arith, ap length printed)
 
-    pub written-there : (out out′ : List ℕ) (r : ℕ) → Sunk out 0 whole out′ r → length (printedText m) ≤ length out → out′ ≡ written out (printedText m)
+    pub written-there : (out out′ : List ℕ) (r : ℕ) → Appended out 0 whole out′ r → length (printedText m) ≤ length out → out′ ≡ written out (printedText m)
     unfolding written
     written-there out out′ r s g =
         let p = ap length printed in

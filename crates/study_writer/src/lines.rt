@@ -7,7 +7,7 @@ ghost use Rattle.model.specs.Layout.{numbersWidth, centerPlace};
 ghost use Rattle.texts.specs.Digits.{decimal};
 ghost use Rattle.texts.specs.Ascii.{ascii, SPACE};
 ghost use Rattle.study_writer.specs.Text.{linesText, numberWord, bodyWord, jointWord, endWord, modelWord, enabledWord, centerLine};
-ghost use Rattle.texts.specs.Sink.{Sunk};
+ghost use Rattle.texts.specs.Sink.{Appended};
 use decimals::text::number_text;
 use model::layout::CENTER_RE;
 use model::layout::WORLD;
@@ -19,7 +19,7 @@ use texts::sink::put_text;
 
 // A word after a blank.
 fn put_word(out: &mut [u8], at: usize, word: &[u8]) -> usize
-    ensures { λ r. ⌜ Sunk (now (out .entry)) at (SPACE ∷ now (word .entry)) (now (out .exit)) r ⌝ }
+    ensures { λ r. ⌜ Appended (now (out .entry)) at (SPACE ∷ now (word .entry)) (now (out .exit)) r ⌝ }
 {
     let a = put_byte(&mut *out, at, b' ');
     put_text(&mut *out, a, word)
@@ -27,7 +27,7 @@ fn put_word(out: &mut [u8], at: usize, word: &[u8]) -> usize
 
 // A number after a blank.
 fn put_number(out: &mut [u8], at: usize, x: f32) -> usize
-    ensures { λ r. ⌜ Sunk (now (out .entry)) at (SPACE ∷ numberWord x) (now (out .exit)) r ⌝ }
+    ensures { λ r. ⌜ Appended (now (out .entry)) at (SPACE ∷ numberWord x) (now (out .exit)) r ⌝ }
 {
     let word = number_text(x);
     put_word(&mut *out, at, &word)
@@ -35,7 +35,7 @@ fn put_number(out: &mut [u8], at: usize, x: f32) -> usize
 
 pub fn put_one(out: &mut [u8], at: usize, name: &[u8], s: &[f32], o: usize, k: usize) -> usize
     requires { ⌜ o + (k + 1) ≤ length (now s) ⌝ }
-    ensures { λ r. ⌜ Sunk (now (out .entry)) at (linesText ((now (name .entry) ∷ numberWord (getD (now (s .entry)) (o + k) nan) ∷ []) ∷ [])) (now (out .exit)) r ⌝ }
+    ensures { λ r. ⌜ Appended (now (out .entry)) at (linesText ((now (name .entry) ∷ numberWord (getD (now (s .entry)) (o + k) nan) ∷ []) ∷ [])) (now (out .exit)) r ⌝ }
 {
     let a = put_text(&mut *out, at, name);
     let b = put_number(&mut *out, a, s[o + k]);
@@ -44,7 +44,7 @@ pub fn put_one(out: &mut [u8], at: usize, name: &[u8], s: &[f32], o: usize, k: u
 
 pub fn put_two(out: &mut [u8], at: usize, name: &[u8], s: &[f32], o: usize, k: usize) -> usize
     requires { ⌜ o + (k + 2) ≤ length (now s) ⌝ }
-    ensures { λ r. ⌜ Sunk (now (out .entry)) at (linesText ((now (name .entry) ∷ numberWord (getD (now (s .entry)) (o + k) nan) ∷ numberWord (getD (now (s .entry)) (o + (k + 1)) nan) ∷ []) ∷ [])) (now (out .exit)) r ⌝ }
+    ensures { λ r. ⌜ Appended (now (out .entry)) at (linesText ((now (name .entry) ∷ numberWord (getD (now (s .entry)) (o + k) nan) ∷ numberWord (getD (now (s .entry)) (o + (k + 1)) nan) ∷ []) ∷ [])) (now (out .exit)) r ⌝ }
 {
     let a = put_text(&mut *out, at, name);
     let b = put_number(&mut *out, a, s[o + k]);
@@ -62,7 +62,7 @@ pub fn put_one_of(
     k: usize,
 ) -> usize
     requires { ⌜ o + (k + 1) ≤ length (now s) ⌝ }
-    ensures { λ r. ⌜ Sunk (now (out .entry)) at (linesText ((now (name .entry) ∷ now (axis .entry) ∷ numberWord (getD (now (s .entry)) (o + k) nan) ∷ []) ∷ [])) (now (out .exit)) r ⌝ }
+    ensures { λ r. ⌜ Appended (now (out .entry)) at (linesText ((now (name .entry) ∷ now (axis .entry) ∷ numberWord (getD (now (s .entry)) (o + k) nan) ∷ []) ∷ [])) (now (out .exit)) r ⌝ }
 {
     let a = put_text(&mut *out, at, name);
     let b = put_word(&mut *out, a, axis);
@@ -80,7 +80,7 @@ pub fn put_two_of(
     k: usize,
 ) -> usize
     requires { ⌜ o + (k + 2) ≤ length (now s) ⌝ }
-    ensures { λ r. ⌜ Sunk (now (out .entry)) at (linesText ((now (name .entry) ∷ now (axis .entry) ∷ numberWord (getD (now (s .entry)) (o + k) nan) ∷ numberWord (getD (now (s .entry)) (o + (k + 1)) nan) ∷ []) ∷ [])) (now (out .exit)) r ⌝ }
+    ensures { λ r. ⌜ Appended (now (out .entry)) at (linesText ((now (name .entry) ∷ now (axis .entry) ∷ numberWord (getD (now (s .entry)) (o + k) nan) ∷ numberWord (getD (now (s .entry)) (o + (k + 1)) nan) ∷ []) ∷ [])) (now (out .exit)) r ⌝ }
 {
     let a = put_text(&mut *out, at, name);
     let b = put_word(&mut *out, a, axis);
@@ -92,14 +92,14 @@ pub fn put_two_of(
 // ---- names
 
 fn put_body_word(out: &mut [u8], at: usize, i: u32) -> usize
-    ensures { λ r. ⌜ Sunk (now (out .entry)) at (SPACE ∷ bodyWord i) (now (out .exit)) r ⌝ }
+    ensures { λ r. ⌜ Appended (now (out .entry)) at (SPACE ∷ bodyWord i) (now (out .exit)) r ⌝ }
 {
     let a = put_text(&mut *out, at, b" b");
     put_decimal(&mut *out, a, i)
 }
 
 fn put_joint_word(out: &mut [u8], at: usize, j: u32) -> usize
-    ensures { λ r. ⌜ Sunk (now (out .entry)) at (SPACE ∷ jointWord j) (now (out .exit)) r ⌝ }
+    ensures { λ r. ⌜ Appended (now (out .entry)) at (SPACE ∷ jointWord j) (now (out .exit)) r ⌝ }
 {
     let a = put_text(&mut *out, at, b" j");
     put_decimal(&mut *out, a, j)
@@ -107,7 +107,7 @@ fn put_joint_word(out: &mut [u8], at: usize, j: u32) -> usize
 
 // A joint's body: a body's name, or the world's.
 fn put_end(out: &mut [u8], at: usize, i: u32) -> usize
-    ensures { λ r. ⌜ Sunk (now (out .entry)) at (SPACE ∷ endWord i) (now (out .exit)) r ⌝ }
+    ensures { λ r. ⌜ Appended (now (out .entry)) at (SPACE ∷ endWord i) (now (out .exit)) r ⌝ }
 {
     if i == WORLD {
         return put_text(&mut *out, at, b" world");
@@ -116,7 +116,7 @@ fn put_end(out: &mut [u8], at: usize, i: u32) -> usize
 }
 
 pub fn put_body_line(out: &mut [u8], at: usize, i: u32) -> usize
-    ensures { λ r. ⌜ Sunk (now (out .entry)) at (linesText ((ascii "body" ∷ bodyWord i ∷ []) ∷ [])) (now (out .exit)) r ⌝ }
+    ensures { λ r. ⌜ Appended (now (out .entry)) at (linesText ((ascii "body" ∷ bodyWord i ∷ []) ∷ [])) (now (out .exit)) r ⌝ }
 {
     let a = put_text(&mut *out, at, b"body");
     let b = put_body_word(&mut *out, a, i);
@@ -124,7 +124,7 @@ pub fn put_body_line(out: &mut [u8], at: usize, i: u32) -> usize
 }
 
 pub fn put_joint_line(out: &mut [u8], at: usize, j: u32, body1: u32, body2: u32) -> usize
-    ensures { λ r. ⌜ Sunk (now (out .entry)) at (linesText ((ascii "joint" ∷ jointWord j ∷ endWord body1 ∷ endWord body2 ∷ []) ∷ [])) (now (out .exit)) r ⌝ }
+    ensures { λ r. ⌜ Appended (now (out .entry)) at (linesText ((ascii "joint" ∷ jointWord j ∷ endWord body1 ∷ endWord body2 ∷ []) ∷ [])) (now (out .exit)) r ⌝ }
 {
     let a = put_text(&mut *out, at, b"joint");
     let b = put_joint_word(&mut *out, a, j);
@@ -136,7 +136,7 @@ pub fn put_joint_line(out: &mut [u8], at: usize, j: u32, body1: u32, body2: u32)
 // ---- words
 
 pub fn put_mask(out: &mut [u8], at: usize, name: &[u8], mask: u32) -> usize
-    ensures { λ r. ⌜ Sunk (now (out .entry)) at (linesText ((now (name .entry) ∷ decimal mask ∷ []) ∷ [])) (now (out .exit)) r ⌝ }
+    ensures { λ r. ⌜ Appended (now (out .entry)) at (linesText ((now (name .entry) ∷ decimal mask ∷ []) ∷ [])) (now (out .exit)) r ⌝ }
 {
     let a = put_text(&mut *out, at, name);
     let b = put_byte(&mut *out, a, b' ');
@@ -145,7 +145,7 @@ pub fn put_mask(out: &mut [u8], at: usize, name: &[u8], mask: u32) -> usize
 }
 
 fn put_model_word(out: &mut [u8], at: usize, m: u32) -> usize
-    ensures { λ r. ⌜ Sunk (now (out .entry)) at (SPACE ∷ modelWord m) (now (out .exit)) r ⌝ }
+    ensures { λ r. ⌜ Appended (now (out .entry)) at (SPACE ∷ modelWord m) (now (out .exit)) r ⌝ }
 {
     if m == 0 {
         return put_text(&mut *out, at, b" acceleration");
@@ -154,7 +154,7 @@ fn put_model_word(out: &mut [u8], at: usize, m: u32) -> usize
 }
 
 pub fn put_model(out: &mut [u8], at: usize, axis: &[u8], m: u32) -> usize
-    ensures { λ r. ⌜ Sunk (now (out .entry)) at (linesText ((ascii "motor_model" ∷ now (axis .entry) ∷ modelWord m ∷ []) ∷ [])) (now (out .exit)) r ⌝ }
+    ensures { λ r. ⌜ Appended (now (out .entry)) at (linesText ((ascii "motor_model" ∷ now (axis .entry) ∷ modelWord m ∷ []) ∷ [])) (now (out .exit)) r ⌝ }
 {
     let a = put_text(&mut *out, at, b"motor_model");
     let b = put_word(&mut *out, a, axis);
@@ -163,7 +163,7 @@ pub fn put_model(out: &mut [u8], at: usize, axis: &[u8], m: u32) -> usize
 }
 
 pub fn put_enabled(out: &mut [u8], at: usize, e: u32) -> usize
-    ensures { λ r. ⌜ Sunk (now (out .entry)) at (linesText ((enabledWord e ∷ []) ∷ [])) (now (out .exit)) r ⌝ }
+    ensures { λ r. ⌜ Appended (now (out .entry)) at (linesText ((enabledWord e ∷ []) ∷ [])) (now (out .exit)) r ⌝ }
 {
     if e == 0 {
         return put_text(&mut *out, at, b"enabled\n");
@@ -176,7 +176,7 @@ pub fn put_enabled(out: &mut [u8], at: usize, e: u32) -> usize
 
 pub fn put_center(out: &mut [u8], at: usize, choice: u32, s: &[f32], o: usize) -> usize
     requires { ⌜ o + numbersWidth ≤ length (now s) ⌝ }
-    ensures { λ r. ⌜ Sunk (now (out .entry)) at (linesText (centerLine choice (getD (now (s .entry)) (o + centerPlace) nan) (getD (now (s .entry)) (o + (centerPlace + 1)) nan) ∷ [])) (now (out .exit)) r ⌝ }
+    ensures { λ r. ⌜ Appended (now (out .entry)) at (linesText (centerLine choice (getD (now (s .entry)) (o + centerPlace) nan) (getD (now (s .entry)) (o + (centerPlace + 1)) nan) ∷ [])) (now (out .exit)) r ⌝ }
 {
     if choice == 0 {
         return put_two(&mut *out, at, b"center", s, o, CENTER_RE);

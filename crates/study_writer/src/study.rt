@@ -12,7 +12,7 @@ ghost use Rattle.multibody.specs.Counts.{bodyCount, jointCount};
 ghost use Rattle.model.specs.Planar.{plane};
 ghost use Rattle.texts.specs.Digits.{decimal};
 ghost use Rattle.texts.specs.Ascii.{ascii};
-ghost use Rattle.texts.specs.Sink.{Sunk};
+ghost use Rattle.texts.specs.Sink.{Appended};
 ghost use Rattle.study_writer.specs.Text.{linesText, numberWord, modelWord, settingsLines, bodyLines, bodiesFrom, jointHead, frameLines, allLimitsLines, allMotorsLines, softnessLines, jointLines, jointsFrom};
 ghost use Rattle.study_writer.specs.Printed.{printedText};
 use crate::lines::put_body_line;
@@ -73,7 +73,7 @@ const FRAME1_POSITION: usize = FRAME1 + 2;
 const FRAME2_POSITION: usize = FRAME2 + 2;
 
 fn put_settings(out: &mut [u8], at: usize, params: IntegrationParameters) -> usize
-    ensures { λ r. ⌜ Sunk (now (out .entry)) at (linesText (settingsLines params)) (now (out .exit)) r ⌝ }
+    ensures { λ r. ⌜ Appended (now (out .entry)) at (linesText (settingsLines params)) (now (out .exit)) r ⌝ }
 {
     let s = [
         params.dt,
@@ -97,7 +97,7 @@ fn put_settings(out: &mut [u8], at: usize, params: IntegrationParameters) -> usi
 
 fn put_pose(out: &mut [u8], at: usize, i: u32, s: &[f32]) -> usize
     requires { ⌜ i * bodyWidth + bodyWidth ≤ length (now s) ⌝ }
-    ensures { λ r. ⌜ Sunk (now (out .entry)) at (linesText (take 3 (bodyLines i (num bodyWidth (now (s .entry)) i)))) (now (out .exit)) r ⌝ }
+    ensures { λ r. ⌜ Appended (now (out .entry)) at (linesText (take 3 (bodyLines i (num bodyWidth (now (s .entry)) i)))) (now (out .exit)) r ⌝ }
 {
     let o = i as usize * BODY_WIDTH;
     let a = put_body_line(&mut *out, at, i);
@@ -107,7 +107,7 @@ fn put_pose(out: &mut [u8], at: usize, i: u32, s: &[f32]) -> usize
 
 fn put_masses(out: &mut [u8], at: usize, i: u32, s: &[f32]) -> usize
     requires { ⌜ i * bodyWidth + bodyWidth ≤ length (now s) ⌝ }
-    ensures { λ r. ⌜ Sunk (now (out .entry)) at (linesText (drop 3 (bodyLines i (num bodyWidth (now (s .entry)) i)))) (now (out .exit)) r ⌝ }
+    ensures { λ r. ⌜ Appended (now (out .entry)) at (linesText (drop 3 (bodyLines i (num bodyWidth (now (s .entry)) i)))) (now (out .exit)) r ⌝ }
 {
     let o = i as usize * BODY_WIDTH;
     let a = put_one(&mut *out, at, b"inverse_inertia", s, o, INERTIA);
@@ -118,7 +118,7 @@ fn put_masses(out: &mut [u8], at: usize, i: u32, s: &[f32]) -> usize
 
 fn put_body(out: &mut [u8], at: usize, i: u32, bodies: &[f32]) -> usize
     requires { ⌜ i * bodyWidth + bodyWidth ≤ length (now bodies) ⌝ }
-    ensures { λ r. ⌜ Sunk (now (out .entry)) at (linesText (bodyLines i (num bodyWidth (now (bodies .entry)) i))) (now (out .exit)) r ⌝ }
+    ensures { λ r. ⌜ Appended (now (out .entry)) at (linesText (bodyLines i (num bodyWidth (now (bodies .entry)) i))) (now (out .exit)) r ⌝ }
 {
     let a = put_pose(&mut *out, at, i, bodies);
     put_masses(&mut *out, a, i, bodies)
@@ -126,7 +126,7 @@ fn put_body(out: &mut [u8], at: usize, i: u32, bodies: &[f32]) -> usize
 
 fn put_bodies(out: &mut [u8], at: usize, n: u32, bodies: &[f32]) -> usize
     requires { ⌜ n * bodyWidth ≤ length (now bodies) ⌝ }
-    ensures { λ r. ⌜ Sunk (now (out .entry)) at (linesText (bodiesFrom (now (bodies .entry)) 0 n)) (now (out .exit)) r ⌝ }
+    ensures { λ r. ⌜ Appended (now (out .entry)) at (linesText (bodiesFrom (now (bodies .entry)) 0 n)) (now (out .exit)) r ⌝ }
 {
     let mut end = at;
     let mut i: u32 = 0;
@@ -141,7 +141,7 @@ fn put_bodies(out: &mut [u8], at: usize, n: u32, bodies: &[f32]) -> usize
 
 fn put_masks(out: &mut [u8], at: usize, words: &[u32], o: usize) -> usize
     requires { ⌜ o + wordsWidth ≤ length (now words) ⌝ }
-    ensures { λ r. ⌜ Sunk (now (out .entry)) at (linesText ((ascii "lock" ∷ decimal (getD (now (words .entry)) (o + masksPlace) 0) ∷ []) ∷ (ascii "limit" ∷ decimal (getD (now (words .entry)) (o + (masksPlace + 1)) 0) ∷ []) ∷ (ascii "motor" ∷ decimal (getD (now (words .entry)) (o + (masksPlace + 2)) 0) ∷ []) ∷ (ascii "couple" ∷ decimal (getD (now (words .entry)) (o + (masksPlace + 3)) 0) ∷ []) ∷ [])) (now (out .exit)) r ⌝ }
+    ensures { λ r. ⌜ Appended (now (out .entry)) at (linesText ((ascii "lock" ∷ decimal (getD (now (words .entry)) (o + masksPlace) 0) ∷ []) ∷ (ascii "limit" ∷ decimal (getD (now (words .entry)) (o + (masksPlace + 1)) 0) ∷ []) ∷ (ascii "motor" ∷ decimal (getD (now (words .entry)) (o + (masksPlace + 2)) 0) ∷ []) ∷ (ascii "couple" ∷ decimal (getD (now (words .entry)) (o + (masksPlace + 3)) 0) ∷ []) ∷ [])) (now (out .exit)) r ⌝ }
 {
     let a = put_mask(&mut *out, at, b"lock", words[o + LOCKED_AXES]);
     let b = put_mask(&mut *out, a, b"limit", words[o + LIMIT_AXES]);
@@ -151,7 +151,7 @@ fn put_masks(out: &mut [u8], at: usize, words: &[u32], o: usize) -> usize
 
 fn put_models(out: &mut [u8], at: usize, words: &[u32], o: usize) -> usize
     requires { ⌜ o + wordsWidth ≤ length (now words) ⌝ }
-    ensures { λ r. ⌜ Sunk (now (out .entry)) at (linesText ((ascii "motor_model" ∷ ascii "x" ∷ modelWord (getD (now (words .entry)) (o + modelsPlace) 0) ∷ []) ∷ (ascii "motor_model" ∷ ascii "y" ∷ modelWord (getD (now (words .entry)) (o + (modelsPlace + 1)) 0) ∷ []) ∷ (ascii "motor_model" ∷ ascii "angle" ∷ modelWord (getD (now (words .entry)) (o + (modelsPlace + 2)) 0) ∷ []) ∷ [])) (now (out .exit)) r ⌝ }
+    ensures { λ r. ⌜ Appended (now (out .entry)) at (linesText ((ascii "motor_model" ∷ ascii "x" ∷ modelWord (getD (now (words .entry)) (o + modelsPlace) 0) ∷ []) ∷ (ascii "motor_model" ∷ ascii "y" ∷ modelWord (getD (now (words .entry)) (o + (modelsPlace + 1)) 0) ∷ []) ∷ (ascii "motor_model" ∷ ascii "angle" ∷ modelWord (getD (now (words .entry)) (o + (modelsPlace + 2)) 0) ∷ []) ∷ [])) (now (out .exit)) r ⌝ }
 {
     let a = put_model(&mut *out, at, b"x", words[o + MODEL_X]);
     let b = put_model(&mut *out, a, b"y", words[o + MODEL_Y]);
@@ -160,7 +160,7 @@ fn put_models(out: &mut [u8], at: usize, words: &[u32], o: usize) -> usize
 
 fn put_head(out: &mut [u8], at: usize, j: u32, words: &[u32]) -> usize
     requires { ⌜ j * wordsWidth + wordsWidth ≤ length (now words) ⌝ }
-    ensures { λ r. ⌜ Sunk (now (out .entry)) at (linesText (jointHead j (word wordsWidth (now (words .entry)) j))) (now (out .exit)) r ⌝ }
+    ensures { λ r. ⌜ Appended (now (out .entry)) at (linesText (jointHead j (word wordsWidth (now (words .entry)) j))) (now (out .exit)) r ⌝ }
 {
     let o = j as usize * WORDS_WIDTH;
     let a = put_joint_line(&mut *out, at, j, words[o], words[o + BODY2]);
@@ -171,7 +171,7 @@ fn put_head(out: &mut [u8], at: usize, j: u32, words: &[u32]) -> usize
 
 fn put_frames(out: &mut [u8], at: usize, s: &[f32], o: usize) -> usize
     requires { ⌜ o + numbersWidth ≤ length (now s) ⌝ }
-    ensures { λ r. ⌜ Sunk (now (out .entry)) at (linesText (frameLines (λ k. getD (now (s .entry)) (o + k) nan))) (now (out .exit)) r ⌝ }
+    ensures { λ r. ⌜ Appended (now (out .entry)) at (linesText (frameLines (λ k. getD (now (s .entry)) (o + k) nan))) (now (out .exit)) r ⌝ }
 {
     let a = put_two(&mut *out, at, b"frame1_rotation", s, o, FRAME1);
     let b = put_two(&mut *out, a, b"frame1", s, o, FRAME1_POSITION);
@@ -181,7 +181,7 @@ fn put_frames(out: &mut [u8], at: usize, s: &[f32], o: usize) -> usize
 
 fn put_limits(out: &mut [u8], at: usize, axis: &[u8], s: &[f32], o: usize, k: usize) -> usize
     requires { ⌜ o + (k + limitsWidth) ≤ length (now s) ⌝ }
-    ensures { λ r. ⌜ Sunk (now (out .entry)) at (linesText ((ascii "limits" ∷ now (axis .entry) ∷ numberWord (getD (now (s .entry)) (o + k) nan) ∷ numberWord (getD (now (s .entry)) (o + (k + 1)) nan) ∷ []) ∷ (ascii "limit_impulse" ∷ now (axis .entry) ∷ numberWord (getD (now (s .entry)) (o + (k + 2)) nan) ∷ []) ∷ [])) (now (out .exit)) r ⌝ }
+    ensures { λ r. ⌜ Appended (now (out .entry)) at (linesText ((ascii "limits" ∷ now (axis .entry) ∷ numberWord (getD (now (s .entry)) (o + k) nan) ∷ numberWord (getD (now (s .entry)) (o + (k + 1)) nan) ∷ []) ∷ (ascii "limit_impulse" ∷ now (axis .entry) ∷ numberWord (getD (now (s .entry)) (o + (k + 2)) nan) ∷ []) ∷ [])) (now (out .exit)) r ⌝ }
 {
     let a = put_two_of(&mut *out, at, b"limits", axis, s, o, k);
     put_one_of(&mut *out, a, b"limit_impulse", axis, s, o, k + 2)
@@ -189,7 +189,7 @@ fn put_limits(out: &mut [u8], at: usize, axis: &[u8], s: &[f32], o: usize, k: us
 
 fn put_drive(out: &mut [u8], at: usize, axis: &[u8], s: &[f32], o: usize, k: usize) -> usize
     requires { ⌜ o + (k + motorWidth) ≤ length (now s) ⌝ }
-    ensures { λ r. ⌜ Sunk (now (out .entry)) at (linesText ((ascii "target_velocity" ∷ now (axis .entry) ∷ numberWord (getD (now (s .entry)) (o + k) nan) ∷ []) ∷ (ascii "target_position" ∷ now (axis .entry) ∷ numberWord (getD (now (s .entry)) (o + (k + 1)) nan) ∷ []) ∷ (ascii "stiffness" ∷ now (axis .entry) ∷ numberWord (getD (now (s .entry)) (o + (k + 2)) nan) ∷ []) ∷ [])) (now (out .exit)) r ⌝ }
+    ensures { λ r. ⌜ Appended (now (out .entry)) at (linesText ((ascii "target_velocity" ∷ now (axis .entry) ∷ numberWord (getD (now (s .entry)) (o + k) nan) ∷ []) ∷ (ascii "target_position" ∷ now (axis .entry) ∷ numberWord (getD (now (s .entry)) (o + (k + 1)) nan) ∷ []) ∷ (ascii "stiffness" ∷ now (axis .entry) ∷ numberWord (getD (now (s .entry)) (o + (k + 2)) nan) ∷ []) ∷ [])) (now (out .exit)) r ⌝ }
 {
     let a = put_one_of(&mut *out, at, b"target_velocity", axis, s, o, k);
     let b = put_one_of(&mut *out, a, b"target_position", axis, s, o, k + 1);
@@ -198,7 +198,7 @@ fn put_drive(out: &mut [u8], at: usize, axis: &[u8], s: &[f32], o: usize, k: usi
 
 fn put_force(out: &mut [u8], at: usize, axis: &[u8], s: &[f32], o: usize, k: usize) -> usize
     requires { ⌜ o + (k + motorWidth) ≤ length (now s) ⌝ }
-    ensures { λ r. ⌜ Sunk (now (out .entry)) at (linesText ((ascii "damping" ∷ now (axis .entry) ∷ numberWord (getD (now (s .entry)) (o + (k + 3)) nan) ∷ []) ∷ (ascii "max_force" ∷ now (axis .entry) ∷ numberWord (getD (now (s .entry)) (o + (k + 4)) nan) ∷ []) ∷ (ascii "motor_impulse" ∷ now (axis .entry) ∷ numberWord (getD (now (s .entry)) (o + (k + 5)) nan) ∷ []) ∷ [])) (now (out .exit)) r ⌝ }
+    ensures { λ r. ⌜ Appended (now (out .entry)) at (linesText ((ascii "damping" ∷ now (axis .entry) ∷ numberWord (getD (now (s .entry)) (o + (k + 3)) nan) ∷ []) ∷ (ascii "max_force" ∷ now (axis .entry) ∷ numberWord (getD (now (s .entry)) (o + (k + 4)) nan) ∷ []) ∷ (ascii "motor_impulse" ∷ now (axis .entry) ∷ numberWord (getD (now (s .entry)) (o + (k + 5)) nan) ∷ []) ∷ [])) (now (out .exit)) r ⌝ }
 {
     let a = put_one_of(&mut *out, at, b"damping", axis, s, o, k + 3);
     let b = put_one_of(&mut *out, a, b"max_force", axis, s, o, k + 4);
@@ -207,7 +207,7 @@ fn put_force(out: &mut [u8], at: usize, axis: &[u8], s: &[f32], o: usize, k: usi
 
 fn put_motor(out: &mut [u8], at: usize, axis: &[u8], s: &[f32], o: usize, k: usize) -> usize
     requires { ⌜ o + (k + motorWidth) ≤ length (now s) ⌝ }
-    ensures { λ r. ⌜ Sunk (now (out .entry)) at (linesText ((ascii "target_velocity" ∷ now (axis .entry) ∷ numberWord (getD (now (s .entry)) (o + k) nan) ∷ []) ∷ (ascii "target_position" ∷ now (axis .entry) ∷ numberWord (getD (now (s .entry)) (o + (k + 1)) nan) ∷ []) ∷ (ascii "stiffness" ∷ now (axis .entry) ∷ numberWord (getD (now (s .entry)) (o + (k + 2)) nan) ∷ []) ∷ (ascii "damping" ∷ now (axis .entry) ∷ numberWord (getD (now (s .entry)) (o + (k + 3)) nan) ∷ []) ∷ (ascii "max_force" ∷ now (axis .entry) ∷ numberWord (getD (now (s .entry)) (o + (k + 4)) nan) ∷ []) ∷ (ascii "motor_impulse" ∷ now (axis .entry) ∷ numberWord (getD (now (s .entry)) (o + (k + 5)) nan) ∷ []) ∷ [])) (now (out .exit)) r ⌝ }
+    ensures { λ r. ⌜ Appended (now (out .entry)) at (linesText ((ascii "target_velocity" ∷ now (axis .entry) ∷ numberWord (getD (now (s .entry)) (o + k) nan) ∷ []) ∷ (ascii "target_position" ∷ now (axis .entry) ∷ numberWord (getD (now (s .entry)) (o + (k + 1)) nan) ∷ []) ∷ (ascii "stiffness" ∷ now (axis .entry) ∷ numberWord (getD (now (s .entry)) (o + (k + 2)) nan) ∷ []) ∷ (ascii "damping" ∷ now (axis .entry) ∷ numberWord (getD (now (s .entry)) (o + (k + 3)) nan) ∷ []) ∷ (ascii "max_force" ∷ now (axis .entry) ∷ numberWord (getD (now (s .entry)) (o + (k + 4)) nan) ∷ []) ∷ (ascii "motor_impulse" ∷ now (axis .entry) ∷ numberWord (getD (now (s .entry)) (o + (k + 5)) nan) ∷ []) ∷ [])) (now (out .exit)) r ⌝ }
 {
     let a = put_drive(&mut *out, at, axis, s, o, k);
     put_force(&mut *out, a, axis, s, o, k)
@@ -215,7 +215,7 @@ fn put_motor(out: &mut [u8], at: usize, axis: &[u8], s: &[f32], o: usize, k: usi
 
 fn put_all_limits(out: &mut [u8], at: usize, s: &[f32], o: usize) -> usize
     requires { ⌜ o + numbersWidth ≤ length (now s) ⌝ }
-    ensures { λ r. ⌜ Sunk (now (out .entry)) at (linesText (allLimitsLines (λ k. getD (now (s .entry)) (o + k) nan))) (now (out .exit)) r ⌝ }
+    ensures { λ r. ⌜ Appended (now (out .entry)) at (linesText (allLimitsLines (λ k. getD (now (s .entry)) (o + k) nan))) (now (out .exit)) r ⌝ }
 {
     let a = put_limits(&mut *out, at, b"x", s, o, LIMITS_X);
     let b = put_limits(&mut *out, a, b"y", s, o, LIMITS_Y);
@@ -224,7 +224,7 @@ fn put_all_limits(out: &mut [u8], at: usize, s: &[f32], o: usize) -> usize
 
 fn put_all_motors(out: &mut [u8], at: usize, s: &[f32], o: usize) -> usize
     requires { ⌜ o + numbersWidth ≤ length (now s) ⌝ }
-    ensures { λ r. ⌜ Sunk (now (out .entry)) at (linesText (allMotorsLines (λ k. getD (now (s .entry)) (o + k) nan))) (now (out .exit)) r ⌝ }
+    ensures { λ r. ⌜ Appended (now (out .entry)) at (linesText (allMotorsLines (λ k. getD (now (s .entry)) (o + k) nan))) (now (out .exit)) r ⌝ }
 {
     let a = put_motor(&mut *out, at, b"x", s, o, MOTOR_X);
     let b = put_motor(&mut *out, a, b"y", s, o, MOTOR_Y);
@@ -233,7 +233,7 @@ fn put_all_motors(out: &mut [u8], at: usize, s: &[f32], o: usize) -> usize
 
 fn put_spring(out: &mut [u8], at: usize, s: &[f32], o: usize) -> usize
     requires { ⌜ o + numbersWidth ≤ length (now s) ⌝ }
-    ensures { λ r. ⌜ Sunk (now (out .entry)) at (linesText (take 2 (softnessLines (λ k. getD (now (s .entry)) (o + k) nan) 0))) (now (out .exit)) r ⌝ }
+    ensures { λ r. ⌜ Appended (now (out .entry)) at (linesText (take 2 (softnessLines (λ k. getD (now (s .entry)) (o + k) nan) 0))) (now (out .exit)) r ⌝ }
 {
     let a = put_one(&mut *out, at, b"natural_frequency", s, o, NATURAL_FREQUENCY);
     put_one(&mut *out, a, b"damping_ratio", s, o, DAMPING_RATIO)
@@ -241,7 +241,7 @@ fn put_spring(out: &mut [u8], at: usize, s: &[f32], o: usize) -> usize
 
 fn put_impulses(out: &mut [u8], at: usize, s: &[f32], o: usize) -> usize
     requires { ⌜ o + numbersWidth ≤ length (now s) ⌝ }
-    ensures { λ r. ⌜ Sunk (now (out .entry)) at (linesText (take 3 (drop 2 (softnessLines (λ k. getD (now (s .entry)) (o + k) nan) 0)))) (now (out .exit)) r ⌝ }
+    ensures { λ r. ⌜ Appended (now (out .entry)) at (linesText (take 3 (drop 2 (softnessLines (λ k. getD (now (s .entry)) (o + k) nan) 0)))) (now (out .exit)) r ⌝ }
 {
     let a = put_one_of(&mut *out, at, b"impulse", b"x", s, o, DOF_X);
     let b = put_one_of(&mut *out, a, b"impulse", b"y", s, o, DOF_Y);
@@ -250,7 +250,7 @@ fn put_impulses(out: &mut [u8], at: usize, s: &[f32], o: usize) -> usize
 
 fn put_softness(out: &mut [u8], at: usize, choice: u32, s: &[f32], o: usize) -> usize
     requires { ⌜ o + numbersWidth ≤ length (now s) ⌝ }
-    ensures { λ r. ⌜ Sunk (now (out .entry)) at (linesText (softnessLines (λ k. getD (now (s .entry)) (o + k) nan) choice)) (now (out .exit)) r ⌝ }
+    ensures { λ r. ⌜ Appended (now (out .entry)) at (linesText (softnessLines (λ k. getD (now (s .entry)) (o + k) nan) choice)) (now (out .exit)) r ⌝ }
 {
     let a = put_spring(&mut *out, at, s, o);
     let b = put_impulses(&mut *out, a, s, o);
@@ -259,7 +259,7 @@ fn put_softness(out: &mut [u8], at: usize, choice: u32, s: &[f32], o: usize) -> 
 
 fn put_joint(out: &mut [u8], at: usize, j: u32, words: &[u32], s: &[f32]) -> usize
     requires { ⌜ (j * wordsWidth + wordsWidth ≤ length (now words)) × (j * numbersWidth + numbersWidth ≤ length (now s)) ⌝ }
-    ensures { λ r. ⌜ Sunk (now (out .entry)) at (linesText (jointLines j (word wordsWidth (now (words .entry)) j) (num numbersWidth (now (s .entry)) j))) (now (out .exit)) r ⌝ }
+    ensures { λ r. ⌜ Appended (now (out .entry)) at (linesText (jointLines j (word wordsWidth (now (words .entry)) j) (num numbersWidth (now (s .entry)) j))) (now (out .exit)) r ⌝ }
 {
     let o = j as usize * NUMBERS_WIDTH;
     let p = j as usize * WORDS_WIDTH;
@@ -272,7 +272,7 @@ fn put_joint(out: &mut [u8], at: usize, j: u32, words: &[u32], s: &[f32]) -> usi
 
 fn put_joints(out: &mut [u8], at: usize, n: u32, words: &[u32], s: &[f32]) -> usize
     requires { ⌜ (n * wordsWidth ≤ length (now words)) × (n * numbersWidth ≤ length (now s)) ⌝ }
-    ensures { λ r. ⌜ Sunk (now (out .entry)) at (linesText (jointsFrom (now (words .entry)) (now (s .entry)) 0 n)) (now (out .exit)) r ⌝ }
+    ensures { λ r. ⌜ Appended (now (out .entry)) at (linesText (jointsFrom (now (words .entry)) (now (s .entry)) 0 n)) (now (out .exit)) r ⌝ }
 {
     let mut end = at;
     let mut j: u32 = 0;
@@ -312,7 +312,7 @@ fn put_study(
     nj: u32,
 ) -> usize
     requires { ⌜ (nb * bodyWidth ≤ length (now bodies)) × (nj * wordsWidth ≤ length (now words)) × (nj * numbersWidth ≤ length (now numbers)) ⌝ }
-    ensures { λ r. ⌜ Sunk (now (out .entry)) 0 (linesText (settingsLines params ++ (bodiesFrom (now (bodies .entry)) 0 nb ++ jointsFrom (now (words .entry)) (now (numbers .entry)) 0 nj))) (now (out .exit)) r ⌝ }
+    ensures { λ r. ⌜ Appended (now (out .entry)) 0 (linesText (settingsLines params ++ (bodiesFrom (now (bodies .entry)) 0 nb ++ jointsFrom (now (words .entry)) (now (numbers .entry)) 0 nj))) (now (out .exit)) r ⌝ }
 {
     let a = put_settings(&mut *out, 0, params);
     let b = put_bodies(&mut *out, a, nb, bodies);

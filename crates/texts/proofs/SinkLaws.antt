@@ -12,7 +12,7 @@ use lib.Seq.{take-suc, take-all, take-suc-set, drop-set-lt, drop-cons}
 use Rattle.texts.specs.Ascii.{SPACE, LF}
 use Rattle.texts.specs.Digits.{digit, decimalOnto, decimal}
 use Rattle.texts.specs.Written.{written}
-use Rattle.texts.specs.Sink.{largestPlace, placeAfter, putFrom, endFrom, Sunk, placed, Wrote, hasRoom, lengthTo, entry}
+use Rattle.texts.specs.Sink.{largestPlace, placeAfter, putFrom, endFrom, Appended, placed, Wrote, hasRoom, lengthTo, entry}
 
 put-append : (out : List ℕ) (at : ℕ) (a b : List ℕ) → putFrom out at (a ++ b) ≡ putFrom (putFrom out at a) (endFrom at a) b
 unfolding putFrom endFrom
@@ -24,31 +24,31 @@ unfolding endFrom
 end-append at [] b = refl
 end-append at (c ∷ cs) b = end-append (placeAfter at) cs b
 
-pub sunk-then : {out : List ℕ} {at : ℕ} {a mid : List ℕ} {e : ℕ} {b last : List ℕ} {r : ℕ} → Sunk out at a mid e → Sunk mid e b last r → Sunk out at (a ++ b) last r
-sunk-then {out} {at} {a} {mid} {e} {b} {last} {r} s t =
+pub appended-then : {out : List ℕ} {at : ℕ} {a mid : List ℕ} {e : ℕ} {b last : List ℕ} {r : ℕ} → Appended out at a mid e → Appended mid e b last r → Appended out at (a ++ b) last r
+appended-then {out} {at} {a} {mid} {e} {b} {last} {r} s t =
     record {
       holds = t .holds ∙ ap (λ (l : List ℕ). putFrom l e b) (s .holds) ∙ ap (λ (n : ℕ). putFrom (putFrom out at a) n b) (s .ends) ∙ sym (put-append out at a b);
       ends = t .ends ∙ ap (λ (n : ℕ). endFrom n b) (s .ends) ∙ sym (end-append at a b);
     }
 
-pub sunk-none : (out : List ℕ) (at : ℕ) → Sunk out at [] out at
+pub appended-none : (out : List ℕ) (at : ℕ) → Appended out at [] out at
 unfolding putFrom endFrom
-sunk-none out at = record { holds = refl; ends = refl }
+appended-none out at = record { holds = refl; ends = refl }
 
-pub sunk-text : {out : List ℕ} {at : ℕ} {a b out′ : List ℕ} {r : ℕ} → a ≡ b → Sunk out at a out′ r → Sunk out at b out′ r
-sunk-text e s = rw e at s
+pub appended-text : {out : List ℕ} {at : ℕ} {a b out′ : List ℕ} {r : ℕ} → a ≡ b → Appended out at a out′ r → Appended out at b out′ r
+appended-text e s = rw e at s
 
-pub sunk-byte : (out : List ℕ) (at b : ℕ) (out′ : List ℕ) (r : ℕ) → out′ ≡ set out at b → r ≡ placeAfter at → Sunk out at (b ∷ []) out′ r
+pub appended-byte : (out : List ℕ) (at b : ℕ) (out′ : List ℕ) (r : ℕ) → out′ ≡ set out at b → r ≡ placeAfter at → Appended out at (b ∷ []) out′ r
 unfolding putFrom endFrom
-sunk-byte out at b out′ r h e = record { holds = h; ends = e }
+appended-byte out at b out′ r h e = record { holds = h; ends = e }
 
 -- one more byte of a text
-pub sunk-turn : (out : List ℕ) (at : ℕ) (text : List ℕ) (k : ℕ) (mid : List ℕ) (e : ℕ) (last : List ℕ) (r : ℕ) → k < length text → Sunk out at (take k text) mid e
-    → Sunk mid e (getD text k 0 ∷ []) last r → Sunk out at (take (k + 1) text) last r
-sunk-turn out at text k mid e last r l s t = sunk-text (sym (ap (λ (n : ℕ). take n text) (add-one k) ∙ take-suc text k 0 l)) (sunk-then s t)
+pub appended-turn : (out : List ℕ) (at : ℕ) (text : List ℕ) (k : ℕ) (mid : List ℕ) (e : ℕ) (last : List ℕ) (r : ℕ) → k < length text → Appended out at (take k text) mid e
+    → Appended mid e (getD text k 0 ∷ []) last r → Appended out at (take (k + 1) text) last r
+appended-turn out at text k mid e last r l s t = appended-text (sym (ap (λ (n : ℕ). take n text) (add-one k) ∙ take-suc text k 0 l)) (appended-then s t)
 
-pub sunk-all : (out : List ℕ) (at : ℕ) (text : List ℕ) (k : ℕ) (mid : List ℕ) (e : ℕ) → length text ≤ k → Sunk out at (take k text) mid e → Sunk out at text mid e
-sunk-all out at text k mid e l s = sunk-text (take-all k text l) s
+pub appended-all : (out : List ℕ) (at : ℕ) (text : List ℕ) (k : ℕ) (mid : List ℕ) (e : ℕ) → length text ≤ k → Appended out at (take k text) mid e → Appended out at text mid e
+appended-all out at text k mid e l s = appended-text (take-all k text l) s
 
 pub put-length : (out : List ℕ) (at : ℕ) (text : List ℕ) → length (putFrom out at text) ≡ length out
 unfolding putFrom
@@ -157,8 +157,8 @@ both : (a b : Bool) → a && b ≡ true → (a ≡ true) × (b ≡ true)
 both true b e = (refl, e)
 both false b e = (e, absurd (let z : _≡_ {A = ℕ} 0 1 = cc in let y : ⊥ = omega arith in y))
 
-module _ {none : List ℕ} {text none′ : List ℕ} {len : ℕ} (first : Sunk none 0 text none′ len) (out : List ℕ) where
-  pub wrote-there : hasRoom len (length out) ≡ true → {out′ : List ℕ} {r : ℕ} → Sunk out 0 text out′ r → Wrote out text out′ r
+module _ {none : List ℕ} {text none′ : List ℕ} {len : ℕ} (first : Appended none 0 text none′ len) (out : List ℕ) where
+  pub wrote-there : hasRoom len (length out) ≡ true → {out′ : List ℕ} {r : ℕ} → Appended out 0 text out′ r → Wrote out text out′ r
   unfolding written
   wrote-there fits {out′} {r} s =
       let two = both (ltb len largestPlace) (leb len (length out)) fits in
@@ -201,17 +201,17 @@ module _ {none : List ℕ} {text none′ : List ℕ} {len : ℕ} (first : Sunk n
 
 -- so many of n blanks are left
 module _ (out : List ℕ) (at n : ℕ) where
-  pub blanks-none : Sunk out at (replicate (n - n) SPACE) out at
-  blanks-none = let z : 0 ≡ n - n = omega arith in sunk-text (ap (λ (k : ℕ). replicate k SPACE) z) (sunk-none out at)
+  pub blanks-none : Appended out at (replicate (n - n) SPACE) out at
+  blanks-none = let z : 0 ≡ n - n = omega arith in appended-text (ap (λ (k : ℕ). replicate k SPACE) z) (appended-none out at)
 
-  pub blanks-all : (left : ℕ) {mid : List ℕ} {e : ℕ} → left ≤ 0 → Sunk out at (replicate (n - left) SPACE) mid e → Sunk out at (replicate n SPACE) mid e
-  blanks-all left h s = let z : n - left ≡ n = omega arith in sunk-text (ap (λ (k : ℕ). replicate k SPACE) z) s
+  pub blanks-all : (left : ℕ) {mid : List ℕ} {e : ℕ} → left ≤ 0 → Appended out at (replicate (n - left) SPACE) mid e → Appended out at (replicate n SPACE) mid e
+  blanks-all left h s = let z : n - left ≡ n = omega arith in appended-text (ap (λ (k : ℕ). replicate k SPACE) z) s
 
-  pub blanks-turn : (left : ℕ) {mid : List ℕ} {e : ℕ} {last : List ℕ} {r : ℕ} → 0 < left → left ≤ n → Sunk out at (replicate (n - left) SPACE) mid e → Sunk mid e (SPACE ∷ []) last r
-      → Sunk out at (replicate (n - (left - 1)) SPACE) last r
+  pub blanks-turn : (left : ℕ) {mid : List ℕ} {e : ℕ} {last : List ℕ} {r : ℕ} → 0 < left → left ≤ n → Appended out at (replicate (n - left) SPACE) mid e → Appended mid e (SPACE ∷ []) last r
+      → Appended out at (replicate (n - (left - 1)) SPACE) last r
   blanks-turn left h k s t =
       let e : n - (left - 1) ≡ n - left + 1 = omega arith in
-      sunk-text (replicate-append-replicate (n - left) 1 SPACE ∙ ap (λ (k : ℕ). replicate k SPACE) (sym e)) (sunk-then s t)
+      appended-text (replicate-append-replicate (n - left) 1 SPACE ∙ ap (λ (k : ℕ). replicate k SPACE) (sym e)) (appended-then s t)
 
 -- ---- entries of a table
 
@@ -249,4 +249,4 @@ entry-past i table k h = ap (entry i) (drop-of-length-le table h) ∙ nothing i
 
 -- what is left to write, from a place on, makes the whole text
 abbrev pub Rest : List ℕ → ℕ → List ℕ → List ℕ → ℕ → List ℕ → Type 0
-Rest out at text mid e left = (last : List ℕ) (r : ℕ) → Sunk mid e left last r → Sunk out at text last r
+Rest out at text mid e left = (last : List ℕ) (r : ℕ) → Appended mid e left last r → Appended out at text last r

@@ -24,7 +24,7 @@ endFrom at [] = at
 endFrom at (b ∷ bs) = endFrom (placeAfter at) bs
 
 -- out becomes out′, with the text from `at` on as far as there is room, and it ends at r
-pub record Sunk (out : List ℕ) (at : ℕ) (text : List ℕ) (out′ : List ℕ) (r : ℕ) : Type 0 where
+pub record Appended (out : List ℕ) (at : ℕ) (text : List ℕ) (out′ : List ℕ) (r : ℕ) : Type 0 where
   pub holds : out′ ≡ putFrom out at text
   pub ends : r ≡ endFrom at text
 

@@ -7,7 +7,7 @@ ghost use lib.Dec.{eqb};
 ghost use lib.ListN.{length, replicate, set, drop};
 ghost use Rattle.texts.specs.Ascii.{SPACE, LF};
 ghost use Rattle.texts.specs.Digits.{decimal};
-ghost use Rattle.texts.specs.Sink.{placeAfter, Sunk, Wrote, hasRoom, lengthTo, entry};
+ghost use Rattle.texts.specs.Sink.{placeAfter, Appended, Wrote, hasRoom, lengthTo, entry};
 
 fn place_after(at: usize) -> usize
     ensures { λ r. ⌜ r ≡ placeAfter at ⌝ }
@@ -27,14 +27,14 @@ fn set_byte(out: &mut [u8], at: usize, b: u8)
 }
 
 pub fn put_byte(out: &mut [u8], at: usize, b: u8) -> usize
-    ensures { λ r. ⌜ Sunk (now (out .entry)) at (b ∷ []) (now (out .exit)) r ⌝ }
+    ensures { λ r. ⌜ Appended (now (out .entry)) at (b ∷ []) (now (out .exit)) r ⌝ }
 {
     set_byte(&mut *out, at, b);
     place_after(at)
 }
 
 pub fn put_text(out: &mut [u8], at: usize, text: &[u8]) -> usize
-    ensures { λ r. ⌜ Sunk (now (out .entry)) at (now (text .entry)) (now (out .exit)) r ⌝ }
+    ensures { λ r. ⌜ Appended (now (out .entry)) at (now (text .entry)) (now (out .exit)) r ⌝ }
 {
     let mut end = at;
     let mut k: usize = 0;
@@ -47,7 +47,7 @@ pub fn put_text(out: &mut [u8], at: usize, text: &[u8]) -> usize
 
 // So many blanks.
 pub fn put_blanks(out: &mut [u8], at: usize, n: usize) -> usize
-    ensures { λ r. ⌜ Sunk (now (out .entry)) at (replicate n SPACE) (now (out .exit)) r ⌝ }
+    ensures { λ r. ⌜ Appended (now (out .entry)) at (replicate n SPACE) (now (out .exit)) r ⌝ }
 {
     let mut end = at;
     let mut left = n;
@@ -60,7 +60,7 @@ pub fn put_blanks(out: &mut [u8], at: usize, n: usize) -> usize
 
 // The digits of a number.
 pub fn put_decimal(out: &mut [u8], at: usize, n: u32) -> usize
-    ensures { λ r. ⌜ Sunk (now (out .entry)) at (decimal n) (now (out .exit)) r ⌝ }
+    ensures { λ r. ⌜ Appended (now (out .entry)) at (decimal n) (now (out .exit)) r ⌝ }
 {
     if n < 10 {
         return put_byte(&mut *out, at, 48 + n as u8);
@@ -98,7 +98,7 @@ fn entry_start(table: &[u8], i: usize) -> usize
 }
 
 pub fn put_entry(out: &mut [u8], at: usize, table: &[u8], i: usize) -> usize
-    ensures { λ r. ⌜ Sunk (now (out .entry)) at (entry i (now (table .entry))) (now (out .exit)) r ⌝ }
+    ensures { λ r. ⌜ Appended (now (out .entry)) at (entry i (now (table .entry))) (now (out .exit)) r ⌝ }
 {
     let mut k = entry_start(table, i);
     let mut end = at;

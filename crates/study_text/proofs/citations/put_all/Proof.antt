@@ -3,7 +3,7 @@ use Prim.Native.Nat.{_-_}
 use mathlib.Core.Path.{_≡_, refl, ap, _∙_}
 use mathlib.Core.List.{flatMap}
 use lib.ListN.{length, drop}
-use Rattle.texts.proofs.SinkLaws.{Rest, sunk-none, sunk-then, sunk-text, put-length}
+use Rattle.texts.proofs.SinkLaws.{Rest, appended-none, appended-then, appended-text, put-length}
 use Rattle.study_text.specs.Citations.{rules, citedIn}
 use Rattle.study_text.proofs.CitationsLaws.{cite-next, cite-none}
 use borrow.Author.Needs.{needs}
@@ -20,13 +20,13 @@ loop-holds : tie.Need-loop-holds Inv-loop μ-loop
 loop-holds c = (refl, λ last r s. s)
 
 loop-again : tie.Need-loop-again Inv-loop μ-loop
-loop-again c = (ap length (c .before .before .put-cited-in .ensures .holds) ∙ put-length _ _ _ ∙ c .before .before .before .before .before .before .loop .inv .0, λ last r s. c .before .before .before .before .before .before .loop .inv .1 last r (sunk-text (cite-next (c .before .before .before .before .before .before .before .before .args .used) _ (c .before .before .before .before .before .loop-test .taken)) (sunk-then (sunk-text (ap (citedIn (c .before .before .before .before .before .before .before .before .args .used)) (c .before .before .before .rule-at .ensures)) (c .before .before .put-cited-in .ensures)) s)))
+loop-again c = (ap length (c .before .before .put-cited-in .ensures .holds) ∙ put-length _ _ _ ∙ c .before .before .before .before .before .before .loop .inv .0, λ last r s. c .before .before .before .before .before .before .loop .inv .1 last r (appended-text (cite-next (c .before .before .before .before .before .before .before .before .args .used) _ (c .before .before .before .before .before .loop-test .taken)) (appended-then (appended-text (ap (citedIn (c .before .before .before .before .before .before .before .before .args .used)) (c .before .before .before .rule-at .ensures)) (c .before .before .put-cited-in .ensures)) s)))
 
 same-length : tie.Need-same-length Inv-loop μ-loop
 same-length c = c .before .loop .inv .0
 
 returns : tie.Need-returns Inv-loop μ-loop
-returns c = c .before .loop .inv .1 _ _ (sunk-text (cite-none (c .before .before .before .args .used) _ (c .loop-test .left)) (sunk-none _ _))
+returns c = c .before .loop .inv .1 _ _ (appended-text (cite-none (c .before .before .before .args .used) _ (c .loop-test .left)) (appended-none _ _))
 
 pub put-all-spec : {M : Type 1} → statement M
 put-all-spec =

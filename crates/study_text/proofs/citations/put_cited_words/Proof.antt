@@ -1,5 +1,5 @@
 -- `put_cited_words` meets its contract.
-use Rattle.texts.proofs.SinkLaws.{sunk-then}
+use Rattle.texts.proofs.SinkLaws.{appended-then}
 use Rattle.study_text.specs.Citations.{citedWords}
 use borrow.Author.Needs.{needs}
 use Rattle.study_text.proofs.citations.put_cited_words.Statement.{statement}
@@ -7,7 +7,7 @@ use Rattle.study_text.proofs.citations.put_cited_words.Tie as tie
 
 returns : tie.Need-returns
 unfolding citedWords
-returns c = sunk-then (sunk-then (sunk-then (sunk-then (c .before .before .before .before .before .before .before .before .before .before .before .before .before .before .before .before .before .before .before .before .put-text .ensures) (c .before .before .before .before .before .before .before .before .before .before .before .before .before .before .before .before .put-rule-number .ensures)) (c .before .before .before .before .before .before .before .before .before .before .before .put-text2 .ensures)) (c .before .before .before .before .before .before .before .put-words .ensures)) (c .before .before .put-text3 .ensures)
+returns c = appended-then (appended-then (appended-then (appended-then (c .before .before .before .before .before .before .before .before .before .before .before .before .before .before .before .before .before .before .before .before .put-text .ensures) (c .before .before .before .before .before .before .before .before .before .before .before .before .before .before .before .before .put-rule-number .ensures)) (c .before .before .before .before .before .before .before .before .before .before .before .put-text2 .ensures)) (c .before .before .before .before .before .before .before .put-words .ensures)) (c .before .before .put-text3 .ensures)
 
 pub put-cited-words-spec : {M : Type 1} → statement M
 put-cited-words-spec =

@@ -1,7 +1,7 @@
 -- `put_csv_id` meets its contract.
 use mathlib.Core.Path.{ap}
 use Prim.Native.Nat.{ℕ}
-use Rattle.texts.proofs.SinkLaws.{sunk-then, sunk-text}
+use Rattle.texts.proofs.SinkLaws.{appended-then, appended-text}
 use Rattle.study_text.specs.Csv.{field, unitOf, csvId}
 use borrow.Author.Needs.{needs}
 use Rattle.study_text.proofs.csv.put_csv_id.Statement.{statement}
@@ -9,7 +9,7 @@ use Rattle.study_text.proofs.csv.put_csv_id.Tie as tie
 
 returns : tie.Need-returns
 unfolding csvId field
-returns c = sunk-then (sunk-then (c .before .before .before .before .before .before .before .before .before .before .put-id .ensures) (c .before .before .before .before .before .before .put-byte .ensures)) (sunk-text (ap (λ (i : ℕ). field (unitOf i)) (c .before .before .before .before .before .before .before .before .before .before .before .before .axis-of .ensures)) (c .before .before .put-unit .ensures))
+returns c = appended-then (appended-then (c .before .before .before .before .before .before .before .before .before .before .put-id .ensures) (c .before .before .before .before .before .before .put-byte .ensures)) (appended-text (ap (λ (i : ℕ). field (unitOf i)) (c .before .before .before .before .before .before .before .before .before .before .before .before .axis-of .ensures)) (c .before .before .put-unit .ensures))
 
 pub put-csv-id-spec : {M : Type 1} → statement M
 put-csv-id-spec =

@@ -2,7 +2,7 @@
 use mathlib.Core.Path.{ap, _∙_}
 use mathlib.Core.Bool.{false}
 use Rattle.texts.specs.Hex.{hexWord}
-use Rattle.texts.proofs.SinkLaws.{sunk-then, sunk-text}
+use Rattle.texts.proofs.SinkLaws.{appended-then, appended-text}
 use Rattle.study_text.specs.Csv.{field, csvNumber}
 use borrow.Author.Needs.{needs}
 use Rattle.study_text.proofs.csv.put_csv_number.Statement.{statement}
@@ -10,7 +10,7 @@ use Rattle.study_text.proofs.csv.put_csv_number.Tie as tie
 
 returns : tie.Need-returns
 unfolding csvNumber field
-returns c = sunk-then (sunk-then (sunk-then (c .before .before .before .before .before .before .before .before .before .before .before .before .before .before .before .before .before .before .before .put-millionths .ensures) (c .before .before .before .before .before .before .before .before .before .before .before .before .before .before .before .put-byte .ensures)) (sunk-then (c .before .before .before .before .before .before .before .before .before .before .before .put-spelled .ensures) (c .before .before .before .before .before .before .before .put-byte2 .ensures))) (sunk-text (ap field (c .before .before .before .before .before .before .before .before .before .before .before .before .before .before .before .before .before .before .before .before .before .hex-word .ensures ∙ ap (hexWord false) (c .before .before .before .before .before .before .before .before .before .before .before .before .before .before .before .before .before .before .before .before .before .before .to-bits .ensures))) (c .before .before .put-field .ensures))
+returns c = appended-then (appended-then (appended-then (c .before .before .before .before .before .before .before .before .before .before .before .before .before .before .before .before .before .before .before .put-millionths .ensures) (c .before .before .before .before .before .before .before .before .before .before .before .before .before .before .before .put-byte .ensures)) (appended-then (c .before .before .before .before .before .before .before .before .before .before .before .put-spelled .ensures) (c .before .before .before .before .before .before .before .put-byte2 .ensures))) (appended-text (ap field (c .before .before .before .before .before .before .before .before .before .before .before .before .before .before .before .before .before .before .before .before .before .hex-word .ensures ∙ ap (hexWord false) (c .before .before .before .before .before .before .before .before .before .before .before .before .before .before .before .before .before .before .before .before .before .before .to-bits .ensures))) (c .before .before .put-field .ensures))
 
 pub put-csv-number-spec : {M : Type 1} → statement M
 put-csv-number-spec =

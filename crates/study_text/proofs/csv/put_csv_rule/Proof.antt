@@ -1,5 +1,5 @@
 -- `put_csv_rule` meets its contract.
-use Rattle.texts.proofs.SinkLaws.{sunk-then}
+use Rattle.texts.proofs.SinkLaws.{appended-then}
 use Rattle.study_text.specs.Csv.{field, csvEnd, csvRule}
 use Rattle.study_text.proofs.WordsLaws.{at-entry}
 use borrow.Author.Needs.{needs}
@@ -8,7 +8,7 @@ use Rattle.study_text.proofs.csv.put_csv_rule.Tie as tie
 
 returns : tie.Need-returns
 unfolding csvRule csvEnd field
-returns c = sunk-then (sunk-then (at-entry (c .before .before .before .before .before .before .before .before .before .before .before .before .before .before .before .before .before .before .before .before .before .before .before .before .args .bound) _ (c .before .before .before .before .before .before .before .before .before .before .before .before .before .before .before .before .before .before .before .before .before .before .bound-index .ensures) (c .before .before .before .before .before .before .before .before .before .before .before .before .before .before .before .before .before .before .before .put-entry .ensures)) (sunk-then (c .before .before .before .before .before .before .before .before .before .before .before .before .before .before .before .put-rule-number .ensures) (c .before .before .before .before .before .before .before .before .before .before .before .put-byte .ensures))) (sunk-then (c .before .before .before .before .before .before .before .put-definition .ensures) (c .before .before .put-text .ensures))
+returns c = appended-then (appended-then (at-entry (c .before .before .before .before .before .before .before .before .before .before .before .before .before .before .before .before .before .before .before .before .before .before .before .before .args .bound) _ (c .before .before .before .before .before .before .before .before .before .before .before .before .before .before .before .before .before .before .before .before .before .before .bound-index .ensures) (c .before .before .before .before .before .before .before .before .before .before .before .before .before .before .before .before .before .before .before .put-entry .ensures)) (appended-then (c .before .before .before .before .before .before .before .before .before .before .before .before .before .before .before .put-rule-number .ensures) (c .before .before .before .before .before .before .before .before .before .before .before .put-byte .ensures))) (appended-then (c .before .before .before .before .before .before .before .put-definition .ensures) (c .before .before .put-text .ensures))
 
 pub put-csv-rule-spec : {M : Type 1} → statement M
 put-csv-rule-spec =

@@ -1,5 +1,5 @@
 -- `put_field` meets its contract.
-use Rattle.texts.proofs.SinkLaws.{sunk-then}
+use Rattle.texts.proofs.SinkLaws.{appended-then}
 use Rattle.study_text.specs.Csv.{field}
 use borrow.Author.Needs.{needs}
 use Rattle.study_text.proofs.csv.put_field.Statement.{statement}
@@ -7,7 +7,7 @@ use Rattle.study_text.proofs.csv.put_field.Tie as tie
 
 returns : tie.Need-returns
 unfolding field
-returns c = sunk-then (c .before .before .before .before .before .before .put-text .ensures) (c .before .before .put-byte .ensures)
+returns c = appended-then (c .before .before .before .before .before .before .put-text .ensures) (c .before .before .put-byte .ensures)
 
 pub put-field-spec : {M : Type 1} → statement M
 put-field-spec = tie.close (tie.spec (λ c κs. search needs) (λ c κs. search needs) (λ c. search needs) returns)

@@ -1,6 +1,6 @@
 -- `put_csv_turned` meets its contract.
 use mathlib.Core.Path.{ap}
-use Rattle.texts.proofs.SinkLaws.{sunk-then, sunk-text}
+use Rattle.texts.proofs.SinkLaws.{appended-then, appended-text}
 use Rattle.study_text.specs.Csv.{field}
 use Rattle.study_text.specs.CsvReaction.{csvTurned}
 use borrow.Author.Needs.{needs}
@@ -9,7 +9,7 @@ use Rattle.study_text.proofs.csv_reaction.put_csv_turned.Tie as tie
 
 returns : tie.Need-returns
 unfolding csvTurned field
-returns c = sunk-then (sunk-then (c .before .before .before .before .before .before .before .before .before .before .before .before .before .before .before .put-csv-number .ensures) (sunk-text (ap field (c .before .before .before .before .before .before .before .before .before .before .before .before .before .before .before .before .before .motors-digit .ensures)) (sunk-then (c .before .before .before .before .before .before .before .before .before .before .before .put-byte .ensures) (c .before .before .before .before .before .before .before .put-byte2 .ensures)))) (c .before .before .put-text .ensures)
+returns c = appended-then (appended-then (c .before .before .before .before .before .before .before .before .before .before .before .before .before .before .before .put-csv-number .ensures) (appended-text (ap field (c .before .before .before .before .before .before .before .before .before .before .before .before .before .before .before .before .before .motors-digit .ensures)) (appended-then (c .before .before .before .before .before .before .before .before .before .before .before .put-byte .ensures) (c .before .before .before .before .before .before .before .put-byte2 .ensures)))) (c .before .before .put-text .ensures)
 
 pub put-csv-turned-spec : {M : Type 1} → statement M
 put-csv-turned-spec =

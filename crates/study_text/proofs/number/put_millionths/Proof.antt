@@ -1,6 +1,6 @@
 -- `put_millionths` meets its contract.
 use mathlib.Core.Path.{sym, ap, _∙_}
-use Rattle.texts.proofs.SinkLaws.{sunk-text}
+use Rattle.texts.proofs.SinkLaws.{appended-text}
 use Rattle.motor_table.specs.Text.{numberText}
 use Rattle.study_text.specs.Number.{signed, reportText}
 use Rattle.study_text.proofs.NumberLaws.{read, millionths-by}
@@ -10,7 +10,7 @@ use Rattle.study_text.proofs.number.put_millionths.Tie as tie
 
 returns : tie.Need-returns
 unfolding reportText
-returns c = let z = c .before .before .before .before .before .before .report .given .0 .0 in millionths-by (c .before .before .before .before .before .before .before .before .before .before .args .x) _ (sym (c .before .before .before .before .before .before .report .given .1) ∙ c .before .before .before .before .before .before .before .before .micro-report .ensures) (sunk-text (ap numberText (c .before .before .before .signed .ensures ∙ ap signed (read z (record { sfits = c .before .before .before .before .before .known-told .given .0 .1 })))) (c .before .before .put-number .ensures))
+returns c = let z = c .before .before .before .before .before .before .report .given .0 .0 in millionths-by (c .before .before .before .before .before .before .before .before .before .before .args .x) _ (sym (c .before .before .before .before .before .before .report .given .1) ∙ c .before .before .before .before .before .before .before .before .micro-report .ensures) (appended-text (ap numberText (c .before .before .before .signed .ensures ∙ ap signed (read z (record { sfits = c .before .before .before .before .before .known-told .given .0 .1 })))) (c .before .before .put-number .ensures))
 
 returns-2 : tie.Need-returns-2
 unfolding reportText

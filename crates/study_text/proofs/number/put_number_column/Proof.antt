@@ -1,7 +1,7 @@
 -- `put_number_column` meets its contract.
 use mathlib.Core.Path.{sym, ap, _∙_}
 use lib.IntN.{ℤ}
-use Rattle.texts.proofs.SinkLaws.{sunk-text}
+use Rattle.texts.proofs.SinkLaws.{appended-text}
 use Rattle.motor_table.specs.Text.{numberText}
 use Rattle.study_text.specs.Number.{signed, reportText, rightColumn}
 use Rattle.study_text.proofs.NumberLaws.{read, column-by}
@@ -11,7 +11,7 @@ use Rattle.study_text.proofs.number.put_number_column.Tie as tie
 
 returns : tie.Need-returns
 unfolding reportText
-returns c = let z = c .before .before .before .before .before .report .given .0 .0 in column-by (c .before .before .before .before .before .before .before .before .before .args .x) _ (sym (c .before .before .before .before .before .report .given .1) ∙ c .before .before .before .before .before .before .before .micro-report .ensures) (sunk-text (ap (λ (a : ℤ). rightColumn (numberText (signed a))) (read z (record { sfits = c .before .before .before .before .known-told .given .0 .1 }))) (c .before .before .put-right-whole .ensures))
+returns c = let z = c .before .before .before .before .before .report .given .0 .0 in column-by (c .before .before .before .before .before .before .before .before .before .args .x) _ (sym (c .before .before .before .before .before .report .given .1) ∙ c .before .before .before .before .before .before .before .micro-report .ensures) (appended-text (ap (λ (a : ℤ). rightColumn (numberText (signed a))) (read z (record { sfits = c .before .before .before .before .known-told .given .0 .1 }))) (c .before .before .put-right-whole .ensures))
 
 returns-2 : tie.Need-returns-2
 returns-2 c = column-by (c .before .before .before .before .before .before .before .before .args .x) _ (sym (c .before .before .before .before .enum-told .given .1) ∙ c .before .before .before .before .before .before .micro-report .ensures) (c .before .before .put-right-spelled .ensures)

@@ -3,7 +3,7 @@ use mathlib.Core.Path.{ap}
 use Prim.Native.Nat.{ℕ}
 use lib.ListN.{replicate}
 use Rattle.texts.specs.Ascii.{SPACE}
-use Rattle.texts.proofs.SinkLaws.{sunk-then, sunk-text}
+use Rattle.texts.proofs.SinkLaws.{appended-then, appended-text}
 use Rattle.study_text.specs.Number.{rightColumn}
 use borrow.Author.Needs.{needs}
 use Rattle.study_text.proofs.number.put_right.Statement.{statement}
@@ -11,7 +11,7 @@ use Rattle.study_text.proofs.number.put_right.Tie as tie
 
 returns : tie.Need-returns
 unfolding rightColumn
-returns c = sunk-then (sunk-then (sunk-text (ap (λ (n : ℕ). replicate n SPACE) (c .before .before .before .before .before .before .before .before .before .before .before .before .blanks-before .ensures)) (c .before .before .before .before .before .before .before .before .before .before .put-blanks .ensures)) (c .before .before .before .before .before .before .put-text .ensures)) (c .before .before .put-byte .ensures)
+returns c = appended-then (appended-then (appended-text (ap (λ (n : ℕ). replicate n SPACE) (c .before .before .before .before .before .before .before .before .before .before .before .before .blanks-before .ensures)) (c .before .before .before .before .before .before .before .before .before .before .put-blanks .ensures)) (c .before .before .before .before .before .before .put-text .ensures)) (c .before .before .put-byte .ensures)
 
 pub put-right-spec : {M : Type 1} → statement M
 put-right-spec =

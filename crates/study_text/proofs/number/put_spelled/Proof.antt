@@ -3,7 +3,7 @@ use mathlib.Core.Path.{sym}
 use lib.Seq.{length-take-le}
 use Rattle.decimals.specs.Spelled.{spelledText}
 use Rattle.decimals.proofs.SpelledLaws.{inside, taken}
-use Rattle.texts.proofs.SinkLaws.{sunk-text}
+use Rattle.texts.proofs.SinkLaws.{appended-text}
 use borrow.Author.Needs.{needs}
 use Rattle.study_text.proofs.number.put_spelled.Statement.{statement}
 use Rattle.study_text.proofs.number.put_spelled.Tie as tie
@@ -15,7 +15,7 @@ slice-aggregate-put-text : tie.Need-slice-aggregate-put-text
 slice-aggregate-put-text c = sym (length-take-le _ _ (inside (spelledText (c .before .before .before .before .before .args .x)) (c .before .before .before .spelled .ensures)))
 
 returns : tie.Need-returns
-returns c = sunk-text (taken (spelledText (c .before .before .before .before .before .before .before .before .args .x)) (c .before .before .before .before .before .before .spelled .ensures)) (c .before .before .put-text .ensures)
+returns c = appended-text (taken (spelledText (c .before .before .before .before .before .before .before .before .args .x)) (c .before .before .before .before .before .before .spelled .ensures)) (c .before .before .put-text .ensures)
 
 pub put-spelled-spec : {M : Type 1} → statement M
 put-spelled-spec =

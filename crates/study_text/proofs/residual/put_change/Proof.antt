@@ -1,5 +1,5 @@
 -- `put_change` meets its contract.
-use Rattle.texts.proofs.SinkLaws.{sunk-then}
+use Rattle.texts.proofs.SinkLaws.{appended-then}
 use Rattle.study_text.specs.Residual.{changeText}
 use borrow.Author.Needs.{needs}
 use Rattle.study_text.proofs.residual.put_change.Statement.{statement}
@@ -7,7 +7,7 @@ use Rattle.study_text.proofs.residual.put_change.Tie as tie
 
 returns : tie.Need-returns
 unfolding changeText
-returns c = sunk-then (sunk-then (sunk-then (sunk-then (c .before .before .before .before .before .before .before .before .before .before .before .before .before .before .before .before .before .before .before .before .put-text .ensures) (c .before .before .before .before .before .before .before .before .before .before .before .before .before .before .before .before .put-id .ensures)) (c .before .before .before .before .before .before .before .before .before .before .before .put-text2 .ensures)) (c .before .before .before .before .before .before .before .put-spelled .ensures)) (c .before .before .put-text3 .ensures)
+returns c = appended-then (appended-then (appended-then (appended-then (c .before .before .before .before .before .before .before .before .before .before .before .before .before .before .before .before .before .before .before .before .put-text .ensures) (c .before .before .before .before .before .before .before .before .before .before .before .before .before .before .before .before .put-id .ensures)) (c .before .before .before .before .before .before .before .before .before .before .before .put-text2 .ensures)) (c .before .before .before .before .before .before .before .put-spelled .ensures)) (c .before .before .put-text3 .ensures)
 
 pub put-change-spec : {M : Type 1} → statement M
 put-change-spec =

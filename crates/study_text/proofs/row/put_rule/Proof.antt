@@ -1,5 +1,5 @@
 -- `put_rule` meets its contract.
-use Rattle.texts.proofs.SinkLaws.{sunk-then, sunk-text}
+use Rattle.texts.proofs.SinkLaws.{appended-then, appended-text}
 use Rattle.study_text.specs.Row.{ruleText}
 use Rattle.study_text.proofs.WordsLaws.{number-column}
 use borrow.Author.Needs.{needs}
@@ -8,7 +8,7 @@ use Rattle.study_text.proofs.row.put_rule.Tie as tie
 
 returns : tie.Need-returns
 unfolding ruleText
-returns c = sunk-then (sunk-then (sunk-text (number-column (c .before .before .before .before .before .before .before .before .before .before .before .before .before .before .before .before .before .args .rule)) (sunk-then (c .before .before .before .before .before .before .before .before .before .before .before .before .before .before .put-rule-number .ensures) (c .before .before .before .before .before .before .before .before .before .before .put-byte .ensures))) (c .before .before .before .before .before .before .put-definition .ensures)) (c .before .before .put-byte2 .ensures)
+returns c = appended-then (appended-then (appended-text (number-column (c .before .before .before .before .before .before .before .before .before .before .before .before .before .before .before .before .before .args .rule)) (appended-then (c .before .before .before .before .before .before .before .before .before .before .before .before .before .before .put-rule-number .ensures) (c .before .before .before .before .before .before .before .before .before .before .put-byte .ensures))) (c .before .before .before .before .before .before .put-definition .ensures)) (c .before .before .put-byte2 .ensures)
 
 pub put-rule-spec : {M : Type 1} → statement M
 put-rule-spec =

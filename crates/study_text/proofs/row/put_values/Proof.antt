@@ -1,6 +1,6 @@
 -- `put_values` meets its contract.
 use mathlib.Core.Path.{ap}
-use Rattle.texts.proofs.SinkLaws.{sunk-then, sunk-text}
+use Rattle.texts.proofs.SinkLaws.{appended-then, appended-text}
 use Rattle.study_text.specs.Words.{boundText}
 use Rattle.study_text.specs.Row.{column, standingText, valuesText}
 use Rattle.study_text.specs.declared.words.Bound.{Bound}
@@ -10,7 +10,7 @@ use Rattle.study_text.proofs.row.put_values.Tie as tie
 
 returns : tie.Need-returns
 unfolding valuesText standingText
-returns c = sunk-then (sunk-then (c .before .before .before .before .before .before .before .before .before .before .before .before .before .before .put-id-column .ensures) (c .before .before .before .before .before .before .before .before .before .before .put-numbers .ensures)) (sunk-then (c .before .before .before .before .before .before .put-right-spelled .ensures) (sunk-text (ap (λ (b : Bound). column 4 (boundText b)) (c .before .before .before .before .before .before .before .before .before .before .before .before .before .before .before .before .bound-of .ensures)) (c .before .before .put-bound .ensures)))
+returns c = appended-then (appended-then (c .before .before .before .before .before .before .before .before .before .before .before .before .before .before .put-id-column .ensures) (c .before .before .before .before .before .before .before .before .before .before .put-numbers .ensures)) (appended-then (c .before .before .before .before .before .before .put-right-spelled .ensures) (appended-text (ap (λ (b : Bound). column 4 (boundText b)) (c .before .before .before .before .before .before .before .before .before .before .before .before .before .before .before .before .bound-of .ensures)) (c .before .before .put-bound .ensures)))
 
 pub put-values-spec : {M : Type 1} → statement M
 put-values-spec =

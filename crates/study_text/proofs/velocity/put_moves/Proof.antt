@@ -1,5 +1,5 @@
 -- `put_moves` meets its contract.
-use Rattle.texts.proofs.SinkLaws.{sunk-then}
+use Rattle.texts.proofs.SinkLaws.{appended-then}
 use Rattle.study_text.specs.Velocity.{movesText}
 use borrow.Author.Needs.{needs}
 use Rattle.study_text.proofs.velocity.put_moves.Statement.{statement}
@@ -7,7 +7,7 @@ use Rattle.study_text.proofs.velocity.put_moves.Tie as tie
 
 returns : tie.Need-returns
 unfolding movesText
-returns c = sunk-then (sunk-then (sunk-then (sunk-then (c .before .before .before .before .before .before .before .before .before .before .before .before .before .before .before .before .before .before .before .before .put-text .ensures) (c .before .before .before .before .before .before .before .before .before .before .before .before .before .before .before .before .put-millionths .ensures)) (c .before .before .before .before .before .before .before .before .before .before .before .put-text2 .ensures)) (c .before .before .before .before .before .before .before .put-millionths2 .ensures)) (c .before .before .put-text3 .ensures)
+returns c = appended-then (appended-then (appended-then (appended-then (c .before .before .before .before .before .before .before .before .before .before .before .before .before .before .before .before .before .before .before .before .put-text .ensures) (c .before .before .before .before .before .before .before .before .before .before .before .before .before .before .before .before .put-millionths .ensures)) (c .before .before .before .before .before .before .before .before .before .before .before .put-text2 .ensures)) (c .before .before .before .before .before .before .before .put-millionths2 .ensures)) (c .before .before .put-text3 .ensures)
 
 pub put-moves-spec : {M : Type 1} → statement M
 put-moves-spec =

@@ -1,5 +1,5 @@
 -- `put_velocity` meets its contract.
-use Rattle.texts.proofs.SinkLaws.{sunk-then}
+use Rattle.texts.proofs.SinkLaws.{appended-then}
 use Rattle.study_text.specs.Velocity.{motionText, turnsText}
 use borrow.Author.Needs.{needs}
 use Rattle.study_text.proofs.velocity.put_velocity.Statement.{statement}
@@ -7,7 +7,7 @@ use Rattle.study_text.proofs.velocity.put_velocity.Tie as tie
 
 returns : tie.Need-returns
 unfolding motionText turnsText
-returns c = sunk-then (c .before .before .before .before .before .before .before .before .before .before .before .before .before .before .before .put-text .ensures) (sunk-then (c .before .before .before .before .before .before .before .before .before .before .before .put-moves .ensures) (sunk-then (c .before .before .before .before .before .before .before .put-millionths .ensures) (c .before .before .put-text2 .ensures)))
+returns c = appended-then (c .before .before .before .before .before .before .before .before .before .before .before .before .before .before .before .put-text .ensures) (appended-then (c .before .before .before .before .before .before .before .before .before .before .before .put-moves .ensures) (appended-then (c .before .before .before .before .before .before .before .put-millionths .ensures) (c .before .before .put-text2 .ensures)))
 
 pub put-velocity-spec : {M : Type 1} → statement M
 put-velocity-spec =

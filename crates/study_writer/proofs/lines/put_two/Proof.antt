@@ -1,13 +1,13 @@
 -- `put_two` meets its contract.
 use Rattle.study_writer.specs.Text.{linesText, lineOnto, wordsOnto}
-use Rattle.texts.proofs.SinkLaws.{sunk-then}
+use Rattle.texts.proofs.SinkLaws.{appended-then}
 use borrow.Author.Needs.{needs}
 use Rattle.study_writer.proofs.lines.put_two.Statement.{statement}
 use Rattle.study_writer.proofs.lines.put_two.Tie as tie
 
 returns : tie.Need-returns
 unfolding linesText lineOnto wordsOnto
-returns c = (sunk-then (c .before .before .before .before .before .before .before .before .before .before .before .before .before .before .before .before .put-text .ensures) (sunk-then (c .before .before .before .before .before .before .before .before .before .before .before .put-number .ensures) (sunk-then (c .before .before .before .before .before .before .put-number2 .ensures) (c .before .before .put-byte .ensures))))
+returns c = (appended-then (c .before .before .before .before .before .before .before .before .before .before .before .before .before .before .before .before .put-text .ensures) (appended-then (c .before .before .before .before .before .before .before .before .before .before .before .put-number .ensures) (appended-then (c .before .before .before .before .before .before .put-number2 .ensures) (c .before .before .put-byte .ensures))))
 
 pub put-two-spec : {M : Type 1} → statement M
 put-two-spec = tie.close (tie.spec (λ c κs. search needs) (λ c. search needs) (λ c. search needs) (λ c. search needs) (λ c κs. search needs) (λ c. search needs) (λ c. search needs) (λ c. search needs) (λ c. search needs) (λ c κs. search needs) (λ c κs. search needs) (λ c. search needs) returns)

@@ -4,15 +4,15 @@ use mathlib.Core.Path.{_≡_, ap, _∙_}
 use native.Mathlib.Omega.{arith}
 use lib.ListN.{length}
 use Rattle.study_writer.specs.Text.{linesText, bodiesFrom}
-use Rattle.texts.specs.Sink.{Sunk}
-use Rattle.texts.proofs.SinkLaws.{sunk-text, put-length}
+use Rattle.texts.specs.Sink.{Appended}
+use Rattle.texts.proofs.SinkLaws.{appended-text, put-length}
 use Rattle.study_writer.proofs.LinesLaws.{items-none, items-turn}
 use borrow.Author.Needs.{needs}
 use Rattle.study_writer.proofs.study.put_bodies.Statement.{statement}
 use Rattle.study_writer.proofs.study.put_bodies.Tie as tie
 
 abbrev Inv-loop : tie.InvT-loop
-Inv-loop out₀ at n bodies end₀ i₀ out end i = (i ≤ n) × Sunk out₀ at (linesText (bodiesFrom bodies 0 i)) out end
+Inv-loop out₀ at n bodies end₀ i₀ out end i = (i ≤ n) × Appended out₀ at (linesText (bodiesFrom bodies 0 i)) out end
 
 abbrev μ-loop : tie.MeasureT-loop
 μ-loop out₀ at n bodies end₀ i₀ out end i = n - i
@@ -27,7 +27,7 @@ same-length : tie.Need-same-length Inv-loop μ-loop
 same-length c = ap length (c .before .loop .inv .1 .holds) ∙ put-length _ _ _
 
 returns : tie.Need-returns Inv-loop μ-loop
-returns c = let e : c .before .loop .i ≡ c .before .before .before .before .args .n = omega arith in sunk-text (ap (λ (k : ℕ). linesText (bodiesFrom (c .before .before .before .before .args .bodies .now) 0 k)) e) (c .before .loop .inv .1)
+returns c = let e : c .before .loop .i ≡ c .before .before .before .before .args .n = omega arith in appended-text (ap (λ (k : ℕ). linesText (bodiesFrom (c .before .before .before .before .args .bodies .now) 0 k)) e) (c .before .loop .inv .1)
 
 pub put-bodies-spec : {M : Type 1} → statement M
 put-bodies-spec = tie.close (tie.spec Inv-loop μ-loop loop-holds (λ c κs. search needs) (λ c. search needs) (λ c. search needs) loop-again same-length returns)

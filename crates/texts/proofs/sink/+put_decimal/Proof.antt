@@ -4,7 +4,7 @@ use native.Mathlib.Omega.{arith}
 use borrow.Author.Needs.{needs}
 use borrow.Fn.Kinds.{In}
 use borrow.Fn.PlainCycle.{Measures, is, falls, and}
-use Rattle.texts.proofs.SinkLaws.{sunk-then, sunk-text, decimal-one, decimal-more}
+use Rattle.texts.proofs.SinkLaws.{appended-then, appended-text, decimal-one, decimal-more}
 use Rattle.texts.proofs.sink.put_byte.Reads as put-byte
 use Rattle.texts.proofs.sink.put_decimal.Reads as put-decimal
 use Rattle.texts.proofs.sink.put_decimal.Kinds as put-decimal-kinds
@@ -35,7 +35,7 @@ decimal-same-length : (t : ℕ) → put-decimal-lts.Need-same-length (put-byte.A
 decimal-same-length t c = search needs
 
 decimal-returns : (t : ℕ) → put-decimal-lts.Need-returns (put-byte.Asked, put-byte.Learnt, put-decimal-below t, put-decimal.Post) (put-decimal-at t) put-decimal.Post
-decimal-returns t c = sunk-text (decimal-one _ (c .before .before .before .before .if1 .taken)) (c .before .before .put-byte .ensures)
+decimal-returns t c = appended-text (decimal-one _ (c .before .before .before .before .if1 .taken)) (c .before .before .put-byte .ensures)
 
 decimal-put-decimal-requires : (t : ℕ) → put-decimal-lts.Need-put-decimal-requires (put-byte.Asked, put-byte.Learnt, put-decimal-below t, put-decimal.Post) (put-decimal-at t) put-decimal.Post
 decimal-put-decimal-requires t c = λ _. (omega (arith, c .before .before .before .pre .0, c .before .if1 .left), tt)
@@ -53,7 +53,7 @@ decimal-same-length-2 : (t : ℕ) → put-decimal-lts.Need-same-length-2 (put-by
 decimal-same-length-2 t c = search needs
 
 decimal-returns-2 : (t : ℕ) → put-decimal-lts.Need-returns-2 (put-byte.Asked, put-byte.Learnt, put-decimal-below t, put-decimal.Post) (put-decimal-at t) put-decimal.Post
-decimal-returns-2 t c = sunk-text (decimal-more _ (c .before .before .before .before .before .before .before .before .if1 .left)) (sunk-then (c .before .before .before .before .before .before .put-decimal .ensures) (c .before .before .put-byte2 .ensures))
+decimal-returns-2 t c = appended-text (decimal-more _ (c .before .before .before .before .before .before .before .before .if1 .left)) (appended-then (c .before .before .before .before .before .before .put-decimal .ensures) (c .before .before .put-byte2 .ensures))
 
 pub +put-decimal-spec : {M : Type 1} → statement M
 +put-decimal-spec = close μ-put-decimal (λ t. put-decimal-lts.spec (put-byte.Asked, put-byte.Learnt, put-decimal-below t, put-decimal.Post) (put-decimal-at t) put-decimal.Post (decimal-cast-put-byte t) (decimal-add-put-byte t) (decimal-put-byte-requires t) (decimal-same-length t) (decimal-returns t) (decimal-put-decimal-requires t) (decimal-cast-put-byte-2 t) (decimal-add-put-byte-2 t) (decimal-put-byte-requires-2 t) (decimal-same-length-2 t) (decimal-returns-2 t))

@@ -4,14 +4,14 @@ use mathlib.Core.Path.{ap, _∙_}
 use native.Mathlib.Omega.{arith}
 use lib.ListN.{length, replicate}
 use Rattle.texts.specs.Ascii.{SPACE}
-use Rattle.texts.specs.Sink.{Sunk}
+use Rattle.texts.specs.Sink.{Appended}
 use Rattle.texts.proofs.SinkLaws.{put-length, blanks-none, blanks-all, blanks-turn}
 use borrow.Author.Needs.{needs}
 use Rattle.texts.proofs.sink.put_blanks.Statement.{statement}
 use Rattle.texts.proofs.sink.put_blanks.Tie as tie
 
 abbrev Inv-loop : tie.InvT-loop
-Inv-loop out₀ at n end₀ left₀ out end left = (left ≤ n) × Sunk out₀ at (replicate (n - left) SPACE) out end
+Inv-loop out₀ at n end₀ left₀ out end left = (left ≤ n) × Appended out₀ at (replicate (n - left) SPACE) out end
 
 abbrev μ-loop : tie.MeasureT-loop
 μ-loop out₀ at n end₀ left₀ out end left = left

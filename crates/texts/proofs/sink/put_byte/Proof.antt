@@ -1,5 +1,5 @@
 -- `put_byte` meets its contract.
-use Rattle.texts.proofs.SinkLaws.{sunk-byte}
+use Rattle.texts.proofs.SinkLaws.{appended-byte}
 use borrow.Author.Needs.{needs}
 use Rattle.texts.proofs.sink.put_byte.Statement.{statement}
 use Rattle.texts.proofs.sink.put_byte.Tie as tie
@@ -14,7 +14,7 @@ same-length : tie.Need-same-length
 same-length c = search needs
 
 returns : tie.Need-returns
-returns c = sunk-byte _ _ _ _ _ (c .before .before .before .set-byte .ensures) (c .place-after .ensures)
+returns c = appended-byte _ _ _ _ _ (c .before .before .before .set-byte .ensures) (c .place-after .ensures)
 
 pub put-byte-spec : {M : Type 1} → statement M
 put-byte-spec = tie.close (tie.spec set-byte-requires place-after-requires same-length returns)
