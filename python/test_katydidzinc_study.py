@@ -68,6 +68,7 @@ class Read(unittest.TestCase):
         for call in s.calls:
             self.assertEqual(lines[call.line - 1], call.text)
         self.assertEqual(kz.loads("body a\n\n# load\n\tload # now\r\n\nsweep 2").calls, [(4, "load"), (6, "sweep 2")])
+        self.assertEqual(kz.loads('load\nset_targets "left leg #2.csv" # now\n').calls, [(1, "load"), (2, 'set_targets "left leg #2.csv"')])
         self.assertEqual(kz.loads("body a\n").calls, [])
         self.assertEqual(kz.Study().calls, ())
 
