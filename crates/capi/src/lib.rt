@@ -1,5 +1,7 @@
 // The library for C, Rust and Python callers, over numbers and slices; a slice is passed as its pointer,
 // then its length. include/katydidzinc.h describes it.
+#![tactic(auto)]
+
 ghost use Rattle.std.specs.Prelude.{◌≡◌};
 ghost use Rattle.capi.specs.MicroNumber.{micro_number};
 

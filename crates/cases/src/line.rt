@@ -5,7 +5,7 @@ use study_reader::tables::{number_after, number_in as word_number};
 use study_reader::words::{Word, next_line, next_word};
 
 // What is run, from 1, and 0 for nothing; where its first argument is looked for, and its second and its third; its name.
-#[derive(Drop)]
+#[derive(Clone, Copy)]
 pub struct Line {
     pub op: u32,
     pub a: usize,

@@ -2,6 +2,8 @@
 // `stdout` beside this folder. A line is the word of what is run, its arguments, and after a colon and a blank the case's name; `#`
 // starts a comment. An argument is a decimal, or 0x and eight digits of bits. Answers are bits in hexadecimal, as document 01 has
 // them, and every NaN is 7fc00000.
+#![tactic(auto)]
+
 use crate::leaves::leaf;
 use crate::line::{Line, next_case};
 use crate::models::{State, draw_words, run_given, run_named, start};

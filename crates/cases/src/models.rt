@@ -17,7 +17,7 @@ use study_reader::words::{Word, bytes_of, next_line};
 
 // Where the next line is; the header of the next calls; how much of the bodies, of the words and of the rows they are given; the count that the last
 // one left (the rows that were read, or the motors of joint 0 at a bound); whether a sweep changed nothing.
-#[derive(Drop)]
+#[derive(Clone, Copy)]
 pub struct State {
     pub at: usize,
     pub header: Header,

@@ -1,4 +1,6 @@
 // Prints the catalogue of joints (request R-8): all 4096 choices of the four masks, a line each.
+#![tactic(auto)]
+
 use catalogue::text::write_catalogue;
 use libc::STDOUT_FILENO;
 

@@ -2,6 +2,8 @@
 // then its length. The functions on slices read 13 numbers, a vector v (x, y), a vector w, a number
 // s, rotations a and b (re, im), vectors p and q, and write four or six; where a slice is shorter,
 // nothing is written. (a, p) and (b, q) are poses.
+#![tactic(auto)]
+
 ghost use Rattle.std.specs.Prelude.{◌≡◌, ◌+◌, ◌<◌, length};
 ghost use Rattle.comparison.specs.Exports.{side_number, vector_at, rotation_at, put_two, put_vector, put_rotation, vector_products, vector_sums, rotation_products, rotation_columns, pose_product};
 ghost use Rattle.floats.specs.Utils.{inv_of, simd_inv_of, smallest_abs_diff_between_angles_of};

@@ -4,7 +4,7 @@ ghost use Rattle.texts.specs.Digits.{is_digit};
 ghost use Rattle.decimals.specs.Capped.{cap, digits_of};
 
 // The value of the digits, at most 10^19, and where they end.
-#[derive(Drop)]
+#[derive(Clone, Copy)]
 pub struct Digits {
     pub value: u64,
     pub end: usize,

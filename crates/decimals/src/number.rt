@@ -8,7 +8,7 @@ use crate::digits::digits_at;
 use crate::rounding::{scaled_down, scaled_up};
 use floats::bits::from_bits;
 
-#[derive(Drop)]
+#[derive(Clone, Copy)]
 pub enum Reading {
     Number(f32),
     // a decimal of more than 19 digits, leading zeros aside

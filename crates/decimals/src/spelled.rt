@@ -15,14 +15,14 @@ use floats::bits::{Parts, parts_of, to_bits};
 use texts::sink::put_text;
 
 // Nine digits, and how many places were dropped for them.
-#[derive(Drop)]
+#[derive(Clone, Copy)]
 pub struct Nine {
     pub digits: u32,
     pub places: u32,
 }
 
 // A text at the left of 15 bytes.
-#[derive(Drop)]
+#[derive(Clone, Copy)]
 pub struct Spelling {
     pub bytes: [u8; 15],
     pub len: usize,
@@ -40,7 +40,7 @@ fn tenths(d: u32, k: u32) -> [u32; 14]
 }
 
 // The places that are dropped, and what they divide by.
-#[derive(Drop)]
+#[derive(Clone, Copy)]
 pub struct Divisor {
     pub den: [u32; 14],
     pub places: u32,

@@ -25,7 +25,7 @@ const HALF_TURN: u64 = 3373259426;
 const NEAR_ZERO: f32 = 0.000244140625;
 
 // A sum of the series, and how many terms were added.
-#[derive(Drop)]
+#[derive(Clone, Copy)]
 pub struct SeriesSum {
     pub sum: u64,
     pub terms: u64,

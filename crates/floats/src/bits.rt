@@ -5,7 +5,7 @@ ghost use Rattle.floats.specs.Bits.{parts_of};
 
 // A finite number is its sign, its leading digits (below 2^24) and a power of two, in units of
 // 2^-149, the smallest value.
-#[derive(Drop)]
+#[derive(Clone, Copy)]
 pub enum Parts {
     Nan,
     Infinite(bool),

@@ -1,5 +1,7 @@
 // The float leaves and stand-ins of the planar joint rows: binary32, one rounding an operation,
 // never fused, in the order in which rapier2d 0.36.1 writes them.
+#![tactic(auto)]
+
 pub mod angle;
 pub mod angular_inertia_ops;
 pub mod bits;

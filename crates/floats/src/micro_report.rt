@@ -4,7 +4,7 @@ ghost use Rattle.floats.specs.MicroReport.{half_even, whole_or_over, micro_repor
 
 use crate::bits::{Parts, parts_of};
 
-#[derive(Drop)]
+#[derive(Clone, Copy)]
 pub enum MicroReport {
     Whole(i32),
     Over,

@@ -6,7 +6,7 @@ use crate::rotation_ops::Rotation;
 use crate::vector::Vector;
 
 #[repr(C)]
-#[derive(Drop)]
+#[derive(Clone, Copy)]
 pub struct Pose {
     pub rotation: Rotation,
     pub translation: Vector,

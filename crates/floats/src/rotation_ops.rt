@@ -5,7 +5,7 @@ ghost use Rattle.floats.specs.Rotation.{product_of, inverse_of, rotate_of, to_ma
 use crate::vector::Vector;
 
 #[repr(C)]
-#[derive(Drop)]
+#[derive(Clone, Copy)]
 pub struct Rotation {
     pub re: f32,
     pub im: f32,
@@ -13,7 +13,7 @@ pub struct Rotation {
 
 // A matrix by its columns.
 #[repr(C)]
-#[derive(Drop)]
+#[derive(Clone, Copy)]
 pub struct Matrix {
     pub x_axis: Vector,
     pub y_axis: Vector,

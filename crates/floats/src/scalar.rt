@@ -4,7 +4,7 @@ ghost use Rattle.std.specs.Float.{inf};
 ghost use Rattle.floats.specs.Scalar.{max_of, min_of, clamped_of, is_finite};
 
 // Which bound a clamp met. A number that equals a bound is inside, and so is a NaN.
-#[derive(Drop)]
+#[derive(Clone, Copy)]
 pub enum Side {
     Low,
     High,
@@ -12,7 +12,7 @@ pub enum Side {
 }
 
 // A number within its bounds, and which of them it met.
-#[derive(Drop)]
+#[derive(Clone, Copy)]
 pub struct Clamped {
     pub value: f32,
     pub side: Side,

@@ -5,7 +5,7 @@ ghost use Rattle.floats.specs.Vector.{add_of, sub_of, mul_of, gdot_of, gcross_ma
 use crate::sqrt::sqrt;
 
 #[repr(C)]
-#[derive(Drop)]
+#[derive(Clone, Copy)]
 pub struct Vector {
     pub x: f32,
     pub y: f32,

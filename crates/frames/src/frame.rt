@@ -36,7 +36,7 @@ const FEW_BODY_NUMBERS: usize = 169;
 const FEW_WORDS: usize = 203;
 
 // The answer, the model's header after the frame, and for each joint how many of its motor rows the last round found low or high.
-#[derive(Drop)]
+#[derive(Clone, Copy)]
 pub struct FrameAnswer {
     pub answer: Plain,
     pub header: Header,
@@ -44,7 +44,7 @@ pub struct FrameAnswer {
 }
 
 // Whether every new pose was finite, the header, and what the last sweep answered.
-#[derive(Drop)]
+#[derive(Clone, Copy)]
 pub struct Reached {
     pub finite: bool,
     pub header: Header,

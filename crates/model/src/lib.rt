@@ -1,5 +1,7 @@
 // The model of several joints. The calls, the header, the storage's layout and single records of it, reactions and residuals are for callers; the work on all joints is for crates above, which try
 // the rules that it asks for; the other modules below the calls are for neither.
+#![tactic(auto)]
+
 pub mod all_joints;
 pub mod calls;
 mod counts;

@@ -23,7 +23,7 @@ use floats::scalar::is_finite;
 use rows::integration_parameters::IntegrationParameters;
 
 // Nowhere in the model; a setting, by its number; number c of body i; word c, or number c, of joint j.
-#[derive(Drop)]
+#[derive(Clone, Copy)]
 pub enum Place {
     Nowhere,
     Setting(usize),

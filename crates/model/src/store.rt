@@ -25,7 +25,7 @@ use rows::motor_model::MotorModel;
 // ---- rows
 
 // Six numbers one after the other.
-#[derive(Drop)]
+#[derive(Clone, Copy)]
 struct Six {
     n0: f32,
     n1: f32,
@@ -374,7 +374,7 @@ fn data_at(words: &[u32], numbers: &[f32], j: usize) -> GenericJoint
 }
 
 // The centre of the angular limits as it is typed: its cosine and sine, or its angle.
-#[derive(Drop)]
+#[derive(Clone, Copy)]
 pub enum LimitCenter {
     CosineSine(f32, f32),
     Angle(f32),

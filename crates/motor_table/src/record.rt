@@ -10,14 +10,14 @@ use crate::whole_number::{Field, Number, is_number, number_in, push};
 pub const AXES: u32 = 3;
 
 // The three numbers of a record.
-#[derive(Drop)]
+#[derive(Clone, Copy)]
 pub struct Entry {
     pub joint: Number,
     pub axis: Number,
     pub thousandths: Number,
 }
 
-#[derive(Drop)]
+#[derive(Clone, Copy)]
 pub enum RecordRead {
     // the numbers, and where the next record starts
     Record(Entry, usize),
@@ -27,7 +27,7 @@ pub enum RecordRead {
 }
 
 // The fields that have ended: how many, counted up to 4, and the first three.
-#[derive(Drop)]
+#[derive(Clone, Copy)]
 pub struct Fields {
     pub count: u32,
     pub joint: Field,
@@ -35,14 +35,14 @@ pub struct Fields {
     pub thousandths: Field,
 }
 
-#[derive(Drop)]
+#[derive(Clone, Copy)]
 pub struct Scan {
     pub place: Place,
     pub field: Field,
     pub ended: Fields,
 }
 
-#[derive(Drop)]
+#[derive(Clone, Copy)]
 pub enum Step {
     Going(Scan),
     Ended(Fields),

@@ -2,7 +2,7 @@
 ghost use Rattle.std.specs.Prelude.{◌≡◌};
 ghost use Rattle.motor_table.specs.Rfc4180.{is_textdata, move_at, non_escaped_move, separator_move, escaped_move, may_end};
 
-#[derive(Drop)]
+#[derive(Clone, Copy)]
 pub enum Place {
     FieldStart,
     // in a non_escaped field
@@ -16,7 +16,7 @@ pub enum Place {
 }
 
 // What a byte does to the record.
-#[derive(Drop)]
+#[derive(Clone, Copy)]
 pub enum Move {
     // it is the field's next byte
     Take(Place),

@@ -7,7 +7,7 @@ use crate::record::{RecordRead, is_present, record_at};
 // The largest number of records in a table.
 pub const MOST_RECORDS: u32 = 4096;
 
-#[derive(Drop)]
+#[derive(Clone, Copy)]
 pub enum TableAnswer {
     // so many records, each of them granted
     Granted(u32),

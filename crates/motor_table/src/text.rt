@@ -9,7 +9,7 @@ use crate::table::MOST_RECORDS;
 use crate::whole_number::{LARGEST_SIZE, Number};
 use texts::sink::{has_room, length_to, put_byte, put_decimal, put_text};
 
-#[derive(Drop)]
+#[derive(Clone, Copy)]
 pub enum Written {
     // the text's length
     Length(usize),

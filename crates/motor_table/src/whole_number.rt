@@ -6,14 +6,14 @@ ghost use Rattle.motor_table.specs.Scan.{no_number, empty_field, grown, with_dig
 pub const LARGEST_SIZE: u32 = 8000000;
 
 // Zero is not negative.
-#[derive(Drop)]
+#[derive(Clone, Copy)]
 pub struct Number {
     pub negative: bool,
     pub size: u32,
 }
 
 // What the bytes of a field so far spell.
-#[derive(Drop)]
+#[derive(Clone, Copy)]
 pub enum Spelling {
     Nothing,
     Sign,
@@ -22,7 +22,7 @@ pub enum Spelling {
 }
 
 // A field as its bytes come in. Past the largest size the number grows no more.
-#[derive(Drop)]
+#[derive(Clone, Copy)]
 pub struct Field {
     pub spelling: Spelling,
     pub minus: bool,

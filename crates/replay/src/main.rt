@@ -2,6 +2,8 @@
 // each with the oracle's answer and a checksum of all storage after it. Every token is eight digits of
 // hexadecimal and one byte more; oracle/README.md has the format. It prints how many lines there were, and how
 // many came out otherwise than stored.
+#![tactic(auto)]
+
 ghost use Rattle.std.specs.Prelude.{◌≤◌};
 
 use floats::bits::{from_bits, to_bits};
@@ -124,7 +126,7 @@ fn wide(x: u8) -> u32 {
 }
 
 // What an answer's own numbers add to a checksum h: h times `times`, plus `plus`.
-#[derive(Drop)]
+#[derive(Clone, Copy)]
 struct Tail {
     times: u32,
     plus: u32,
@@ -224,7 +226,7 @@ fn no_tail() -> Tail {
 // ---- one line
 
 // The opcode and the arguments of a line.
-#[derive(Drop)]
+#[derive(Clone, Copy)]
 struct Line {
     op: u32,
     a: u32,
@@ -252,7 +254,7 @@ fn next_line() -> Line {
 }
 
 // The header after a line, its answer as two words, and what the answer adds to the checksum.
-#[derive(Drop)]
+#[derive(Clone, Copy)]
 struct Done {
     header: Header,
     high: u32,
@@ -562,7 +564,7 @@ fn set(
 }
 
 // How much of each storage is handed over.
-#[derive(Drop)]
+#[derive(Clone, Copy)]
 struct Lengths {
     bodies: usize,
     words: usize,
@@ -582,7 +584,7 @@ fn least(n: usize, most: usize) -> usize
 
 // What is carried from line to line of a study: the header, how much is handed over, and how many lines came
 // out otherwise than stored.
-#[derive(Drop)]
+#[derive(Clone, Copy)]
 struct At {
     header: Header,
     lengths: Lengths,
@@ -590,7 +592,7 @@ struct At {
 }
 
 // A line's outcome, and how much is handed over after it.
-#[derive(Drop)]
+#[derive(Clone, Copy)]
 struct Outcome {
     done: Done,
     lengths: Lengths,
@@ -694,7 +696,7 @@ fn turn(
 }
 
 // How many lines were run, and how many came out otherwise.
-#[derive(Drop)]
+#[derive(Clone, Copy)]
 struct Count {
     lines: u64,
     wrong: u64,

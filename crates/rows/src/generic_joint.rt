@@ -8,14 +8,14 @@ use crate::joint_velocity_constraint::MotorParameters;
 use crate::motor_model::MotorModel;
 use floats::pose::Pose;
 
-#[derive(Drop)]
+#[derive(Clone, Copy)]
 pub struct JointLimits {
     pub min: f32,
     pub max: f32,
     pub impulse: f32,
 }
 
-#[derive(Drop)]
+#[derive(Clone, Copy)]
 pub struct JointMotor {
     pub target_vel: f32,
     pub target_pos: f32,
@@ -27,7 +27,7 @@ pub struct JointMotor {
 }
 
 // In each mask bits 0 and 1 are the linear axes and bit 2 is the angular one.
-#[derive(Drop)]
+#[derive(Clone, Copy)]
 pub struct Masks {
     pub locked_axes: u32,
     pub limit_axes: u32,
@@ -36,7 +36,7 @@ pub struct Masks {
 }
 
 // Whether a joint is enabled.
-#[derive(Drop)]
+#[derive(Clone, Copy)]
 pub enum JointEnabled {
     Enabled,
     DisabledByAttachedBody,
@@ -57,7 +57,7 @@ impl JointEnabled {
 }
 
 // Limits and motors are by axis. The frames are relative to each body's centre of mass.
-#[derive(Drop)]
+#[derive(Clone, Copy)]
 pub struct GenericJoint {
     pub local_frame1: Pose,
     pub local_frame2: Pose,

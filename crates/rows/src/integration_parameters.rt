@@ -7,13 +7,13 @@ pub const MAX: f32 = 3.40282347e+38;
 
 const TWO_PI: f32 = 6.283185307179586;
 
-#[derive(Drop)]
+#[derive(Clone, Copy)]
 pub struct SpringCoefficients {
     pub natural_frequency: f32,
     pub damping_ratio: f32,
 }
 
-#[derive(Drop)]
+#[derive(Clone, Copy)]
 pub struct IntegrationParameters {
     pub dt: f32,
     pub length_unit: f32,

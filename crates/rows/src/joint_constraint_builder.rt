@@ -16,7 +16,7 @@ use floats::rotation_ops::Rotation;
 use floats::vector::Vector;
 
 // What the rows read of a body, its pose being that of its centre of mass.
-#[derive(Drop)]
+#[derive(Clone, Copy)]
 pub struct SolverPose {
     pub pose: Pose,
     pub ii: f32,
@@ -24,7 +24,7 @@ pub struct SolverPose {
 }
 
 // A joint with its stored Dof impulses, and the centre of its angular limit as cosine and sine.
-#[derive(Drop)]
+#[derive(Clone, Copy)]
 pub struct ImpulseJoint {
     pub data: GenericJoint,
     pub impulses: [f32; 3],
@@ -32,7 +32,7 @@ pub struct ImpulseJoint {
 }
 
 // A warm coefficient, or none.
-#[derive(Drop)]
+#[derive(Clone, Copy)]
 pub enum Warmstart {
     Warm(f32),
     Cold,

@@ -18,14 +18,14 @@ use floats::vector::Vector;
 const PI: f32 = 3.141592653589793;
 
 // An angular limit by the middle of its range, as cosine and sine, and half its range.
-#[derive(Drop)]
+#[derive(Clone, Copy)]
 pub struct AngularLimitParams {
     pub center: Rotation,
     pub half_range: f32,
 }
 
 // `cmat1_basis` and `cmat2_basis` are by linear axis.
-#[derive(Drop)]
+#[derive(Clone, Copy)]
 pub struct JointConstraintHelper {
     pub basis: Matrix,
     pub cmat1_basis: Vector,
@@ -36,7 +36,7 @@ pub struct JointConstraintHelper {
 
 // A row's direction, and the distance along it: of one linear axis, of the coupled ones together, or
 // of the angular axis.
-#[derive(Drop)]
+#[derive(Clone, Copy)]
 pub struct RowAxis {
     pub dist: f32,
     pub lin_jac: Vector,
@@ -45,21 +45,21 @@ pub struct RowAxis {
 }
 
 // A limit's two ends: the Rust's `[N; 2]`.
-#[derive(Drop)]
+#[derive(Clone, Copy)]
 pub struct LimitEnds {
     pub min: f32,
     pub max: f32,
 }
 
 // The two ends of a motor's limits, or none: the Rust's `Option<[N; 2]>`.
-#[derive(Drop)]
+#[derive(Clone, Copy)]
 pub enum MotorLimits {
     Span(f32, f32),
     None,
 }
 
 // The bounds of a row's impulse.
-#[derive(Drop)]
+#[derive(Clone, Copy)]
 pub struct ImpulseBounds {
     pub min: f32,
     pub max: f32,

@@ -17,7 +17,7 @@ use floats::scalar::{Side, clamp};
 use floats::vector::Vector;
 
 // What a motor's row reads of its motor at a timestep.
-#[derive(Drop)]
+#[derive(Clone, Copy)]
 pub struct MotorParameters {
     pub erp_inv_dt: f32,
     pub cfm_coeff: f32,
@@ -28,7 +28,7 @@ pub struct MotorParameters {
 }
 
 // Which stored impulse of its joint a row is for: an axis's lock, limit or motor.
-#[derive(Drop)]
+#[derive(Clone, Copy)]
 pub enum WritebackId {
     Dof(usize),
     Limit(usize),
@@ -36,28 +36,28 @@ pub enum WritebackId {
 }
 
 // What a row reads of a body.
-#[derive(Drop)]
+#[derive(Clone, Copy)]
 pub struct JointSolverBody {
     pub im: Vector,
     pub ii: f32,
     pub world_com: Vector,
 }
 
-#[derive(Drop)]
+#[derive(Clone, Copy)]
 pub struct SolverVel {
     pub linear: Vector,
     pub angular: f32,
 }
 
 // The velocities of a row's two bodies.
-#[derive(Drop)]
+#[derive(Clone, Copy)]
 pub struct SolverVels {
     pub vel1: SolverVel,
     pub vel2: SolverVel,
 }
 
 // A row. Its bodies, its joint and its id are not kept in it: they come from the model.
-#[derive(Drop)]
+#[derive(Clone, Copy)]
 pub struct JointConstraint {
     pub impulse: f32,
     pub impulse_min: f32,
@@ -77,7 +77,7 @@ pub struct JointConstraint {
 }
 
 // What a joint's rows are made from.
-#[derive(Drop)]
+#[derive(Clone, Copy)]
 pub struct RowContext {
     pub params: IntegrationParameters,
     pub body1: JointSolverBody,
@@ -90,14 +90,14 @@ pub struct RowContext {
 }
 
 // A joint's rows: `len` of them, and blank ones.
-#[derive(Drop)]
+#[derive(Clone, Copy)]
 pub struct Rows {
     pub rows: [JointConstraint; 6],
     pub len: usize,
 }
 
 // What one step leaves: the row, and the velocities of its two bodies; and which bound of the row the wanted impulse met.
-#[derive(Drop)]
+#[derive(Clone, Copy)]
 pub struct Solved {
     pub row: JointConstraint,
     pub vels: SolverVels,

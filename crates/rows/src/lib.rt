@@ -1,4 +1,6 @@
 // The rows of one joint between two planar bodies, file by file as rapier2d 0.36.1 has them.
+#![tactic(auto)]
+
 pub mod generic_joint;
 pub mod integration_parameters;
 pub mod joint_constraint_builder;

@@ -4,14 +4,14 @@ ghost use Rattle.rows.specs.MotorModel.{combine_coefficients_of};
 
 use floats::utils::inv;
 
-#[derive(Drop)]
+#[derive(Clone, Copy)]
 pub enum MotorModel {
     AccelerationBased,
     ForceBased,
 }
 
 // The three results of `combine_coefficients`, a tuple in the Rust.
-#[derive(Drop)]
+#[derive(Clone, Copy)]
 pub struct MotorCoefficients {
     pub erp_inv_dt: f32,
     pub cfm_coeff: f32,

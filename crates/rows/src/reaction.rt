@@ -9,20 +9,20 @@ use floats::rotation_ops::Rotation;
 use floats::vector::Vector;
 
 // What a body got, the angular part about its centre of mass.
-#[derive(Drop)]
+#[derive(Clone, Copy)]
 pub struct BodyImpulse {
     pub linear: Vector,
     pub angular: f32,
 }
 
-#[derive(Drop)]
+#[derive(Clone, Copy)]
 pub struct BodyImpulses {
     pub body1: BodyImpulse,
     pub body2: BodyImpulse,
 }
 
 // What each body got; body 1's linear part along frame 1's directions; the moment that body 1 gets at frame 2's place.
-#[derive(Drop)]
+#[derive(Clone, Copy)]
 pub struct Reaction {
     pub impulses: BodyImpulses,
     pub along: Vector,

@@ -9,13 +9,13 @@ use crate::generic_joint::{Masks, has_axis};
 use crate::joint_velocity_constraint::WritebackId;
 
 // An id in an array: an array's element is a struct.
-#[derive(Drop)]
+#[derive(Clone, Copy)]
 pub struct RowId {
     pub id: WritebackId,
 }
 
 // A joint's ids: `len` of them, of which the first `first` are group one.
-#[derive(Drop)]
+#[derive(Clone, Copy)]
 pub struct RowIds {
     pub ids: [RowId; 6],
     pub first: usize,

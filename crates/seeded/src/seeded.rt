@@ -20,7 +20,7 @@ pub const SEEDED_NUMBERS: usize = 336;
 pub const SEEDED_ROWS: usize = 48;
 
 // The header, the number of bodies and the number of joints; the slices then start with so many records. Or one slice is too short.
-#[derive(Drop)]
+#[derive(Clone, Copy)]
 pub enum SeededAnswer {
     Seeded(Header, u32, u32),
     TooShort,

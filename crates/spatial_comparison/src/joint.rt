@@ -21,7 +21,7 @@ use spatial_rows::row_ids::row_ids;
 
 // What a step leaves, and which bound it met: inside is 0, low 1 and high 2.
 #[repr(C)]
-#[derive(Drop)]
+#[derive(Clone, Copy)]
 pub struct Stepped {
     pub row: JointConstraint,
     pub vels: SolverVels,
@@ -148,7 +148,7 @@ pub extern "C" fn katydidzinc_space_row_id(
 
 // The last impulses of nine rows.
 #[repr(C)]
-#[derive(Drop)]
+#[derive(Clone, Copy)]
 pub struct Impulses {
     pub values: [f32; 9],
 }

@@ -1,5 +1,7 @@
 // The leaves of space for the comparison with the Rust. Vectors, quaternions, matrices, poses and inertias are passed and
 // returned by value, as C passes a struct of floats.
+#![tactic(auto)]
+
 ghost use Rattle.std.specs.Prelude.{◌≡◌};
 ghost use Rattle.spatial_floats.specs.Vector.{add_of, sub_of, mul_of, gdot_of, component_mul_of};
 ghost use Rattle.spatial_floats.specs.Matrix.{matrix_product_of, gcross_matrix_of};

@@ -26,27 +26,27 @@ use spatial_rows::row_ids::{RowIds, row_ids};
 pub const MOST_ROUNDS: u32 = 64;
 
 // The answer of a call that has nothing to tell.
-#[derive(Drop)]
+#[derive(Clone, Copy)]
 pub enum Plain {
     Granted,
     Refused(u32),
 }
 
-#[derive(Drop)]
+#[derive(Clone, Copy)]
 pub enum LoadAnswer {
     Loaded(Header),
     Refused(u32),
 }
 
 // The built model's header, and the number of its rows.
-#[derive(Drop)]
+#[derive(Clone, Copy)]
 pub enum BuildAnswer {
     Built(Header, usize),
     Refused(u32),
 }
 
 // One joint's ids and rows beside the answer, none where it is a refusal.
-#[derive(Drop)]
+#[derive(Clone, Copy)]
 pub struct RowsAnswer {
     pub answer: Plain,
     pub ids: RowIds,
@@ -54,13 +54,13 @@ pub struct RowsAnswer {
 }
 
 // For each joint, how many of its motor rows the last round found low or high, beside the answer; zeros past the joints, and where it is a refusal.
-#[derive(Drop)]
+#[derive(Clone, Copy)]
 pub struct SweepAnswer {
     pub answer: Plain,
     pub counts: [u8; 128],
 }
 
-#[derive(Drop)]
+#[derive(Clone, Copy)]
 pub enum VelocityAnswer {
     Velocity(SolverVel),
     Refused(u32),

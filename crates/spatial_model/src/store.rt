@@ -30,7 +30,7 @@ use spatial_rows::joint_velocity_constraint::{JointConstraint, SolverVel};
 // ---- rows
 
 // Six numbers one after the other.
-#[derive(Drop)]
+#[derive(Clone, Copy)]
 struct Six {
     n0: f32,
     n1: f32,

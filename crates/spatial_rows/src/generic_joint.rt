@@ -10,7 +10,7 @@ use spatial_floats::pose::Pose;
 
 // In each mask bits 0 to 2 are the linear axes and bits 3 to 5 the angular ones. Limits and motors are by linear axis. The frames
 // are relative to each body's centre of mass.
-#[derive(Drop)]
+#[derive(Clone, Copy)]
 pub struct GenericJoint {
     pub local_frame1: Pose,
     pub local_frame2: Pose,

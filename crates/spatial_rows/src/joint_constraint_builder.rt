@@ -19,7 +19,7 @@ use spatial_floats::vector::Vector;
 
 // What the rows read of a body, its pose being that of its centre of mass.
 #[repr(C)]
-#[derive(Drop)]
+#[derive(Clone, Copy)]
 pub struct SolverPose {
     pub pose: Pose,
     pub ii: SdpMatrix3,
@@ -27,7 +27,7 @@ pub struct SolverPose {
 }
 
 // A joint with its stored Dof impulses.
-#[derive(Drop)]
+#[derive(Clone, Copy)]
 pub struct ImpulseJoint {
     pub data: GenericJoint,
     pub impulses: [f32; 6],

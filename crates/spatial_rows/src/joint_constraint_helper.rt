@@ -22,7 +22,7 @@ use spatial_floats::sign::sign_of;
 use spatial_floats::vector::Vector;
 
 // `cmat1_basis` and `cmat2_basis` are by linear axis, `ang_basis` is by angular axis.
-#[derive(Drop)]
+#[derive(Clone, Copy)]
 pub struct JointConstraintHelper {
     pub basis: Matrix,
     pub cmat1_basis: Matrix,
@@ -33,14 +33,14 @@ pub struct JointConstraintHelper {
 }
 
 // What angular rows are made from.
-#[derive(Drop)]
+#[derive(Clone, Copy)]
 pub struct AngularPart {
     pub ang_basis: Matrix,
     pub ang_err: Rotation,
 }
 
 // A row's direction, and the distance along it: of one linear axis, or of one angular axis.
-#[derive(Drop)]
+#[derive(Clone, Copy)]
 pub struct RowAxis {
     pub dist: f32,
     pub lin_jac: Vector,

@@ -18,7 +18,7 @@ use spatial_floats::pose::Pose;
 use spatial_floats::vector::Vector;
 
 // What a row reads of a body.
-#[derive(Drop)]
+#[derive(Clone, Copy)]
 pub struct JointSolverBody {
     pub im: Vector,
     pub ii: SdpMatrix3,
@@ -26,7 +26,7 @@ pub struct JointSolverBody {
 }
 
 #[repr(C)]
-#[derive(Drop)]
+#[derive(Clone, Copy)]
 pub struct SolverVel {
     pub linear: Vector,
     pub angular: Vector,
@@ -34,7 +34,7 @@ pub struct SolverVel {
 
 // The velocities of a row's two bodies.
 #[repr(C)]
-#[derive(Drop)]
+#[derive(Clone, Copy)]
 pub struct SolverVels {
     pub vel1: SolverVel,
     pub vel2: SolverVel,
@@ -42,7 +42,7 @@ pub struct SolverVels {
 
 // A row. Its bodies, its joint and its id are not kept in it: they come from the model.
 #[repr(C)]
-#[derive(Drop)]
+#[derive(Clone, Copy)]
 pub struct JointConstraint {
     pub impulse: f32,
     pub impulse_min: f32,
@@ -62,7 +62,7 @@ pub struct JointConstraint {
 }
 
 // What a joint's rows are made from.
-#[derive(Drop)]
+#[derive(Clone, Copy)]
 pub struct RowContext {
     pub params: IntegrationParameters,
     pub body1: JointSolverBody,
@@ -75,14 +75,14 @@ pub struct RowContext {
 
 // A joint's rows: `len` of them, and blank ones.
 #[repr(C)]
-#[derive(Drop)]
+#[derive(Clone, Copy)]
 pub struct Rows {
     pub rows: [JointConstraint; 9],
     pub len: usize,
 }
 
 // What one step leaves: the row, and the velocities of its two bodies; and which bound of the row the wanted impulse met.
-#[derive(Drop)]
+#[derive(Clone, Copy)]
 pub struct Solved {
     pub row: JointConstraint,
     pub vels: SolverVels,

@@ -12,7 +12,7 @@ use rows::joint_velocity_constraint::WritebackId;
 use rows::row_ids::RowId;
 
 // A joint's ids: `len` of them, of which the first `first` are group one.
-#[derive(Drop)]
+#[derive(Clone, Copy)]
 pub struct RowIds {
     pub ids: [RowId; 9],
     pub first: usize,

@@ -67,7 +67,7 @@ fn out_field(field: &[u8]) {
 }
 
 // Which table this is: the place of its call, and its number in the study.
-#[derive(Drop)]
+#[derive(Clone, Copy)]
 pub struct Table {
     pub at: usize,
     pub number: u32,

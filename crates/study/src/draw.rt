@@ -23,7 +23,7 @@ use study_reader::words::Word;
 // ---- the part of the plane that is drawn
 
 // A rectangle that may hold no point yet.
-#[derive(Drop)]
+#[derive(Clone, Copy)]
 struct Frame {
     some: bool,
     left: f32,
@@ -104,7 +104,7 @@ fn all_joints(draft: &[f32], words: &[u32], joints: u32, from: Frame) -> Frame {
 // ---- the picture
 
 // Where the plane's points stand in the picture; how many labels there are, and how far one is below the other; the length of an arrow for 1 m/s.
-#[derive(Drop)]
+#[derive(Clone, Copy)]
 struct Picture {
     left: f32,
     high: f32,

@@ -1,4 +1,6 @@
 // Runs studies that are written as text. docs/STUDY.md describes them.
+#![tactic(auto)]
+
 mod csv;
 mod draw;
 mod faults;
@@ -51,7 +53,7 @@ const JOINT_NUMBERS: usize = MOST as usize * NUMBERS_WIDTH;
 const ROW_NUMBERS: usize = MOST as usize * 6 * ROW_WIDTH;
 
 // What is asked of a study: a command, what is printed of a run, whether a warning counts, and whether the file's name goes before it all.
-#[derive(Drop)]
+#[derive(Clone, Copy)]
 struct Mode {
     command: u32,
     kind: u32,

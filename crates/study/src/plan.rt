@@ -13,7 +13,7 @@ use study_run::acts::{Act, StudyCall, act_at};
 use study_run::places::{Place, place_after};
 
 // Where the next line is, whether the rows stand, and the refusal that ends the study, or 0.
-#[derive(Drop)]
+#[derive(Clone, Copy)]
 struct Plan {
     at: usize,
     built: bool,

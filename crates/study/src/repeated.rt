@@ -15,7 +15,7 @@ use study_reader::storage::{kept, set_word, word_at};
 use study_reader::words::{Word, line_of, next_line, next_word};
 
 // How far the second reading has come: where the open item starts, whether a warning was told, whether there is a call, and one that prints.
-#[derive(Drop)]
+#[derive(Clone, Copy)]
 pub struct Reading {
     pub st: State,
     pub item_at: usize,

@@ -11,7 +11,7 @@ use study_reader::names::joint_name;
 use study_text::residual::write_residual;
 
 // The row of the largest residual, if there is a row: its joint and id, and the residual's size; and the size of the largest impulse of all rows.
-#[derive(Drop)]
+#[derive(Clone, Copy)]
 pub struct Residual {
     pub found: bool,
     pub joint: u32,

@@ -24,7 +24,7 @@ pub const NO_FILE: u32 = 99;
 
 // How far a study is: the line that comes next, and what is by value of what the calls work on; whether it is over, and the refusal that ended it, or 0; whether there was a
 // warning; what is printed of the study, and how many tables were printed.
-#[derive(Drop)]
+#[derive(Clone, Copy)]
 pub struct Run {
     pub place: Place,
     pub header: Header,

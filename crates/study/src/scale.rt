@@ -2,7 +2,7 @@
 use crate::out::{out, out_millionths};
 
 // A length of a digit times a power of ten, whose exponent is kept 30 higher.
-#[derive(Drop)]
+#[derive(Clone, Copy)]
 struct Bar {
     digit: u32,
     exponent: u32,

@@ -5,7 +5,7 @@ use model::header::Header;
 use model::layout::{BODY_WIDTH, NUMBERS_WIDTH, WORDS_WIDTH};
 use seeded::seeded::{SEEDED_BODIES, SEEDED_NUMBERS, SEEDED_WORDS, SeededAnswer, seeded};
 
-#[derive(Drop)]
+#[derive(Clone, Copy)]
 enum Seed {
     Number(u32),
     No,

@@ -31,7 +31,7 @@ pub fn out_id(id: WritebackId) {
 // ---- one line, as text or as comma-separated values
 
 // What a line has beside the names of its joint and bodies: a row's id, impulse, bounds and residual, or what the joint gave its bodies.
-#[derive(Drop)]
+#[derive(Clone, Copy)]
 pub struct Values {
     pub id: WritebackId,
     pub impulse: f32,
@@ -41,14 +41,14 @@ pub struct Values {
 }
 
 // A joint's reaction; how many of its motors the last round found low or high, if there was one.
-#[derive(Drop)]
+#[derive(Clone, Copy)]
 pub struct Given {
     pub reaction: Reaction,
     pub swept: bool,
     pub motors: u8,
 }
 
-#[derive(Drop)]
+#[derive(Clone, Copy)]
 pub enum Line {
     Row(Values),
     Reaction(Given),
@@ -140,7 +140,7 @@ pub fn text_joint(text: &[u8], names: &[u32], h: Heading, line: Line) {
 // ---- rows
 
 // One joint: its number, bodies and coupled axes; how many of its motors the last round found low or high, if there was one; whether as comma-separated values.
-#[derive(Drop)]
+#[derive(Clone, Copy)]
 pub struct Heading {
     pub joint: u32,
     pub body1: u32,

@@ -16,7 +16,7 @@ pub const SHORT_SLICE: u32 = 1000;
 // The first fault, 0 for none; how many bodies and joints there are; the fault's line and column from 1, the text's first where there is no fault; and where
 // the line of the first call starts, the text's length where there is none.
 #[repr(C)]
-#[derive(Drop)]
+#[derive(Clone, Copy)]
 pub struct StudyRead {
     pub fault: u32,
     pub bodies: u32,

@@ -20,7 +20,7 @@ const NO_MASK: u32 = 4;
 
 // A call, with its numbers: a body, a joint, a count, a substep or how many substeps; the rounds of a frame's sweeps; a pose; a warm coefficient, where there is one; a tolerance, as x. `start` and `end` are those of its
 // first argument, `at` is where what was read of it ends. Of new masks, `mask` is the one that the axes that follow belong to.
-#[derive(Drop)]
+#[derive(Clone, Copy)]
 pub struct Line {
     pub keyword: u32,
     pub number: u32,

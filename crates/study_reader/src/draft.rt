@@ -27,7 +27,7 @@ const MAX_FORCE_ANGULAR: usize = MOTOR_ANGULAR + 4;
 
 // Where the next line starts; the item that is open and its number; how many bodies and joints there are; the first fault and its place; where the calls
 // start; whether a `repeat` is open, and where the last one stands.
-#[derive(Drop)]
+#[derive(Clone, Copy)]
 pub struct State {
     pub at: usize,
     pub kind: u32,

@@ -19,7 +19,7 @@ pub const JOINT_ITEM: u32 = 3;
 pub const CALLS: u32 = 4;
 
 // `many` numbers from a place of the item on; where `stride` is not 0 an axis comes first, and its number times the stride is added.
-#[derive(Drop)]
+#[derive(Clone, Copy)]
 pub struct Field {
     pub kind: u32,
     pub place: u32,

@@ -26,7 +26,7 @@ use floats::utils::inv;
 
 // One or two numbers of the item that is open, from a place on, and the offsets of the words that gave them. A centre's numbers say how it is
 // given: 0 by its cosine and sine, 1 by its angle. Other numbers have 2 there.
-#[derive(Drop)]
+#[derive(Clone, Copy)]
 pub struct Numbers {
     pub place: u32,
     pub many: u32,
@@ -38,7 +38,7 @@ pub struct Numbers {
 }
 
 // The two bodies of a joint, and the offsets of their names.
-#[derive(Drop)]
+#[derive(Clone, Copy)]
 pub struct Ends {
     pub body1: u32,
     pub body2: u32,
@@ -46,7 +46,7 @@ pub struct Ends {
     pub at2: usize,
 }
 
-#[derive(Drop)]
+#[derive(Clone, Copy)]
 pub enum Change {
     // no word stands on the line
     Nothing,

@@ -1,4 +1,6 @@
 // The study that a text describes. docs/STUDY.md has the format; specs/ says what each text reads as.
+#![tactic(auto)]
+
 pub mod calls;
 pub mod changes;
 pub mod draft;

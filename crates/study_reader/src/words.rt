@@ -4,7 +4,7 @@ ghost use Rattle.std.specs.Prelude.{◌≡◌, ◌+◌, drop};
 ghost use Rattle.study_reader.specs.Words.{has, same_bytes, is_blank, ends_word, after_blanks, after_bytes, next_word, is_empty, ends_quoted, after_quoted, is_quote, quoted_word, next_line, bytes_of, is_word, same_words, holds_byte, feeds_in, column_after, line_of, column_of, whole_number, whole_of};
 
 // The bytes from `start` to before `end`; none of them where the line holds no more words.
-#[derive(Drop)]
+#[derive(Clone, Copy)]
 pub struct Word {
     pub start: usize,
     pub end: usize,
@@ -256,7 +256,7 @@ pub fn column_of(text: &[u8], at: usize) -> u64
 // ---- whole numbers
 
 // A whole number without a sign, or what is none (or too large).
-#[derive(Drop)]
+#[derive(Clone, Copy)]
 pub enum Whole {
     Number(u32),
     No,

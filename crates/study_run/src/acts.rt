@@ -17,7 +17,7 @@ use study_reader::words::{is_empty, next_word};
 // A call: the model's, with their bodies, joints and numbers; a frame, by a warm coefficient or none, how many rounds and how many substeps; sweeps until no residual is above a
 // tolerance, and the most of them; the motor table whose name stands from a place to a place; and what is printed: a joint's rows, a body's velocity, a table, as comma-separated
 // values or not.
-#[derive(Drop)]
+#[derive(Clone, Copy)]
 pub enum StudyCall {
     Load,
     Place(u32, Pose),
@@ -36,7 +36,7 @@ pub enum StudyCall {
 }
 
 // A call, `repeat` with its turns, `end`, or none of them.
-#[derive(Drop)]
+#[derive(Clone, Copy)]
 pub enum Act {
     Nothing,
     Repeat(u32),

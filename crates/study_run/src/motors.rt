@@ -3,7 +3,7 @@ ghost use Rattle.std.specs.Prelude.{◌≡◌};
 ghost use Rattle.study_run.specs.Motors.{forgotten, kept};
 
 // The counts hold what the last round found, where one was swept.
-#[derive(Drop)]
+#[derive(Clone, Copy)]
 pub struct Motors {
     pub swept: bool,
     pub counts: [u8; 128],

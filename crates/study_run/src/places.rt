@@ -5,7 +5,7 @@ ghost use Rattle.study_run.specs.Places.{is_end, skip_from, moved, repeating, af
 use crate::acts::{Act, act_at};
 use study_reader::words::next_line;
 
-#[derive(Drop)]
+#[derive(Clone, Copy)]
 pub struct Place {
     pub at: usize,
     pub first: usize,

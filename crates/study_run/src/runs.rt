@@ -24,7 +24,7 @@ use rows::joint_velocity_constraint::SolverVel;
 
 // What a call says: that it was granted, or refused and with which number; what is to be printed, a joint's rows, a body's velocity, a table as comma-separated values or not, or after
 // how many rounds the rows are settled or not; or which motor table is to be read, by where its name starts and ends.
-#[derive(Drop)]
+#[derive(Clone, Copy)]
 pub enum Reply {
     Granted,
     Rows(u32),
@@ -36,7 +36,7 @@ pub enum Reply {
 }
 
 // What a call says, and what it leaves that is by value.
-#[derive(Drop)]
+#[derive(Clone, Copy)]
 pub struct Done {
     pub reply: Reply,
     pub header: Header,

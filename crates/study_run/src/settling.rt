@@ -104,7 +104,7 @@ fn joints_settled(
 }
 
 // How many rounds there were, and what the last of them found.
-#[derive(Drop)]
+#[derive(Clone, Copy)]
 pub struct Swept {
     pub many: u32,
     pub motors: Motors,

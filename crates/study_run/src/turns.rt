@@ -15,14 +15,14 @@ use crate::settling::run_settle;
 use model::header::Header;
 
 // The text is at its end; a line that is no call; what a call said.
-#[derive(Drop)]
+#[derive(Clone, Copy)]
 pub enum Told {
     Over,
     Passed,
     Called(Reply),
 }
 
-#[derive(Drop)]
+#[derive(Clone, Copy)]
 pub struct Turned {
     pub told: Told,
     pub place: Place,

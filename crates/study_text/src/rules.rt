@@ -6,7 +6,7 @@ ghost use Rattle.study_text.specs.Rules.{motor_rule, dof_rule, limit_rule, rule_
 use rows::generic_joint::has_axis;
 use rows::joint_velocity_constraint::WritebackId;
 
-#[derive(Drop)]
+#[derive(Clone, Copy)]
 pub enum Rule {
     Motor2,
     Motor0,

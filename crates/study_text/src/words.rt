@@ -11,7 +11,7 @@ use rows::joint_velocity_constraint::WritebackId;
 use texts::sink::put_entry;
 
 // The bound that an impulse stands at.
-#[derive(Drop)]
+#[derive(Clone, Copy)]
 pub enum Bound {
     Low,
     High,

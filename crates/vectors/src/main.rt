@@ -3,6 +3,8 @@
 // + - * / < l (at most) = s (root, whose second operand is 00000000). A comparison's result is
 // 00000001 or 00000000, and every NaN is 7FC00000. It prints each line that comes out otherwise,
 // and how many there were.
+#![tactic(auto)]
+
 use floats::bits::{from_bits, to_bits};
 use floats::sqrt::sqrt;
 use libc::{STDIN_FILENO, STDOUT_FILENO};
@@ -53,7 +55,7 @@ fn answer(op: u8, a: f32, b: f32) -> u32 {
     }
 }
 
-#[derive(Drop)]
+#[derive(Clone, Copy)]
 enum Verdict {
     Right,
     Wrong,
