@@ -1,0 +1,6 @@
+-- `out_quoted` ends.
+use Rattle.std.proofs.Common.{◌-◌, length}
+use Rattle.study.proofs.csv.out_quoted.Given as goal
+
+abbrev pub decreases-loop-i : goal.decreases-loop-i
+decreases-loop-i l = length l.field - l.i

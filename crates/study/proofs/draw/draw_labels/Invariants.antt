@@ -1,0 +1,6 @@
+-- `draw_labels` ends.
+use Rattle.std.proofs.Common.{◌-◌}
+use Rattle.study.proofs.draw.draw_labels.Given as goal
+
+abbrev pub decreases-loop-k : goal.decreases-loop-k
+decreases-loop-k l = l.pic.labels - l.k

@@ -1,0 +1,6 @@
+-- `each_file` ends.
+use Rattle.std.proofs.Common.{◌-◌}
+use Rattle.study.proofs.each_file.Given as goal
+
+abbrev pub decreases-loop-i : goal.decreases-loop-i
+decreases-loop-i l = l.count - l.i

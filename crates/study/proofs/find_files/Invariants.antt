@@ -1,0 +1,6 @@
+-- `find_files` ends.
+use Rattle.std.proofs.Common.{◌-◌}
+use Rattle.study.proofs.find_files.Given as goal
+
+abbrev pub decreases-loop-i : goal.decreases-loop-i
+decreases-loop-i l = l.count - l.i

@@ -1,0 +1,6 @@
+-- `with_rows` ends.
+use Rattle.std.proofs.Common.{◌-◌}
+use Rattle.study.proofs.residual.with_rows.Given as goal
+
+abbrev pub decreases-loop-i : goal.decreases-loop-i
+decreases-loop-i l = 6 - l.i

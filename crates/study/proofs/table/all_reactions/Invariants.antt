@@ -1,0 +1,6 @@
+-- `all_reactions` ends.
+use Rattle.std.proofs.Common.{◌-◌}
+use Rattle.study.proofs.table.all_reactions.Given as goal
+
+abbrev pub decreases-loop-j : goal.decreases-loop-j
+decreases-loop-j l = l.joints - l.j

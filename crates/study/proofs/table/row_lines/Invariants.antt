@@ -1,0 +1,6 @@
+-- `row_lines` ends.
+use Rattle.std.proofs.Common.{◌-◌}
+use Rattle.study.proofs.table.row_lines.Given as goal
+
+abbrev pub decreases-loop-i : goal.decreases-loop-i
+decreases-loop-i l = 6 - l.i
