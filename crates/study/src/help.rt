@@ -54,7 +54,7 @@ fn name() {
 
 pub fn version() {
     name();
-    out(b"; proved by rattle-kit-5b-plain logic 097e4c862dff5811\n");
+    out(b"; proved by rattle-kit-13f logic dac8208d650f15bf\n");
 }
 
 // The last line below a table.
