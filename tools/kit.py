@@ -53,9 +53,9 @@ def is_ready(crate):
     return all(is_proved(it) for it in crate.below())
 
 
-def command(verb, crate, *more, jobs=1):
+def command(verb, crate, *more, flags=("--jobs", "1")):
     """The prover's command for a crate, to run in its folder or in a copy of it."""
-    return [*rtlib.guarded(), rtlib.RATTLE, verb, *crate.words(["--jobs", str(jobs)], keeps=False), *more]
+    return [*rtlib.guarded(), rtlib.RATTLE, verb, *crate.words([*flags], keeps=False), *more]
 
 
 def said_by(words, folder):
