@@ -84,7 +84,15 @@ module _ (x y : RowContext) (s : SameShared x y) (e : (i : ℕ) → limits_at x.
       let d : List ℕ = keep (is_locked k) (in_order nl na) in
       let u : List ℕ = keep (λ i. is_limit k i && not (is_coupled k i)) (in_order nl na) in
       let c : List ℕ = keep (is_limit k) (first_coupled nl k) in
-      rw (map-append, map-append, map-append, map-append, locks d, limits u, limits c)
+      rw (
+        map-append (row_of x) (lock_ids nl na k) (limit_ids nl na k),
+        map-append (row_of y) (lock_ids nl na k) (limit_ids nl na k),
+        map-append (row_of x) (map Limit u) (map Limit c),
+        map-append (row_of y) (map Limit u) (map Limit c),
+        locks d,
+        limits u,
+        limits c,
+      )
 
 -- ---- a motor's limit is named where it is read
 
