@@ -16,7 +16,7 @@ pub put_study-requires : goal.put_study-requires
 put_study-requires c = (bodies-room _ _ c.body_count-nb.ensures, words_room _ _ _ c.joint_count-nj.ensures, numbers_room _ _ _ c.joint_count-nj.ensures)
 
 pub returns-then-len-out : goal.returns-then-len-out
-returns-then-len-out c = let g = answered c.args.header c.args.bodies.now c.args.words.now c.args.numbers.now _ _ c.body_count-nb.ensures c.if-nb-gt-MOST_BODIES.false c.joint_count-nj.ensures c.if-nj-gt-MOST_JOINTS.false (λ i. omega (arith, c.shared_slice_known-2-1.given i)) _ _ _ c.put_study-len.ensures in (answered c.args.header c.args.bodies.now c.args.words.now c.args.numbers.now _ _ c.body_count-nb.ensures c.if-nb-gt-MOST_BODIES.false c.joint_count-nj.ensures c.if-nj-gt-MOST_JOINTS.false (λ i. omega (arith, c.shared_slice_known-2-1.given i)) _ _ _ c.put_study.ensures, written-there c.args.header c.args.bodies.now c.args.words.now c.args.numbers.now _ _ c.body_count-nb.ensures c.if-nb-gt-MOST_BODIES.false c.joint_count-nj.ensures c.if-nj-gt-MOST_JOINTS.false (λ i. omega (arith, c.shared_slice_known-2-1.given i)) _ _ _ c.put_study.ensures (omega (arith, g, c.if-len-out.true)))
+returns-then-len-out c = let g = answered c.args.header c.args.bodies.now c.args.words.now c.args.numbers.now _ _ c.body_count-nb.ensures c.if-nb-gt-MOST_BODIES.false c.joint_count-nj.ensures c.if-nj-gt-MOST_JOINTS.false (λ i. omega (arith, c.type_inv.words i)) _ _ _ c.put_study-len.ensures in (answered c.args.header c.args.bodies.now c.args.words.now c.args.numbers.now _ _ c.body_count-nb.ensures c.if-nb-gt-MOST_BODIES.false c.joint_count-nj.ensures c.if-nj-gt-MOST_JOINTS.false (λ i. omega (arith, c.type_inv.words i)) _ _ _ c.put_study.ensures, written-there c.args.header c.args.bodies.now c.args.words.now c.args.numbers.now _ _ c.body_count-nb.ensures c.if-nb-gt-MOST_BODIES.false c.joint_count-nj.ensures c.if-nj-gt-MOST_JOINTS.false (λ i. omega (arith, c.type_inv.words i)) _ _ _ c.put_study.ensures (omega (arith, g, c.if-len-out.true)))
 
 pub returns : goal.returns
-returns c = let g = answered c.args.header c.args.bodies.now c.args.words.now c.args.numbers.now _ _ c.body_count-nb.ensures c.if-nb-gt-MOST_BODIES.false c.joint_count-nj.ensures c.if-nj-gt-MOST_JOINTS.false (λ i. omega (arith, c.shared_slice_known-2-1.given i)) _ _ _ c.put_study-len.ensures in (g, left_there c.args.header c.args.bodies.now c.args.words.now c.args.numbers.now _ _ c.body_count-nb.ensures c.if-nb-gt-MOST_BODIES.false c.joint_count-nj.ensures c.if-nj-gt-MOST_JOINTS.false (λ i. omega (arith, c.shared_slice_known-2-1.given i)) _ (omega (arith, g, c.if-len-out.false)))
+returns c = let g = answered c.args.header c.args.bodies.now c.args.words.now c.args.numbers.now _ _ c.body_count-nb.ensures c.if-nb-gt-MOST_BODIES.false c.joint_count-nj.ensures c.if-nj-gt-MOST_JOINTS.false (λ i. omega (arith, c.type_inv.words i)) _ _ _ c.put_study-len.ensures in (g, left_there c.args.header c.args.bodies.now c.args.words.now c.args.numbers.now _ _ c.body_count-nb.ensures c.if-nb-gt-MOST_BODIES.false c.joint_count-nj.ensures c.if-nj-gt-MOST_JOINTS.false (λ i. omega (arith, c.type_inv.words i)) _ (omega (arith, g, c.if-len-out.false)))
