@@ -11,7 +11,7 @@ abbrev word : ℕ → ℕ → Word
 word b e = record { start = b; end = e }
 
 pub overflow_cast-result : goal.overflow_cast-result
-overflow_cast-result c = omega (arith, c.shared_slice_known-then-at-names-1.given c.args.at)
+overflow_cast-result c = omega (arith, c.type_inv.names c.args.at)
 
 pub returns-then-at-names : goal.returns-then-at-names
 unfolding name_at

@@ -1,6 +1,5 @@
 use native.Mathlib.Omega.{arith}
 use mathlib.Core.Path.{refl, sym, ◌∙◌}
-use borrow.Author.Tests.{not-true, not-false}
 use Rattle.rows.specs.Reaction.{rows_in}
 use Rattle.study_run.proofs.SettledLaws.{row_open, row_next, rows-done}
 use borrow.Author.Rules.{rules}
@@ -15,7 +14,7 @@ returns-then-not-row_settled c =
     let lt = c.loop-k-test in
     let l = c.loop-k in
     let made = c.args.made in
-    sym (row_open _ _ _ _ made.len l.k made.rows _ (omega (arith, lt.true, l.invariant.2)) rs.ensures (not-true _ c.if-not-row_settled.true-raw)) ∙ l.invariant.3
+    sym (row_open _ _ _ _ made.len l.k made.rows _ (omega (arith, lt.true, l.invariant.2)) rs.ensures c.if-not-row_settled.true) ∙ l.invariant.3
 
 pub loop-k-preserved : goal.loop-k-preserved
 loop-k-preserved c =
@@ -23,7 +22,7 @@ loop-k-preserved c =
     let lt = c.loop-k-test in
     let l = c.loop-k in
     let made = c.args.made in
-    (search rules, l.invariant.1, l.invariant.2, sym (row_next _ _ _ _ made.len l.k made.rows _ (omega (arith, lt.true, l.invariant.2)) rs.ensures (not-false _ c.if-not-row_settled.false-raw)) ∙ l.invariant.3)
+    (search rules, l.invariant.1, l.invariant.2, sym (row_next _ _ _ _ made.len l.k made.rows _ (omega (arith, lt.true, l.invariant.2)) rs.ensures c.if-not-row_settled.false) ∙ l.invariant.3)
 
 pub returns : goal.returns
 returns c =
