@@ -5,7 +5,9 @@ that run after it (tools/archive, tools/try-edits) check over those instead, whe
 """
 
 import importlib.util
+import json
 import os
+import re
 import subprocess
 import sys
 
@@ -60,3 +62,19 @@ def said_by(words, folder):
     """Runs a command and returns its status and what it said."""
     ran = subprocess.run(words, cwd=folder, stdin=subprocess.DEVNULL, stdout=subprocess.PIPE, stderr=subprocess.STDOUT, errors="replace")
     return ran.returncode, ran.stdout
+
+
+def functions(crate):
+    """How many functions of the crate were proved: a library says so as it was built; a program's and a static library's stand in its sources."""
+    if os.path.isfile(f"{crate.rlib}/toolchain/mir.json"):
+        with open(f"{crate.rlib}/toolchain/mir.json", encoding="utf-8") as it:
+            return len(json.load(it))
+    texts = [rtlib.text_of(it) for it in rtlib.files_of(crate.folder) if it.endswith(".rt")]
+    return sum(len(re.findall(r'^ *(?:pub )?(?:extern "C" )?fn ', it, re.M)) for it in texts)
+
+
+if __name__ == "__main__":
+    # tools/kit.py CRATE..: a line for each crate, with its number of functions
+    every = crates()
+    for name in sys.argv[1:]:
+        print(f"proved: {name}, {functions(every[name])} functions")

@@ -57,7 +57,7 @@ pub fn version(con: &Console) {
     name(con);
     out(
         con,
-        b"; proved by rattle-kit-5b-plain logic 097e4c862dff5811\n",
+        b"; proved by rattle-kit-13f logic dac8208d650f15bf\n",
     );
 }
 
