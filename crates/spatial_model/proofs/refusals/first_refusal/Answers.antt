@@ -111,23 +111,23 @@ all_finite-requires c =
 
 pub returns-then-not-all_finite : goal.returns-then-not-all_finite
 returns-then-not-all_finite c header arguments d f =
-    not_finite (model_of header c.args.bodies.now c.args.words.now c.args.numbers.now) arguments c.args.handed c.args.room c.body_count-n.ensures c.joint_count-joints.ensures c.if-n-gt-MOST_BODIES.false c.if-joints-gt-MOST_JOINTS.false c.joints_refusal-k.ensures c.if-k-ne0.false f c.all_finite.ensures c.if-not-all_finite.true-raw
+    not_finite (model_of header c.args.bodies.now c.args.words.now c.args.numbers.now) arguments c.args.handed c.args.room c.body_count-n.ensures c.joint_count-joints.ensures c.if-n-gt-MOST_BODIES.false c.if-joints-gt-MOST_JOINTS.false c.joints_refusal-k.ensures c.if-k-ne0.false f c.all_finite.ensures (ap not c.if-not-all_finite.true)
 
 pub returns-then-dt : goal.returns-then-dt
 returns-then-dt c header arguments d f =
-    negative (model_of header c.args.bodies.now c.args.words.now c.args.numbers.now) arguments c.args.handed c.args.room c.body_count-n.ensures c.joint_count-joints.ensures c.if-n-gt-MOST_BODIES.false c.if-joints-gt-MOST_JOINTS.false c.joints_refusal-k.ensures c.if-k-ne0.false f c.all_finite.ensures c.if-not-all_finite.false-raw d c.if-dt.true
+    negative (model_of header c.args.bodies.now c.args.words.now c.args.numbers.now) arguments c.args.handed c.args.room c.body_count-n.ensures c.joint_count-joints.ensures c.if-n-gt-MOST_BODIES.false c.if-joints-gt-MOST_JOINTS.false c.joints_refusal-k.ensures c.if-k-ne0.false f c.all_finite.ensures (ap not c.if-not-all_finite.false) d c.if-dt.true
 
 pub returns-then-not-handed : goal.returns-then-not-handed
 returns-then-not-handed c header arguments d f =
-    not-handed (model_of header c.args.bodies.now c.args.words.now c.args.numbers.now) arguments c.args.handed c.args.room c.body_count-n.ensures c.joint_count-joints.ensures c.if-n-gt-MOST_BODIES.false c.if-joints-gt-MOST_JOINTS.false c.joints_refusal-k.ensures c.if-k-ne0.false f c.all_finite.ensures c.if-not-all_finite.false-raw d c.if-dt.false (not-true c.args.handed c.if-not-handed.true-raw)
+    not-handed (model_of header c.args.bodies.now c.args.words.now c.args.numbers.now) arguments c.args.handed c.args.room c.body_count-n.ensures c.joint_count-joints.ensures c.if-n-gt-MOST_BODIES.false c.if-joints-gt-MOST_JOINTS.false c.joints_refusal-k.ensures c.if-k-ne0.false f c.all_finite.ensures (ap not c.if-not-all_finite.false) d c.if-dt.false (not-true c.args.handed (ap not c.if-not-handed.true))
 
 pub rows_before-requires : goal.rows_before-requires
 rows_before-requires c = rw c.joint_count-joints.ensures (joints-words space _ _)
 
 pub returns-then-rows_before-room : goal.returns-then-rows_before-room
 returns-then-rows_before-room c header arguments d f =
-    no_room (model_of header c.args.bodies.now c.args.words.now c.args.numbers.now) arguments c.args.handed c.args.room c.body_count-n.ensures c.joint_count-joints.ensures c.if-n-gt-MOST_BODIES.false c.if-joints-gt-MOST_JOINTS.false c.joints_refusal-k.ensures c.if-k-ne0.false f c.all_finite.ensures c.if-not-all_finite.false-raw d c.if-dt.false (not-false c.args.handed c.if-not-handed.false-raw) c.rows_before.ensures c.if-rows_before-room.true
+    no_room (model_of header c.args.bodies.now c.args.words.now c.args.numbers.now) arguments c.args.handed c.args.room c.body_count-n.ensures c.joint_count-joints.ensures c.if-n-gt-MOST_BODIES.false c.if-joints-gt-MOST_JOINTS.false c.joints_refusal-k.ensures c.if-k-ne0.false f c.all_finite.ensures (ap not c.if-not-all_finite.false) d c.if-dt.false (not-false c.args.handed (ap not c.if-not-handed.false)) c.rows_before.ensures c.if-rows_before-room.true
 
 pub returns : goal.returns
 returns c header arguments d f =
-    granted (model_of header c.args.bodies.now c.args.words.now c.args.numbers.now) arguments c.args.handed c.args.room c.body_count-n.ensures c.joint_count-joints.ensures c.if-n-gt-MOST_BODIES.false c.if-joints-gt-MOST_JOINTS.false c.joints_refusal-k.ensures c.if-k-ne0.false f c.all_finite.ensures c.if-not-all_finite.false-raw d c.if-dt.false (not-false c.args.handed c.if-not-handed.false-raw) c.rows_before.ensures c.if-rows_before-room.false
+    granted (model_of header c.args.bodies.now c.args.words.now c.args.numbers.now) arguments c.args.handed c.args.room c.body_count-n.ensures c.joint_count-joints.ensures c.if-n-gt-MOST_BODIES.false c.if-joints-gt-MOST_JOINTS.false c.joints_refusal-k.ensures c.if-k-ne0.false f c.all_finite.ensures (ap not c.if-not-all_finite.false) d c.if-dt.false (not-false c.args.handed (ap not c.if-not-handed.false)) c.rows_before.ensures c.if-rows_before-room.false
