@@ -56,26 +56,26 @@ fn vector_of(op: u32, x: [f32; 8]) -> Vector {
     }
 }
 
-fn answer(op: u32, x: [f32; 8]) {
+fn answer(rt: HostRuntime, op: u32, x: [f32; 8]) {
     if op <= 10 {
-        show(number_of(op, x));
+        show(rt, number_of(op, x));
         return;
     }
     if op <= 19 {
-        show_vector(vector_of(op, x));
+        show_vector(rt, vector_of(op, x));
         return;
     }
     match op {
-        20 => show_clamp(clamp(x[0], x[1], x[2])),
-        21 => show_truth(is_finite(x[0])),
-        _ => report(x[0]),
+        20 => show_clamp(rt, clamp(x[0], x[1], x[2])),
+        21 => show_truth(rt, is_finite(x[0])),
+        _ => report(rt, x[0]),
     }
 }
 
-pub fn leaf(text: &[u8], l: Line) {
+pub fn leaf(rt: HostRuntime, text: &[u8], l: Line) {
     if l.op == 0 {
         return;
     }
-    name(text, l.name);
-    answer(l.op, floats_at(text, l.a));
+    name(rt, text, l.name);
+    answer(rt, l.op, floats_at(text, l.a));
 }

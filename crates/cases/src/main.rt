@@ -8,7 +8,8 @@ use crate::leaves::leaf;
 use crate::line::{Line, next_case};
 use crate::models::{State, draw_words, run_given, run_named, start};
 use crate::show::name;
-use libc::STDIN_FILENO;
+use std::io;
+use std::io::Read;
 use study_reader::words::next_line;
 
 mod leaves;
@@ -16,8 +17,12 @@ mod line;
 mod models;
 mod show;
 
+// More bytes than this are not read.
+const MOST: u64 = 8192;
+
 // One line. A call is given as much of the storage as the lines before it say.
 fn run_line(
+    rt: HostRuntime,
     text: &[u8],
     s: State,
     bodies: &mut [f32],
@@ -27,7 +32,7 @@ fn run_line(
     l: Line,
 ) -> State {
     if l.op < 30 {
-        leaf(text, l);
+        leaf(rt, text, l);
         return s;
     }
     if l.op < 40 {
@@ -39,8 +44,9 @@ fn run_line(
     if b <= bodies.len() {
         if w <= words.len() {
             if r <= rows.len() {
-                name(text, l.name);
+                name(rt, text, l.name);
                 return run_named(
+                    rt,
                     text,
                     s,
                     &mut bodies[..b],
@@ -55,7 +61,14 @@ fn run_line(
     s
 }
 
-fn run(text: &[u8], bodies: &mut [f32], words: &mut [u32], numbers: &mut [f32], rows: &mut [f32]) {
+fn run(
+    rt: HostRuntime,
+    text: &[u8],
+    bodies: &mut [f32],
+    words: &mut [u32],
+    numbers: &mut [f32],
+    rows: &mut [f32],
+) {
     let mut s = start();
     let mut lines = text.len();
     while 0 < lines {
@@ -64,18 +77,26 @@ fn run(text: &[u8], bodies: &mut [f32], words: &mut [u32], numbers: &mut [f32], 
         }
         let l = next_case(text, s.at);
         s.at = next_line(text, l.a);
-        s = run_line(text, s, bodies, words, numbers, rows, l);
+        s = run_line(rt, text, s, bodies, words, numbers, rows, l);
         lines -= 1;
     }
 }
 
-fn main() {
-    let mut text = [0u8; 8192];
+fn main(rt: HostRuntime) -> io::Result<()> {
+    let mut text = Vec::new(rt.alloc());
     let mut bodies = [0.0f32; 1290];
     let mut words = [0u32; 1548];
     let mut numbers = [0.0f32; 5418];
     let mut rows = [0.0f32; 54];
-    let n = io::read_full(STDIN_FILENO, &mut text);
+    rt.stdin().take(MOST).read_to_end(&mut text)?;
     draw_words(&mut words);
-    run(&text[..n], &mut bodies, &mut words, &mut numbers, &mut rows);
+    run(
+        rt,
+        text.as_slice(),
+        &mut bodies,
+        &mut words,
+        &mut numbers,
+        &mut rows,
+    );
+    Ok(())
 }

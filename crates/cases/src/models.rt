@@ -116,24 +116,24 @@ pub fn run_given(
 
 // ---- calls
 
-fn plain(answer: Plain) {
+fn plain(rt: HostRuntime, answer: Plain) {
     match answer {
-        Plain::Granted => ended(0),
-        Plain::Refused(k) => ended(k),
+        Plain::Granted => ended(rt, 0),
+        Plain::Refused(k) => ended(rt, k),
     }
 }
 
-fn loaded(answer: LoadAnswer) {
+fn loaded(rt: HostRuntime, answer: LoadAnswer) {
     match answer {
-        LoadAnswer::Loaded(_) => ended(0),
-        LoadAnswer::Refused(k) => ended(k),
+        LoadAnswer::Loaded(_) => ended(rt, 0),
+        LoadAnswer::Refused(k) => ended(rt, k),
     }
 }
 
-fn read(answer: VelocityAnswer) {
+fn read(rt: HostRuntime, answer: VelocityAnswer) {
     match answer {
-        VelocityAnswer::Velocity(_) => ended(0),
-        VelocityAnswer::Refused(k) => ended(k),
+        VelocityAnswer::Velocity(_) => ended(rt, 0),
+        VelocityAnswer::Refused(k) => ended(rt, k),
     }
 }
 
@@ -145,10 +145,10 @@ fn row_number(n: usize) -> u32 {
     769
 }
 
-fn built(answer: BuildAnswer) {
+fn built(rt: HostRuntime, answer: BuildAnswer) {
     match answer {
-        BuildAnswer::Built(_, n) => show_number(row_number(n)),
-        BuildAnswer::Refused(k) => ended(k),
+        BuildAnswer::Built(_, n) => show_number(rt, row_number(n)),
+        BuildAnswer::Refused(k) => ended(rt, k),
     }
 }
 
@@ -187,6 +187,7 @@ fn wide(x: u8) -> u32 {
 }
 
 fn swept(
+    rt: HostRuntime,
     s: State,
     bodies: &mut [f32],
     words: &[u32],
@@ -198,7 +199,7 @@ fn swept(
     let done = sweep(s.header, bodies, words, numbers, rows, n);
     let answer = done.answer;
     let counts = done.counts;
-    plain(answer);
+    plain(rt, answer);
     let mut t = s;
     t.count = wide(counts[0]);
     t.unchanged = before == checksum(checksum(0, bodies), rows);
@@ -206,6 +207,7 @@ fn swept(
 }
 
 fn rows_read(
+    rt: HostRuntime,
     s: State,
     bodies: &[f32],
     words: &[u32],
@@ -216,7 +218,7 @@ fn rows_read(
     let asked = read_rows(s.header, bodies, words, numbers, rows, j);
     let answer = asked.answer;
     let made = asked.rows;
-    plain(answer);
+    plain(rt, answer);
     let mut t = s;
     t.count = row_number(made.len);
     t
@@ -224,6 +226,7 @@ fn rows_read(
 
 // The bytes of a motor table stand after the line; its argument says how many.
 fn targets(
+    rt: HostRuntime,
     text: &[u8],
     s: State,
     bodies: &[f32],
@@ -241,7 +244,7 @@ fn targets(
                 end: end,
             },
         );
-        plain(set_targets(s.header, bodies, words, numbers, table));
+        plain(rt, set_targets(s.header, bodies, words, numbers, table));
         let mut t = s;
         t.at = next_line(text, end);
         return t;
@@ -250,20 +253,31 @@ fn targets(
 }
 
 // The bounds of the third row of a joint.
-fn bounds(s: State, bodies: &[f32], words: &[u32], numbers: &[f32], rows: &[f32], j: u32) {
+fn bounds(
+    rt: HostRuntime,
+    s: State,
+    bodies: &[f32],
+    words: &[u32],
+    numbers: &[f32],
+    rows: &[f32],
+    j: u32,
+) {
     let asked = read_rows(s.header, bodies, words, numbers, rows, j);
     let made = asked.rows;
     let row = made.rows[2];
-    show_vector(Vector {
-        x: row.impulse_min,
-        y: row.impulse_max,
-    });
+    show_vector(
+        rt,
+        Vector {
+            x: row.impulse_min,
+            y: row.impulse_max,
+        },
+    );
 }
 
 // The number at a place of the joints' numbers.
-fn target(numbers: &[f32], at: usize) {
+fn target(rt: HostRuntime, numbers: &[f32], at: usize) {
     if at < numbers.len() {
-        show(numbers[at]);
+        show(rt, numbers[at]);
     }
 }
 
@@ -280,20 +294,21 @@ fn masks(text: &[u8], l: Line) -> Masks {
 }
 
 // Whether the model is still built.
-fn changed(answer: LoadAnswer) {
+fn changed(rt: HostRuntime, answer: LoadAnswer) {
     match answer {
-        LoadAnswer::Loaded(after) => show_truth(after.built),
-        LoadAnswer::Refused(k) => ended(k),
+        LoadAnswer::Loaded(after) => show_truth(rt, after.built),
+        LoadAnswer::Refused(k) => ended(rt, k),
     }
 }
 
-fn stored_word(words: &[u32], at: usize) {
+fn stored_word(rt: HostRuntime, words: &[u32], at: usize) {
     if at < words.len() {
-        show_number(words[at]);
+        show_number(rt, words[at]);
     }
 }
 
 fn working(
+    rt: HostRuntime,
     text: &[u8],
     s: State,
     bodies: &mut [f32],
@@ -306,24 +321,34 @@ fn working(
     let op = l.op;
     let n = whole_at(text, l.a);
     match op {
-        40 => loaded(load(h, bodies, words, numbers, rows)),
-        41 => plain(place(h, bodies, words, numbers, n, pose(float_at(text, l.b)))),
-        44 => plain(warm_start(h, bodies, words, numbers, rows)),
-        46 => plain(remove_bias(h, bodies, words, numbers, rows)),
-        47 => plain(write_back(h, bodies, words, numbers, rows)),
-        49 => read(read_velocity(h, bodies, words, numbers, n)),
-        51 => bounds(s, bodies, words, numbers, rows, n),
-        52 => target(numbers, n as usize),
-        53 => show_number(s.count),
-        54 => show_truth(s.unchanged),
-        55 => changed(set_masks(h, bodies, words, numbers, rows, n, masks(text, l))),
-        56 => stored_word(words, n as usize),
-        _ => built(build(h, bodies, words, numbers, rows, warmth(text, l), n)),
+        40 => loaded(rt, load(h, bodies, words, numbers, rows)),
+        41 => plain(
+            rt,
+            place(h, bodies, words, numbers, n, pose(float_at(text, l.b))),
+        ),
+        44 => plain(rt, warm_start(h, bodies, words, numbers, rows)),
+        46 => plain(rt, remove_bias(h, bodies, words, numbers, rows)),
+        47 => plain(rt, write_back(h, bodies, words, numbers, rows)),
+        49 => read(rt, read_velocity(h, bodies, words, numbers, n)),
+        51 => bounds(rt, s, bodies, words, numbers, rows, n),
+        52 => target(rt, numbers, n as usize),
+        53 => show_number(rt, s.count),
+        54 => show_truth(rt, s.unchanged),
+        55 => changed(
+            rt,
+            set_masks(h, bodies, words, numbers, rows, n, masks(text, l)),
+        ),
+        56 => stored_word(rt, words, n as usize),
+        _ => built(
+            rt,
+            build(h, bodies, words, numbers, rows, warmth(text, l), n),
+        ),
     }
 }
 
 // A line whose answer is printed after its name.
 pub fn run_named(
+    rt: HostRuntime,
     text: &[u8],
     s: State,
     bodies: &mut [f32],
@@ -335,11 +360,11 @@ pub fn run_named(
     let op = l.op;
     let n = whole_at(text, l.a);
     match op {
-        45 => swept(s, bodies, words, numbers, rows, n),
-        48 => rows_read(s, bodies, words, numbers, rows, n),
-        50 => targets(text, s, bodies, words, numbers, n),
+        45 => swept(rt, s, bodies, words, numbers, rows, n),
+        48 => rows_read(rt, s, bodies, words, numbers, rows, n),
+        50 => targets(rt, text, s, bodies, words, numbers, n),
         _ => {
-            working(text, s, bodies, words, numbers, rows, l);
+            working(rt, text, s, bodies, words, numbers, rows, l);
             s
         }
     }

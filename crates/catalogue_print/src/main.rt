@@ -2,18 +2,19 @@
 #![tactic(auto)]
 
 use catalogue::text::write_catalogue;
-use libc::STDOUT_FILENO;
+use std::io;
 
 // The bytes that `write_catalogue` puts into the slice.
-fn print_catalogue(out: &mut [u8]) {
+fn print_catalogue(rt: HostRuntime, out: &mut [u8]) -> io::Result<()> {
     let len = write_catalogue(&mut *out);
     if len <= out.len() {
-        io::write_all(STDOUT_FILENO, &out[..len]);
+        rt.write_all(&out[..len])?;
     }
+    Ok(())
 }
 
-fn main() {
+fn main(rt: HostRuntime) -> io::Result<()> {
     // The text has 105280 bytes.
     let mut space = [0u8; 131072];
-    print_catalogue(&mut space);
+    print_catalogue(rt, &mut space)
 }

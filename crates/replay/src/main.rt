@@ -11,7 +11,6 @@ use floats::pose::Pose;
 use floats::rotation_ops::Rotation;
 use floats::vector::Vector;
 use frames::frame::frame;
-use libc::{STDIN_FILENO, STDOUT_FILENO};
 use model::calls::{
     BuildAnswer, LoadAnswer, Plain, VelocityAnswer, build, load, place, read_rows, read_velocity,
     remove_bias, set_masks, set_targets, sweep, warm_start, write_back,
@@ -22,6 +21,8 @@ use rows::integration_parameters::IntegrationParameters;
 use rows::joint_constraint_builder::Warmstart;
 use rows::joint_velocity_constraint::{JointConstraint, Rows, WritebackId};
 use rows::row_ids::RowIds;
+use std::io;
+use std::io::Read;
 
 // ---- tokens
 
@@ -41,9 +42,9 @@ fn half(a: u8, b: u8, c: u8, d: u8) -> u32 {
 }
 
 // The next token; 0 past the end.
-fn token() -> u32 {
+fn token(rt: HostRuntime) -> u32 {
     let mut text = [0u8; 9];
-    if io::read_full(STDIN_FILENO, &mut text) < 9 {
+    if rt.stdin().read_exact(&mut text).is_err() {
         return 0;
     }
     let high = half(text[0], text[1], text[2], text[3]);
@@ -55,8 +56,8 @@ fn token() -> u32 {
 const MOST: u32 = 1000;
 
 // A token that counts studies or lines.
-fn how_many() -> u32 {
-    let n = token();
+fn how_many(rt: HostRuntime) -> u32 {
+    let n = token(rt);
     if n < MOST {
         return n;
     }
@@ -64,35 +65,41 @@ fn how_many() -> u32 {
 }
 
 // A slice filled with tokens.
-fn read_numbers(s: &mut [f32]) {
+fn read_numbers(rt: HostRuntime, s: &mut [f32]) {
     let mut i = 0usize;
     while i < s.len() {
-        s[i] = from_bits(token());
+        s[i] = from_bits(token(rt));
         i += 1;
     }
 }
 
-fn read_words(s: &mut [u32]) {
+fn read_words(rt: HostRuntime, s: &mut [u32]) {
     let mut i = 0usize;
     while i < s.len() {
-        s[i] = token();
+        s[i] = token(rt);
         i += 1;
     }
 }
 
-fn read_bytes(s: &mut [u8]) {
+fn read_bytes(rt: HostRuntime, s: &mut [u8]) {
     let mut i = 0usize;
     while i < s.len() {
-        s[i] = (token() % 256) as u8;
+        s[i] = (token(rt) % 256) as u8;
         i += 1;
     }
 }
 
-fn read_storage(bodies: &mut [f32], words: &mut [u32], numbers: &mut [f32], rows: &mut [f32]) {
-    read_numbers(bodies);
-    read_words(words);
-    read_numbers(numbers);
-    read_numbers(rows);
+fn read_storage(
+    rt: HostRuntime,
+    bodies: &mut [f32],
+    words: &mut [u32],
+    numbers: &mut [f32],
+    rows: &mut [f32],
+) {
+    read_numbers(rt, bodies);
+    read_words(rt, words);
+    read_numbers(rt, numbers);
+    read_numbers(rt, rows);
 }
 
 // ---- checksums, h·31 + x modulo 2^32 from number to number
@@ -236,13 +243,13 @@ struct Line {
     e: u32,
 }
 
-fn next_line() -> Line {
-    let op = token();
-    let a = token();
-    let b = token();
-    let c = token();
-    let d = token();
-    let e = token();
+fn next_line(rt: HostRuntime) -> Line {
+    let op = token(rt);
+    let a = token(rt);
+    let b = token(rt);
+    let c = token(rt);
+    let d = token(rt);
+    let e = token(rt);
     Line {
         op: op,
         a: a,
@@ -436,24 +443,33 @@ fn run_read_velocity(
 
 // A motor table, whose bytes stand after the line, a token each.
 fn run_set_targets(
+    rt: HostRuntime,
     header: Header,
     bodies: &[f32],
     words: &[u32],
     numbers: &mut [f32],
     table: &mut [u8],
 ) -> Done {
-    read_bytes(table);
+    read_bytes(rt, table);
     plain(header, set_targets(header, bodies, words, numbers, table))
 }
 
-fn run_table(l: Line, header: Header, bodies: &[f32], words: &[u32], numbers: &mut [f32]) -> Done {
+fn run_table(
+    rt: HostRuntime,
+    l: Line,
+    header: Header,
+    bodies: &[f32],
+    words: &[u32],
+    numbers: &mut [f32],
+) -> Done {
     let mut table = [0u8; 400];
     let n = least(l.a as usize, 400);
-    run_set_targets(header, bodies, words, numbers, &mut table[0..n])
+    run_set_targets(rt, header, bodies, words, numbers, &mut table[0..n])
 }
 
 // A call on what is handed over.
 fn call(
+    rt: HostRuntime,
     l: Line,
     header: Header,
     bodies: &mut [f32],
@@ -471,7 +487,7 @@ fn call(
         5 => plain(header, remove_bias(header, bodies, words, numbers, rows)),
         6 => plain(header, write_back(header, bodies, words, numbers, rows)),
         7 => run_read_rows(l, header, bodies, words, numbers, rows),
-        11 => run_table(l, header, bodies, words, numbers),
+        11 => run_table(rt, l, header, bodies, words, numbers),
         12 => run_set_masks(l, header, bodies, words, numbers, rows),
         13 => run_frame(l, header, bodies, words, numbers, rows),
         _ => run_read_velocity(l, header, bodies, words, numbers),
@@ -600,6 +616,7 @@ struct Outcome {
 
 // A call on as much of each storage as is handed over.
 fn call_on(
+    rt: HostRuntime,
     l: Line,
     header: Header,
     lengths: Lengths,
@@ -613,6 +630,7 @@ fn call_on(
     let n = least(lengths.numbers, numbers.len());
     let r = least(lengths.rows, rows.len());
     call(
+        rt,
         l,
         header,
         &mut bodies[0..b],
@@ -623,6 +641,7 @@ fn call_on(
 }
 
 fn run(
+    rt: HostRuntime,
     l: Line,
     at: At,
     bodies: &mut [f32],
@@ -650,7 +669,7 @@ fn run(
         };
     }
     Outcome {
-        done: call_on(l, header, lengths, bodies, words, numbers, rows),
+        done: call_on(rt, l, header, lengths, bodies, words, numbers, rows),
         lengths: lengths,
     }
 }
@@ -670,17 +689,18 @@ fn differs(done: Done, sum: u32, high: u32, low: u32, checksum: u32) -> u64 {
 
 // One line: done, and its answer and the checksum compared with the stored ones.
 fn turn(
+    rt: HostRuntime,
     at: At,
     bodies: &mut [f32],
     words: &mut [u32],
     numbers: &mut [f32],
     rows: &mut [f32],
 ) -> At {
-    let l = next_line();
-    let high = token();
-    let low = token();
-    let checksum = token();
-    let outcome = run(l, at, bodies, words, numbers, rows);
+    let l = next_line(rt);
+    let high = token(rt);
+    let low = token(rt);
+    let checksum = token(rt);
+    let outcome = run(rt, l, at, bodies, words, numbers, rows);
     let done = outcome.done;
     let header = done.header;
     let lengths = outcome.lengths;
@@ -704,6 +724,7 @@ struct Count {
 
 // A study's lines, over storage of just its size.
 fn lines(
+    rt: HostRuntime,
     header: Header,
     n: u32,
     bodies: &mut [f32],
@@ -711,7 +732,7 @@ fn lines(
     numbers: &mut [f32],
     rows: &mut [f32],
 ) -> Count {
-    read_storage(bodies, words, numbers, rows);
+    read_storage(rt, bodies, words, numbers, rows);
     let mut at = At {
         header: header,
         lengths: Lengths {
@@ -724,7 +745,7 @@ fn lines(
     };
     let mut i = 0u32;
     while i < n {
-        at = turn(at, bodies, words, numbers, rows);
+        at = turn(rt, at, bodies, words, numbers, rows);
         i += 1;
     }
     Count {
@@ -734,15 +755,21 @@ fn lines(
 }
 
 // The next study.
-fn study(bodies: &mut [f32], words: &mut [u32], numbers: &mut [f32], rows: &mut [f32]) -> Count {
-    let b = least(token() as usize, bodies.len());
-    let w = least(token() as usize, words.len());
-    let n = least(token() as usize, numbers.len());
-    let r = least(token() as usize, rows.len());
-    let count = how_many();
-    let dt = from_bits(token());
-    let length_unit = from_bits(token());
-    let normalized = from_bits(token());
+fn study(
+    rt: HostRuntime,
+    bodies: &mut [f32],
+    words: &mut [u32],
+    numbers: &mut [f32],
+    rows: &mut [f32],
+) -> Count {
+    let b = least(token(rt) as usize, bodies.len());
+    let w = least(token(rt) as usize, words.len());
+    let n = least(token(rt) as usize, numbers.len());
+    let r = least(token(rt) as usize, rows.len());
+    let count = how_many(rt);
+    let dt = from_bits(token(rt));
+    let length_unit = from_bits(token(rt));
+    let normalized = from_bits(token(rt));
     let header = Header {
         params: IntegrationParameters {
             dt: dt,
@@ -752,6 +779,7 @@ fn study(bodies: &mut [f32], words: &mut [u32], numbers: &mut [f32], rows: &mut 
         built: false,
     };
     lines(
+        rt,
         header,
         count,
         &mut bodies[0..b],
@@ -761,23 +789,20 @@ fn study(bodies: &mut [f32], words: &mut [u32], numbers: &mut [f32], rows: &mut 
     )
 }
 
-fn main() {
+fn main(rt: HostRuntime) -> io::Result<()> {
     let mut bodies = [0.0f32; 1300];
     let mut words = [0u32; 1600];
     let mut numbers = [0.0f32; 5500];
     let mut rows = [0.0f32; 1000];
-    let studies = how_many();
+    let studies = how_many(rt);
     let mut i = 0u32;
     let mut run = 0u64;
     let mut wrong = 0u64;
     while i < studies {
-        let count = study(&mut bodies, &mut words, &mut numbers, &mut rows);
+        let count = study(rt, &mut bodies, &mut words, &mut numbers, &mut rows);
         run = run % 4294967296 + count.lines % 4294967296;
         wrong = wrong % 4294967296 + count.wrong % 4294967296;
         i += 1;
     }
-    io::print_decimal(STDOUT_FILENO, run);
-    io::write_all(STDOUT_FILENO, b" lines, ");
-    io::print_decimal(STDOUT_FILENO, wrong);
-    io::write_all(STDOUT_FILENO, b" wrong\n");
+    println!(rt; "{run} lines, {wrong} wrong")
 }

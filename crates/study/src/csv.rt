@@ -1,6 +1,6 @@
 // The tables of several studies as one: comma-separated values (RFC 4180) under one heading, with the study's file, the line of the call and the number of
 // the table in front of what `table csv` prints.
-use crate::out::{out, out_millionths, out_number, out_part};
+use crate::out::{Console, out, out_millionths, out_number, out_part};
 use crate::table::{Heading, Line, Values, heading_of, out_heading, reaction_line, text_joint};
 use decimals::spelled::spelled;
 use floats::bits::to_bits;
@@ -14,6 +14,7 @@ use study_reader::names::body_name;
 use study_reader::words::{Word, line_of};
 use study_run::motors::Motors;
 use study_text::csv_reaction::write_csv_reaction_heading;
+use texts::hex::hex_word;
 
 // What is printed of a study: all that its calls print, or at each table its rows, its reactions or its velocities alone.
 pub const ALL: u32 = 0;
@@ -44,26 +45,26 @@ fn has_reserved(field: &[u8]) -> bool {
     false
 }
 
-fn out_quoted(field: &[u8]) {
-    out(b"\"");
+fn out_quoted(con: &Console, field: &[u8]) {
+    out(con, b"\"");
     let mut i: usize = 0;
     while i < field.len() {
         if field[i] == b'"' {
-            out(b"\"");
+            out(con, b"\"");
         }
-        out_part(field, i, i + 1);
+        out_part(con, field, i, i + 1);
         i += 1;
     }
-    out(b"\"");
+    out(con, b"\"");
 }
 
 // A field, in quotes where RFC 4180 wants them.
-fn out_field(field: &[u8]) {
+fn out_field(con: &Console, field: &[u8]) {
     if has_reserved(field) {
-        out_quoted(field);
+        out_quoted(con, field);
         return;
     }
-    out(field);
+    out(con, field);
 }
 
 // Which table this is: the place of its call, and its number in the study.
@@ -73,35 +74,36 @@ pub struct Table {
     pub number: u32,
 }
 
-fn out_front(name: &[u8], text: &[u8], t: Table) {
-    out_field(name);
-    out(b",");
-    out_number(line_of(text, t.at));
-    out(b",");
-    out_number(t.number as u64);
-    out(b",");
+fn out_front(con: &Console, name: &[u8], text: &[u8], t: Table) {
+    out_field(con, name);
+    out(con, b",");
+    out_number(con, line_of(text, t.at));
+    out(con, b",");
+    out_number(con, t.number as u64);
+    out(con, b",");
 }
 
 // ---- headings
 
 // The heading of reactions without the empty line before it.
-fn out_reaction_fields() {
-    let mut line = io::buffer();
+fn out_reaction_fields(con: &Console) {
+    let mut line = [0u8; 4096];
     let n = write_csv_reaction_heading(&mut line);
-    out_part(&line, 2, n);
+    out_part(con, &line, 2, n);
 }
 
-pub fn out_csv_heading(kind: u32) {
-    out(b"file,line,table,");
+pub fn out_csv_heading(con: &Console, kind: u32) {
+    out(con, b"file,line,table,");
     if kind == ROWS {
-        out(b"motors of the joint low or high in the last round,");
-        out_heading(true);
+        out(con, b"motors of the joint low or high in the last round,");
+        out_heading(con, true);
     }
     if kind == REACTIONS {
-        out_reaction_fields();
+        out_reaction_fields(con);
     }
     if kind == VELOCITIES {
         out(
+            con,
             b"body,velocity x [1e-6 m/s],velocity x [m/s],velocity x [f32 bits],velocity y [1e-6 m/s],velocity y [m/s],velocity y [f32 bits],angular velocity [1e-6 rad/s],angular velocity [rad/s],angular velocity [f32 bits]\r\n",
         );
     }
@@ -109,16 +111,17 @@ pub fn out_csv_heading(kind: u32) {
 
 // ---- rows
 
-fn out_motors(h: Heading) {
+fn out_motors(con: &Console, h: Heading) {
     if h.swept {
-        out_number(h.motors as u64);
+        out_number(con, h.motors as u64);
     } else {
-        out(b"-");
+        out(con, b"-");
     }
-    out(b",");
+    out(con, b",");
 }
 
 fn row_records(
+    con: &Console,
     name: &[u8],
     text: &[u8],
     names: &[u32],
@@ -143,9 +146,9 @@ fn row_records(
                 high: row.impulse_max,
                 residual: residual_at(bodies, words, row, joint),
             };
-            out_front(name, text, t);
-            out_motors(h);
-            text_joint(text, names, h, Line::Row(values));
+            out_front(con, name, text, t);
+            out_motors(con, h);
+            text_joint(con, text, names, h, Line::Row(values));
         }
         i += 1;
     }
@@ -153,6 +156,7 @@ fn row_records(
 
 // What one joint has in a table.
 fn joint_records(
+    con: &Console,
     name: &[u8],
     text: &[u8],
     names: &[u32],
@@ -166,50 +170,49 @@ fn joint_records(
     kind: u32,
 ) {
     if kind == REACTIONS {
-        out_front(name, text, t);
-        reaction_line(text, names, header, bodies, words, numbers, rows, h);
+        out_front(con, name, text, t);
+        reaction_line(con, text, names, header, bodies, words, numbers, rows, h);
         return;
     }
     let read = read_rows(header, bodies, words, numbers, rows, h.joint);
     let named = read.ids;
     let made = read.rows;
-    row_records(name, text, names, bodies, words, t, h, named, made);
+    row_records(con, name, text, names, bodies, words, t, h, named, made);
 }
 
 // ---- velocities
 
-fn out_spelled(x: f32) {
+fn out_spelled(con: &Console, x: f32) {
     let word = spelled(x);
     let bytes = word.bytes;
-    out_part(&bytes, 0, word.len);
+    out_part(con, &bytes, 0, word.len);
 }
 
-fn out_bits(x: f32) {
-    let mut digits = [0u8; 16];
-    let n = io::hex(to_bits(x) as u64, 8, &mut digits);
-    out(b"0x");
-    out(&digits[..n]);
+fn out_bits(con: &Console, x: f32) {
+    let word = hex_word(false, to_bits(x));
+    out_part(con, &word, 0, 10);
 }
 
-fn out_three(x: f32) {
-    out(b",");
-    out_millionths(x);
-    out(b",");
-    out_spelled(x);
-    out(b",");
-    out_bits(x);
+fn out_three(con: &Console, x: f32) {
+    out(con, b",");
+    out_millionths(con, x);
+    out(con, b",");
+    out_spelled(con, x);
+    out(con, b",");
+    out_bits(con, x);
 }
 
-fn out_velocity(text: &[u8], w: Word, v: SolverVel) {
+fn out_velocity(con: &Console, text: &[u8], w: Word, v: SolverVel) {
     let linear = v.linear;
-    out_part(text, w.start, w.end);
-    out_three(linear.x);
-    out_three(linear.y);
-    out_three(v.angular);
-    out(b"\r\n");
+    out_part(con, text, w.start, w.end);
+    out_three(con, linear.x);
+    out_three(con, linear.y);
+    out_three(con, v.angular);
+    out(con, b"\r\n");
 }
 
 fn velocity_record(
+    con: &Console,
     name: &[u8],
     text: &[u8],
     names: &[u32],
@@ -222,8 +225,8 @@ fn velocity_record(
 ) {
     match read_velocity(header, bodies, words, numbers, i) {
         VelocityAnswer::Velocity(v) => {
-            out_front(name, text, t);
-            out_velocity(text, body_name(names, i), v);
+            out_front(con, name, text, t);
+            out_velocity(con, text, body_name(names, i), v);
         }
         VelocityAnswer::Refused(_) => (),
     }
@@ -231,6 +234,7 @@ fn velocity_record(
 
 // The velocities of the first so many bodies.
 fn velocity_records(
+    con: &Console,
     name: &[u8],
     text: &[u8],
     names: &[u32],
@@ -243,7 +247,7 @@ fn velocity_records(
 ) {
     let mut i: u32 = 0;
     while i < count {
-        velocity_record(name, text, names, header, bodies, words, numbers, t, i);
+        velocity_record(con, name, text, names, header, bodies, words, numbers, t, i);
         i += 1;
     }
 }
@@ -251,6 +255,7 @@ fn velocity_records(
 // ---- a table
 
 fn all_records(
+    con: &Console,
     name: &[u8],
     text: &[u8],
     names: &[u32],
@@ -268,7 +273,7 @@ fn all_records(
     while j < joints {
         let h = heading_of(words, motors, j, true);
         joint_records(
-            name, text, names, header, bodies, words, numbers, rows, t, h, kind,
+            con, name, text, names, header, bodies, words, numbers, rows, t, h, kind,
         );
         j += 1;
     }
@@ -276,6 +281,7 @@ fn all_records(
 
 // The records of one kind.
 pub fn record_table(
+    con: &Console,
     name: &[u8],
     text: &[u8],
     names: &[u32],
@@ -291,11 +297,11 @@ pub fn record_table(
 ) {
     if kind == VELOCITIES {
         velocity_records(
-            name, text, names, header, bodies, words, numbers, t, st.bodies,
+            con, name, text, names, header, bodies, words, numbers, t, st.bodies,
         );
         return;
     }
     all_records(
-        name, text, names, header, bodies, words, numbers, rows, motors, st.joints, t, kind,
+        con, name, text, names, header, bodies, words, numbers, rows, motors, st.joints, t, kind,
     );
 }

@@ -1,7 +1,7 @@
 // A picture of a study as it was read, in SVG: bodies as discs, a joint's first frame as a square and its second as a ring, tied to their bodies and to
 // each other, the world as ground, stops as arcs and bars, velocities as arrows, a bar for the scale. The labels stand in a column, each at the end of
 // a line from what it names. The larger side of what is drawn is 8000 units; numbers are written as millionths, so that a unit is a millionth.
-use crate::out::{out, out_line, out_millionths, out_part};
+use crate::out::{Console, out, out_line, out_millionths, out_part};
 use crate::records::{
     body_at, body_number, frame1_at, frame1_rotation, frame2_at, frame2_rotation, joint_number,
     joint_word,
@@ -197,66 +197,72 @@ const LEADER: u32 = 28;
 
 const SCALE: u32 = 29;
 
-fn piece(k: u32) {
+fn piece(con: &Console, k: u32) {
     out_line(
+        con,
         b"<line x1=\"\n\" y1=\"\n\" x2=\"\n\" y2=\"\n<circle cx=\"\n\" cy=\"\n\" r=\"\n<rect x=\"\n\" y=\"\n\" width=\"\n\" height=\"\n<path d=\"M \n \n A \n 0 0 0 \n 0 0 1 \n 0 1 0 \n<text x=\"\n\" class=\"\nground\nneedle\nstop\ntie\nbetween\nring\njoint\nbody\nvelocity\nleader\nscale\n",
         k,
     );
 }
 
 // A piece and the number after it.
-fn put(k: u32, x: f32) {
-    piece(k);
-    out_millionths(inside(x));
+fn put(con: &Console, k: u32, x: f32) {
+    piece(con, k);
+    out_millionths(con, inside(x));
 }
 
-fn end_element(class: u32) {
-    piece(CLASS);
-    piece(class);
-    out(b"\"/>\n");
+fn end_element(con: &Console, class: u32) {
+    piece(con, CLASS);
+    piece(con, class);
+    out(con, b"\"/>\n");
 }
 
-fn line(from: Vector, to: Vector, class: u32) {
-    put(LINE, from.x);
-    put(LINE + 1, from.y);
-    put(LINE + 2, to.x);
-    put(LINE + 3, to.y);
-    end_element(class);
+fn line(con: &Console, from: Vector, to: Vector, class: u32) {
+    put(con, LINE, from.x);
+    put(con, LINE + 1, from.y);
+    put(con, LINE + 2, to.x);
+    put(con, LINE + 3, to.y);
+    end_element(con, class);
 }
 
-fn circle(p: Vector, r: f32, class: u32) {
-    put(CIRCLE, p.x);
-    put(CIRCLE + 1, p.y);
-    put(CIRCLE + 2, r);
-    end_element(class);
+fn circle(con: &Console, p: Vector, r: f32, class: u32) {
+    put(con, CIRCLE, p.x);
+    put(con, CIRCLE + 1, p.y);
+    put(con, CIRCLE + 2, r);
+    end_element(con, class);
 }
 
-fn square(p: Vector) {
-    put(RECT, p.x - units(70.0));
-    put(Y, p.y - units(70.0));
-    put(WIDTH, units(140.0));
-    put(HEIGHT, units(140.0));
-    end_element(JOINT);
+fn square(con: &Console, p: Vector) {
+    put(con, RECT, p.x - units(70.0));
+    put(con, Y, p.y - units(70.0));
+    put(con, WIDTH, units(140.0));
+    put(con, HEIGHT, units(140.0));
+    end_element(con, JOINT);
 }
 
 // A part of a circle: its ends, its radius and its flags.
-fn arc(from: Vector, to: Vector, r: f32, flags: u32, class: u32) {
-    put(PATH, from.x);
-    put(BESIDE, from.y);
-    put(ARC, r);
-    put(BESIDE, r);
-    put(flags, to.x);
-    put(BESIDE, to.y);
-    piece(BESIDE);
-    end_element(class);
+fn arc(con: &Console, from: Vector, to: Vector, r: f32, flags: u32, class: u32) {
+    put(con, PATH, from.x);
+    put(con, BESIDE, from.y);
+    put(con, ARC, r);
+    put(con, BESIDE, r);
+    put(con, flags, to.x);
+    put(con, BESIDE, to.y);
+    piece(con, BESIDE);
+    end_element(con, class);
 }
 
 // A line with strokes below it.
-fn ground(p: Vector) {
-    line(beside(p, -220.0, 70.0), beside(p, 220.0, 70.0), GROUND);
-    line(beside(p, -220.0, 190.0), beside(p, -130.0, 70.0), GROUND);
-    line(beside(p, -90.0, 190.0), beside(p, 0.0, 70.0), GROUND);
-    line(beside(p, 40.0, 190.0), beside(p, 130.0, 70.0), GROUND);
+fn ground(con: &Console, p: Vector) {
+    line(con, beside(p, -220.0, 70.0), beside(p, 220.0, 70.0), GROUND);
+    line(
+        con,
+        beside(p, -220.0, 190.0),
+        beside(p, -130.0, 70.0),
+        GROUND,
+    );
+    line(con, beside(p, -90.0, 190.0), beside(p, 0.0, 70.0), GROUND);
+    line(con, beside(p, 40.0, 190.0), beside(p, 130.0, 70.0), GROUND);
 }
 
 // ---- a joint's stops
@@ -277,13 +283,14 @@ fn stop_flags(angle: f32) -> u32 {
 }
 
 // The angular stop: an arc from its lower to its upper end about frame 1, and a needle along frame 2.
-fn angular_stop(p: Vector, turn1: Rotation, turn2: Rotation, low: f32, high: f32) {
+fn angular_stop(con: &Console, p: Vector, turn1: Rotation, turn2: Rotation, low: f32, high: f32) {
     let r = units(420.0);
-    line(p, away(p, turn2, r), NEEDLE);
+    line(con, p, away(p, turn2, r), NEEDLE);
     if high - low < 6.2831 {
         let from = turn1.mul(rotation_from_angle(low));
         let to = turn1.mul(rotation_from_angle(high));
         arc(
+            con,
             away(p, from, r),
             away(p, to, r),
             r,
@@ -291,19 +298,26 @@ fn angular_stop(p: Vector, turn1: Rotation, turn2: Rotation, low: f32, high: f32
             STOP,
         );
         line(
+            con,
             away(p, from, units(340.0)),
             away(p, from, units(500.0)),
             STOP,
         );
-        line(away(p, to, units(340.0)), away(p, to, units(500.0)), STOP);
+        line(
+            con,
+            away(p, to, units(340.0)),
+            away(p, to, units(500.0)),
+            STOP,
+        );
         return;
     }
-    circle(p, r, STOP);
+    circle(con, p, r, STOP);
 }
 
-fn end_stroke(p: Vector, along: Rotation, across: Rotation, x: f32) {
+fn end_stroke(con: &Console, p: Vector, along: Rotation, across: Rotation, x: f32) {
     let end = away(p, along, x);
     line(
+        con,
         away(end, across, units(-90.0)),
         away(end, across, units(90.0)),
         STOP,
@@ -311,17 +325,17 @@ fn end_stroke(p: Vector, along: Rotation, across: Rotation, x: f32) {
 }
 
 // A linear stop: a bar along an axis of frame 1, with a stroke at each end.
-fn linear_stop(p: Vector, along: Rotation, across: Rotation, low: f32, high: f32) {
+fn linear_stop(con: &Console, p: Vector, along: Rotation, across: Rotation, low: f32, high: f32) {
     let from = inside(low);
     let to = inside(high);
-    line(away(p, along, from), away(p, along, to), STOP);
-    end_stroke(p, along, across, from);
-    end_stroke(p, along, across, to);
+    line(con, away(p, along, from), away(p, along, to), STOP);
+    end_stroke(con, p, along, across, from);
+    end_stroke(con, p, along, across, to);
 }
 
 // A coupled limit keeps the distance of the frames below the upper end of the first coupled axis.
-fn coupled_stop(pic: Picture, p: Vector, high: f32) {
-    circle(p, inside(high * pic.scale), STOP);
+fn coupled_stop(con: &Console, pic: Picture, p: Vector, high: f32) {
+    circle(con, p, inside(high * pic.scale), STOP);
 }
 
 fn quarter(turn: Rotation) -> Rotation {
@@ -354,10 +368,19 @@ fn is_coupled_stop(m: Masks) -> bool {
     m.is_coupled(1) && m.is_limit(1)
 }
 
-fn linear_stops(pic: Picture, draft: &[f32], j: u32, m: Masks, p: Vector, turn: Rotation) {
+fn linear_stops(
+    con: &Console,
+    pic: Picture,
+    draft: &[f32],
+    j: u32,
+    m: Masks,
+    p: Vector,
+    turn: Rotation,
+) {
     let side = quarter(turn);
     if is_drawn(m, 0) {
         linear_stop(
+            con,
             p,
             turn,
             side,
@@ -367,6 +390,7 @@ fn linear_stops(pic: Picture, draft: &[f32], j: u32, m: Masks, p: Vector, turn: 
     }
     if is_drawn(m, 1) {
         linear_stop(
+            con,
             p,
             side,
             turn,
@@ -375,7 +399,7 @@ fn linear_stops(pic: Picture, draft: &[f32], j: u32, m: Masks, p: Vector, turn: 
         );
     }
     if is_coupled_stop(m) {
-        coupled_stop(pic, p, joint_number(draft, j, coupled_end(m)));
+        coupled_stop(con, pic, p, joint_number(draft, j, coupled_end(m)));
     }
 }
 
@@ -388,13 +412,14 @@ fn masks_of(words: &[u32], j: u32) -> Masks {
     }
 }
 
-fn stops(pic: Picture, draft: &[f32], words: &[u32], j: u32, p: Vector) {
+fn stops(con: &Console, pic: Picture, draft: &[f32], words: &[u32], j: u32, p: Vector) {
     let m = masks_of(words, j);
     let turn1 = frame1_rotation(draft, words, j);
     let turn2 = frame2_rotation(draft, words, j);
-    linear_stops(pic, draft, j, m, p, turn1);
+    linear_stops(con, pic, draft, j, m, p, turn1);
     if m.is_limit(2) {
         angular_stop(
+            con,
             p,
             turn1,
             turn2,
@@ -407,29 +432,29 @@ fn stops(pic: Picture, draft: &[f32], words: &[u32], j: u32, p: Vector) {
 // ---- joints and bodies
 
 // A frame is tied to its body, or stands on the ground.
-fn tie(pic: Picture, draft: &[f32], i: u32, p: Vector) {
+fn tie(con: &Console, pic: Picture, draft: &[f32], i: u32, p: Vector) {
     if i == WORLD {
-        ground(p);
+        ground(con, p);
         return;
     }
-    line(at(pic, body_at(draft, i)), p, TIE);
+    line(con, at(pic, body_at(draft, i)), p, TIE);
 }
 
-fn draw_joint(pic: Picture, draft: &[f32], words: &[u32], j: u32) {
+fn draw_joint(con: &Console, pic: Picture, draft: &[f32], words: &[u32], j: u32) {
     let one = at(pic, frame1_at(draft, words, j));
     let two = at(pic, frame2_at(draft, words, j));
-    tie(pic, draft, joint_word(words, j, 0), one);
-    tie(pic, draft, joint_word(words, j, 1), two);
-    line(one, two, BETWEEN);
-    stops(pic, draft, words, j, one);
-    square(one);
-    circle(two, units(110.0), RING);
+    tie(con, pic, draft, joint_word(words, j, 0), one);
+    tie(con, pic, draft, joint_word(words, j, 1), two);
+    line(con, one, two, BETWEEN);
+    stops(con, pic, draft, words, j, one);
+    square(con, one);
+    circle(con, two, units(110.0), RING);
 }
 
-fn draw_joints(pic: Picture, draft: &[f32], words: &[u32], joints: u32) {
+fn draw_joints(con: &Console, pic: Picture, draft: &[f32], words: &[u32], joints: u32) {
     let mut j: u32 = 0;
     while j < joints {
-        draw_joint(pic, draft, words, j);
+        draw_joint(con, pic, draft, words, j);
         j += 1;
     }
 }
@@ -467,36 +492,36 @@ fn fastest(draft: &[f32], bodies: u32) -> f32 {
     s
 }
 
-fn draw_velocity(pic: Picture, draft: &[f32], i: u32, p: Vector) {
+fn draw_velocity(con: &Console, pic: Picture, draft: &[f32], i: u32, p: Vector) {
     let v = velocity_at(draft, i);
     if speed(v) > 0.0 {
         let to = Vector {
             x: p.x + v.x * pic.arrow,
             y: p.y - v.y * pic.arrow,
         };
-        line(p, to, VELOCITY);
+        line(con, p, to, VELOCITY);
     }
 }
 
-fn draw_turning(draft: &[f32], i: u32, p: Vector) {
+fn draw_turning(con: &Console, draft: &[f32], i: u32, p: Vector) {
     let w = body_number(draft, i, 9);
     let right = beside(p, 250.0, 0.0);
     let left = beside(p, -250.0, 0.0);
     if w > 0.0 {
-        arc(right, left, units(250.0), COUNTER, VELOCITY);
+        arc(con, right, left, units(250.0), COUNTER, VELOCITY);
     }
     if w < 0.0 {
-        arc(left, right, units(250.0), CLOCKWISE, VELOCITY);
+        arc(con, left, right, units(250.0), CLOCKWISE, VELOCITY);
     }
 }
 
-fn draw_bodies(pic: Picture, draft: &[f32], bodies: u32) {
+fn draw_bodies(con: &Console, pic: Picture, draft: &[f32], bodies: u32) {
     let mut i: u32 = 0;
     while i < bodies {
         let p = at(pic, body_at(draft, i));
-        circle(p, units(130.0), BODY);
-        draw_velocity(pic, draft, i, p);
-        draw_turning(draft, i, p);
+        circle(con, p, units(130.0), BODY);
+        draw_velocity(con, pic, draft, i, p);
+        draw_turning(con, draft, i, p);
         i += 1;
     }
 }
@@ -543,9 +568,10 @@ fn small(n: u32) -> f32 {
 }
 
 // A leader from the point, and the text, which is open.
-fn begin_label(pic: Picture, p: Vector, rank: u32) {
+fn begin_label(con: &Console, pic: Picture, p: Vector, rank: u32) {
     let y = small(rank) * pic.pitch;
     line(
+        con,
         p,
         Vector {
             x: pic.width + units(1600.0),
@@ -553,37 +579,38 @@ fn begin_label(pic: Picture, p: Vector, rank: u32) {
         },
         LEADER,
     );
-    put(TEXT, pic.width + units(1660.0));
-    put(Y, y + units(70.0));
-    out(b"\" >");
+    put(con, TEXT, pic.width + units(1660.0));
+    put(con, Y, y + units(70.0));
+    out(con, b"\" >");
 }
 
-fn out_ids(made: RowIds) {
+fn out_ids(con: &Console, made: RowIds) {
     let mut i = 0usize;
     while i < 6 {
         if i < made.len {
             let one = made.ids[i];
             let id = one.id;
-            out(b" ");
-            out_id(id);
+            out(con, b" ");
+            out_id(con, id);
         }
         i += 1;
     }
 }
 
-fn joint_ids(words: &[u32], j: u32) {
+fn joint_ids(con: &Console, words: &[u32], j: u32) {
     if joint_word(words, j, 9) != 0 {
-        out(b" (disabled)");
+        out(con, b" (disabled)");
         return;
     }
-    out_ids(row_ids(masks_of(words, j)));
+    out_ids(con, row_ids(masks_of(words, j)));
 }
 
-fn out_name(text: &[u8], w: Word) {
-    out_escaped(text, w.start, w.end);
+fn out_name(con: &Console, text: &[u8], w: Word) {
+    out_escaped(con, text, w.start, w.end);
 }
 
 fn draw_label(
+    con: &Console,
     pic: Picture,
     text: &[u8],
     draft: &[f32],
@@ -593,17 +620,18 @@ fn draw_label(
     k: u32,
 ) {
     let rank = rank_of(draft, words, bodies, pic.labels, k);
-    begin_label(pic, at(pic, labelled(draft, words, bodies, k)), rank);
+    begin_label(con, pic, at(pic, labelled(draft, words, bodies, k)), rank);
     if k < bodies {
-        out_name(text, body_name(names, k));
+        out_name(con, text, body_name(names, k));
     } else {
-        out_name(text, joint_name(names, k - bodies));
-        joint_ids(words, k - bodies);
+        out_name(con, text, joint_name(names, k - bodies));
+        joint_ids(con, words, k - bodies);
     }
-    out(b"</text>\n");
+    out(con, b"</text>\n");
 }
 
 fn draw_labels(
+    con: &Console,
     pic: Picture,
     text: &[u8],
     draft: &[f32],
@@ -613,7 +641,7 @@ fn draw_labels(
 ) {
     let mut k: u32 = 0;
     while k < pic.labels {
-        draw_label(pic, text, draft, words, names, bodies, k);
+        draw_label(con, pic, text, draft, words, names, bodies, k);
         k += 1;
     }
 }
@@ -678,12 +706,16 @@ fn full_height(pic: Picture) -> f32 {
 }
 
 // Stops are drawn as far as the labels.
-fn begin(pic: Picture) {
-    out(b"<svg xmlns=\"http://www.w3.org/2000/svg\" viewBox=\"-1500 -1500 ");
-    out_millionths(pic.width + units(9200.0));
-    out(b" ");
-    out_millionths(full_height(pic) + units(3700.0));
+fn begin(con: &Console, pic: Picture) {
     out(
+        con,
+        b"<svg xmlns=\"http://www.w3.org/2000/svg\" viewBox=\"-1500 -1500 ",
+    );
+    out_millionths(con, pic.width + units(9200.0));
+    out(con, b" ");
+    out_millionths(con, full_height(pic) + units(3700.0));
+    out(
+        con,
         b"\" font-family=\"sans-serif\" font-size=\"200\">
 <style>
 line, path, circle { fill: none; stroke-width: 24 }
@@ -702,34 +734,35 @@ line, path, circle { fill: none; stroke-width: 24 }
 <rect x=\"-1500\" y=\"-1500\" width=\"100%\" height=\"100%\" fill=\"white\"/>
 <clipPath id=\"drawn\"><rect x=\"-1500\" y=\"-1500",
     );
-    put(WIDTH, pic.width + units(3000.0));
-    put(HEIGHT, full_height(pic) + units(2500.0));
-    out(b"\" /></clipPath>\n");
+    put(con, WIDTH, pic.width + units(3000.0));
+    put(con, HEIGHT, full_height(pic) + units(2500.0));
+    out(con, b"\" /></clipPath>\n");
 }
 
-fn out_spelled(x: f32) {
+fn out_spelled(con: &Console, x: f32) {
     let word = spelled(x);
     let bytes = word.bytes;
-    out_part(&bytes, 0, word.len);
+    out_part(con, &bytes, 0, word.len);
 }
 
 // What the longest arrow stands for.
-fn out_arrow(fastest: f32, y: f32) {
+fn out_arrow(con: &Console, fastest: f32, y: f32) {
     if fastest > 0.0 {
-        put(TEXT, 0.0);
-        put(Y, y);
-        out(b"\" >longest arrow: ");
-        out_spelled(fastest);
-        out(b" m/s along x or y</text>\n");
+        put(con, TEXT, 0.0);
+        put(con, Y, y);
+        out(con, b"\" >longest arrow: ");
+        out_spelled(con, fastest);
+        out(con, b" m/s along x or y</text>\n");
     }
 }
 
 // The bar is a number of metres that a picture of this scale shows as 1000 to 2500 units.
-fn out_foot(pic: Picture, fastest: f32) {
+fn out_foot(con: &Console, pic: Picture, fastest: f32) {
     let y = full_height(pic) + units(1200.0);
-    let length = inside(out_scale(pic.scale, y));
-    line(Vector { x: 0.0, y }, Vector { x: length, y }, SCALE);
+    let length = inside(out_scale(con, pic.scale, y));
+    line(con, Vector { x: 0.0, y }, Vector { x: length, y }, SCALE);
     line(
+        con,
         Vector {
             x: 0.0,
             y: y - units(80.0),
@@ -741,6 +774,7 @@ fn out_foot(pic: Picture, fastest: f32) {
         SCALE,
     );
     line(
+        con,
         Vector {
             x: length,
             y: y - units(80.0),
@@ -751,18 +785,26 @@ fn out_foot(pic: Picture, fastest: f32) {
         },
         SCALE,
     );
-    out_arrow(fastest, y + units(600.0));
+    out_arrow(con, fastest, y + units(600.0));
 }
 
 // The whole picture.
-pub fn draw(text: &[u8], draft: &[f32], words: &[u32], names: &[u32], bodies: u32, joints: u32) {
+pub fn draw(
+    con: &Console,
+    text: &[u8],
+    draft: &[f32],
+    words: &[u32],
+    names: &[u32],
+    bodies: u32,
+    joints: u32,
+) {
     let f = all_joints(draft, words, joints, all_bodies(draft, bodies));
     let speed = fastest(draft, bodies);
     let pic = picture_of(f, count_of(bodies, joints), speed);
-    begin(pic);
-    draw_labels(pic, text, draft, words, names, bodies);
-    draw_joints(pic, draft, words, joints);
-    draw_bodies(pic, draft, bodies);
-    out_foot(pic, speed);
-    out(b"</svg>\n");
+    begin(con, pic);
+    draw_labels(con, pic, text, draft, words, names, bodies);
+    draw_joints(con, pic, draft, words, joints);
+    draw_bodies(con, pic, draft, bodies);
+    out_foot(con, pic, speed);
+    out(con, b"</svg>\n");
 }

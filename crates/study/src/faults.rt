@@ -1,14 +1,15 @@
 // What is wrong with a text that cannot be read, in words, and the word that may have been meant.
 use crate::near::{suggest, suggest_name};
-use crate::out::{err, err_line};
+use crate::out::{Console, err, err_line};
 use crate::place::{say_place, show_line};
 use study_reader::draft::State;
 use study_reader::faults::{NO_BODY, NO_JOINT, UNKNOWN};
 use study_reader::words::{Word, next_word};
 
 // What was expected, to standard error: the line of a fault's number.
-fn say(fault: u32) {
+fn say(con: &Console, fault: u32) {
     err_line(
+        con,
         b"\
         \n\
         no line starts with this word; `study --help` lists those that do\n\
@@ -44,8 +45,9 @@ fn say(fault: u32) {
 
 // The words that may be meant, each with where it is legal: at the start of a line in the item 1 to 3 as study_reader's fields have them, 5 where no call
 // stands yet and 6 anywhere; after that, at a fault's number and 100.
-fn suggest_word(place: u32, text: &[u8], w: Word) {
+fn suggest_word(con: &Console, place: u32, text: &[u8], w: Word) {
     suggest(
+        con,
         b"\
         dt 1\n\
         length_unit 1\n\
@@ -141,20 +143,20 @@ fn place_of(fault: u32, kind: u32) -> u32 {
 }
 
 // What may have been meant by the word at which the text cannot be read.
-fn suggest_for(text: &[u8], names: &[u32], st: State, w: Word) {
+fn suggest_for(con: &Console, text: &[u8], names: &[u32], st: State, w: Word) {
     let fault = st.fault;
     match fault {
-        NO_BODY => suggest_name(text, names, false, st.bodies, w),
-        NO_JOINT => suggest_name(text, names, true, st.joints, w),
-        _ => suggest_word(place_of(fault, st.kind), text, w),
+        NO_BODY => suggest_name(con, text, names, false, st.bodies, w),
+        NO_JOINT => suggest_name(con, text, names, true, st.joints, w),
+        _ => suggest_word(con, place_of(fault, st.kind), text, w),
     }
 }
 
 // The place of the fault, what was expected, the word that may have been meant, and the line.
-pub fn say_fault(name: &[u8], text: &[u8], names: &[u32], st: State) {
-    say_place(name, text, st.fault_at);
-    say(st.fault);
-    suggest_for(text, names, st, next_word(text, st.fault_at));
-    err(b"\n");
-    show_line(text, st.fault_at);
+pub fn say_fault(con: &Console, name: &[u8], text: &[u8], names: &[u32], st: State) {
+    say_place(con, name, text, st.fault_at);
+    say(con, st.fault);
+    suggest_for(con, text, names, st, next_word(text, st.fault_at));
+    err(con, b"\n");
+    show_line(con, text, st.fault_at);
 }

@@ -1,8 +1,9 @@
 // What the program says of itself.
-use crate::out::out;
+use crate::out::{Console, out};
 
-pub fn help() {
+pub fn help(con: &Console) {
     out(
+        con,
         b"study: joint rows of rapier2d 0.36.1, planar, scalar, f32, in which every impulse names its rule
 
   study                reads a study from standard input, runs it and prints its tables
@@ -48,18 +49,21 @@ docs/STUDY.md has all of it, with units and signs; docs/RULES.md the rules that 
 }
 
 // Which version made a number, and after what.
-fn name() {
-    out(b"katydidzinc 1.0.0, after rapier2d 0.36.1");
+fn name(con: &Console) {
+    out(con, b"katydidzinc 1.0.0, after rapier2d 0.36.1");
 }
 
-pub fn version() {
-    name();
-    out(b"; proved by rattle-kit-13f logic dac8208d650f15bf\n");
+pub fn version(con: &Console) {
+    name(con);
+    out(
+        con,
+        b"; proved by rattle-kit-13f logic dac8208d650f15bf\n",
+    );
 }
 
 // The last line below a table.
-pub fn made_by() {
-    out(b"by ");
-    name();
-    out(b"\n");
+pub fn made_by(con: &Console) {
+    out(con, b"by ");
+    name(con);
+    out(con, b"\n");
 }

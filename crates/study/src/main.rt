@@ -27,17 +27,22 @@ use csv::{ALL, REACTIONS, ROWS, VELOCITIES, out_csv_heading};
 use draw::draw;
 use faults::say_fault;
 use help::{help, version};
-use input::read_all;
-use libc::{ENOENT, STDERR_FILENO, STDIN_FILENO, STDOUT_FILENO};
+use input::{arg_count, open, read_all, say_argument};
 use model::header::Header;
 use model::layout::{BODY_WIDTH, NUMBERS_WIDTH, ROW_WIDTH, WORDS_WIDTH};
 use model_text::print_model;
 use near::suggest;
-use out::{err, err_line, err_part, is_lost, out, out_part};
+use out::{
+    Console, err, err_line, err_part, fail, is_err_lost, is_out_lost, new_console, out, out_part,
+};
 use plan::check_calls;
 use rows::integration_parameters::IntegrationParameters;
 use run::{NO_FILE, check_study, run_study};
 use seeds::seeded_after;
+use std::fs::{File, OpenOptions};
+use std::io;
+use std::io::{Read, Write};
+use std::rt::Env;
 use study_reader::draft::State;
 use study_reader::read::read_study;
 use study_reader::storage::{BODIES, JOINTS, MOST, NAMES, NUMBERS, ORIGINS, WORDS, number_at};
@@ -100,7 +105,7 @@ pub fn header_of(draft: &[f32]) -> Header {
 }
 
 // The model as it was read, printed.
-fn print_read(draft: &[f32], words: &[u32], st: State) -> u32 {
+fn print_read(con: &Console, draft: &[f32], words: &[u32], st: State) -> u32 {
     let i = st.bodies;
     let j = st.joints;
     if MOST < i || MOST < j {
@@ -113,6 +118,7 @@ fn print_read(draft: &[f32], words: &[u32], st: State) -> u32 {
         return 2;
     }
     print_model(
+        con,
         header_of(draft),
         &draft[BODIES..b],
         &words[0..w],
@@ -122,6 +128,7 @@ fn print_read(draft: &[f32], words: &[u32], st: State) -> u32 {
 
 // The model as it was read, loaded; and what can be said of the calls.
 fn check_read(
+    con: &Console,
     name: &[u8],
     text: &[u8],
     draft: &[f32],
@@ -143,6 +150,7 @@ fn check_read(
     }
     let rows = [0.0f32; ROW_NUMBERS];
     let refused = check_study(
+        con,
         name,
         text,
         names,
@@ -155,15 +163,15 @@ fn check_read(
         &rows,
         st,
     );
-    checked(name, text, names, st, refused)
+    checked(con, name, text, names, st, refused)
 }
 
 // After a load that is granted, what can be said of the calls without a run.
-fn checked(name: &[u8], text: &[u8], names: &[u32], st: State, refused: u32) -> u32 {
+fn checked(con: &Console, name: &[u8], text: &[u8], names: &[u32], st: State, refused: u32) -> u32 {
     if refused != 0 {
         return status_of(refused);
     }
-    status_of(check_calls(name, text, names, st))
+    status_of(check_calls(con, name, text, names, st))
 }
 
 // With --strict a warning is as bad as a text that cannot be read.
@@ -177,20 +185,21 @@ fn strict_status(mode: Mode, warned: bool, status: u32) -> u32 {
 }
 
 // Of a study that was checked, that nothing was found.
-fn say_checked(name: &[u8], status: u32, warned: bool) {
+fn say_checked(con: &Console, name: &[u8], status: u32, warned: bool) {
     if status != 0 {
         return;
     }
-    out(name);
+    out(con, name);
     if warned {
-        out(b": fine, with warnings\n");
+        out(con, b": fine, with warnings\n");
         return;
     }
-    out(b": fine\n");
+    out(con, b": fine\n");
 }
 
 // As many bodies and joints as there are.
 fn run_sized(
+    con: &Console,
     name: &[u8],
     text: &[u8],
     draft: &[f32],
@@ -215,6 +224,7 @@ fn run_sized(
     }
     let mut rows = [0.0f32; ROW_NUMBERS];
     let r = run_study(
+        con,
         name,
         text,
         names,
@@ -233,6 +243,7 @@ fn run_sized(
 
 // The storage of a study's bodies and joints.
 fn run_read(
+    con: &Console,
     name: &[u8],
     text: &[u8],
     draft: &[f32],
@@ -247,6 +258,7 @@ fn run_read(
     copy(draft, BODIES, &mut bodies);
     copy(draft, JOINTS, &mut numbers);
     run_sized(
+        con,
         name,
         text,
         draft,
@@ -273,6 +285,7 @@ fn status_of(refused: u32) -> u32 {
 
 // What is asked of a study that was read.
 fn commanded(
+    con: &Console,
     name: &[u8],
     text: &[u8],
     draft: &[f32],
@@ -285,31 +298,33 @@ fn commanded(
     let command = mode.command;
     match command {
         DRAW => {
-            draw(text, draft, words, names, st.bodies, st.joints);
+            draw(con, text, draft, words, names, st.bodies, st.joints);
             0
         }
-        PRINT => print_read(draft, words, st),
-        CHECK => check_read(name, text, draft, origins, words, names, st),
-        _ => run_read(name, text, draft, origins, words, names, st, mode),
+        PRINT => print_read(con, draft, words, st),
+        CHECK => check_read(con, name, text, draft, origins, words, names, st),
+        _ => run_read(con, name, text, draft, origins, words, names, st, mode),
     }
 }
 
 // A study's text: read, warned of, and what is asked of it; its end told.
-fn study(name: &[u8], text: &[u8], mode: Mode) -> u32 {
+fn study(con: &Console, name: &[u8], text: &[u8], mode: Mode) -> u32 {
     let mut draft = [0.0f32; NUMBERS];
     let mut origins = [0u32; ORIGINS];
     let mut words = [0u32; WORDS];
     let mut names = [0u32; NAMES];
     let st = read_study(text, &mut draft, &mut origins, &mut words, &mut names);
     if st.fault != 0 {
-        say_fault(name, text, &names, st);
+        say_fault(con, name, text, &names, st);
         return 2;
     }
     let runs = mode.command == FILE;
-    let warned = warnings(name, text, &draft, &origins, &words, &names, st, runs);
-    let status = commanded(name, text, &draft, &origins, &mut words, &names, st, mode);
+    let warned = warnings(con, name, text, &draft, &origins, &words, &names, st, runs);
+    let status = commanded(
+        con, name, text, &draft, &origins, &mut words, &names, st, mode,
+    );
     if mode.command == CHECK {
-        say_checked(name, status, warned);
+        say_checked(con, name, status, warned);
     }
     strict_status(mode, warned, status)
 }
@@ -317,13 +332,14 @@ fn study(name: &[u8], text: &[u8], mode: Mode) -> u32 {
 // ---- files and arguments
 
 // A file that is no study's text: too long, or in UTF-16.
-fn say_no_text(name: &[u8], k: u32) -> u32 {
-    err(name);
+fn say_no_text(con: &Console, name: &[u8], k: u32) -> u32 {
+    err(con, name);
     err_line(
+        con,
         b":1:1: a study has at most 262143 bytes\n:1:1: a text in UTF-16; a study is read in UTF-8 (or ASCII): save it so\n",
         k,
     );
-    err(b"\n");
+    err(con, b"\n");
     2
 }
 
@@ -365,49 +381,47 @@ fn start_of(text: &[u8]) -> u32 {
 }
 
 // A text without its byte order mark.
-fn study_of(name: &[u8], text: &[u8], mode: Mode) -> u32 {
+fn study_of(con: &Console, name: &[u8], text: &[u8], mode: Mode) -> u32 {
     let start = start_of(text);
     if start == WIDE {
-        return say_no_text(name, 1);
+        return say_no_text(con, name, 1);
     }
     if start == MARKED {
         if 3 <= text.len() {
-            return study(name, &text[3..], mode);
+            return study(con, name, &text[3..], mode);
         }
     }
-    study(name, text, mode)
+    study(con, name, text, mode)
 }
 
-// A study from a descriptor.
-fn study_from(name: &[u8], fd: i32, mode: Mode) -> u32 {
+// A study from standard input or a file.
+fn study_from<R: Read>(con: &Console, name: &[u8], from: &mut R, mode: Mode) -> u32 {
     if mode.titled {
-        say_title(name, b"# \n");
+        say_title(con, name, b"# \n");
     }
     let mut text = [0u8; 262144];
-    let input = read_all(fd, &mut text);
-    if input.failed {
-        os::fail(name);
+    let input = read_all(from, &mut text);
+    if let Some(error) = input.failed {
+        fail(con, name, error);
         return 2;
     }
     let n = input.len;
     if n == 262144 {
-        return say_no_text(name, 0);
+        return say_no_text(con, name, 0);
     }
-    study_of(name, &text[..n], mode)
+    study_of(con, name, &text[..n], mode)
 }
 
-fn study_input(mode: Mode) -> u32 {
-    study_from(b"standard input", STDIN_FILENO, mode)
+fn study_input(con: &Console, mode: Mode) -> u32 {
+    let mut stdin = con.rt.stdin();
+    study_from(con, b"standard input", &mut stdin, mode)
 }
 
-fn study_file(name: &[u8], mode: Mode, first: bool) -> u32 {
-    let fd = os::open_read(name);
-    if fd < 0 {
-        return say_missing(name, first);
+fn study_file(con: &Console, name: &[u8], mode: Mode, first: bool) -> u32 {
+    match open(con, name) {
+        Ok(mut file) => study_from(con, name, &mut file, mode),
+        Err(error) => say_missing(con, name, first, error),
     }
-    let status = study_from(name, fd, mode);
-    libc::close(fd);
-    status
 }
 
 // What an argument asks for.
@@ -484,22 +498,23 @@ fn option_of(arg: &[u8]) -> u32 {
 }
 
 // A file that cannot be opened. The first word of all may have been meant as a command.
-fn say_missing(name: &[u8], first: bool) -> u32 {
+fn say_missing(con: &Console, name: &[u8], first: bool, error: io::Error) -> u32 {
     if first {
-        if os::errno() == ENOENT {
-            err(name);
-            err(b": no such file, and no command");
-            suggest_command(name);
-            say_commands();
+        if error.kind() == io::ErrorKind::NotFound {
+            err(con, name);
+            err(con, b": no such file, and no command");
+            suggest_command(con, name);
+            say_commands(con);
             return 2;
         }
     }
-    os::fail(name);
+    fail(con, name, error);
     2
 }
 
-fn suggest_command(name: &[u8]) {
+fn suggest_command(con: &Console, name: &[u8]) {
     suggest(
+        con,
         b"check\ncsv\ndraw\nprint\nseeded\nexample\nhelp\n",
         0,
         name,
@@ -507,64 +522,63 @@ fn suggest_command(name: &[u8]) {
     );
 }
 
-fn say_commands() {
+fn say_commands(con: &Console) {
     err(
+        con,
         b"\nstudy: the commands are check, csv, draw, report, print, seeded, example and help; `study help` says what each does\n",
     );
 }
 
 // Argument i by its kind.
-fn kind_of(i: usize) -> u32 {
-    let mut arg = io::buffer();
-    let n = os::arg(i, &mut arg);
-    if os::errno() != 0 {
-        return MISSING;
+fn kind_of(con: &Console, i: usize) -> u32 {
+    let mut arg = [0u8; 4096];
+    match con.rt.arg(i, &mut arg) {
+        Ok(n) => option_of(&arg[..n]),
+        Err(_) => MISSING,
     }
-    option_of(&arg[..n])
 }
 
 // The name between a hash and a line's end, on both outputs.
-fn say_title(name: &[u8], around: &[u8]) {
-    out_part(around, 0, 2);
-    out(name);
-    out_part(around, 2, 3);
-    err_part(around, 0, 2);
-    err(name);
-    err_part(around, 2, 3);
+fn say_title(con: &Console, name: &[u8], around: &[u8]) {
+    out_part(con, around, 0, 2);
+    out(con, name);
+    out_part(con, around, 2, 3);
+    err_part(con, around, 0, 2);
+    err(con, name);
+    err_part(con, around, 2, 3);
 }
 
-fn say_option(name: &[u8]) -> u32 {
-    err(b"study: ");
-    err(name);
-    err(b": no such option");
+fn say_option(con: &Console, name: &[u8]) -> u32 {
+    err(con, b"study: ");
+    err(con, name);
+    err(con, b": no such option");
     suggest(
+        con,
         b"--help\n--strict\n--version\n--reactions\n--velocities\n",
         0,
         name,
         word_of(name),
     );
-    err(b"\n");
+    err(con, b"\n");
     2
 }
 
 // The file that an argument names; a hyphen is standard input.
-fn named_file(name: &[u8], mode: Mode, first: bool) -> u32 {
+fn named_file(con: &Console, name: &[u8], mode: Mode, first: bool) -> u32 {
     let kind = option_of(name);
     match kind {
-        INPUT => study_input(mode),
-        OPTION => say_option(name),
-        _ => study_file(name, mode, first),
+        INPUT => study_input(con, mode),
+        OPTION => say_option(con, name),
+        _ => study_file(con, name, mode, first),
     }
 }
 
-fn argument_file(i: usize, mode: Mode, first: bool) -> u32 {
-    let mut arg = io::buffer();
-    let n = os::arg(i, &mut arg);
-    if os::errno() != 0 {
-        os::fail(b"study: argument");
-        return 2;
+fn argument_file(con: &Console, i: usize, mode: Mode, first: bool) -> u32 {
+    let mut arg = [0u8; 4096];
+    match con.rt.arg(i, &mut arg) {
+        Ok(n) => named_file(con, &arg[..n], mode, first),
+        Err(error) => say_argument(con, error),
     }
-    named_file(&arg[..n], mode, first)
 }
 
 // No command stands before the files.
@@ -578,51 +592,47 @@ fn is_first(bare: bool, i: usize, from: usize) -> bool {
 
 // ---- what cannot be opened is found before anything runs
 
-fn find_file(name: &[u8], first: bool) -> u32 {
+fn find_file(con: &Console, name: &[u8], first: bool) -> u32 {
     let kind = option_of(name);
     if kind == INPUT {
         return 0;
     }
     if kind == OPTION {
-        return say_option(name);
+        return say_option(con, name);
     }
-    let fd = os::open_read(name);
-    if fd < 0 {
-        return say_missing(name, first);
+    match open(con, name) {
+        Ok(_) => 0,
+        Err(error) => say_missing(con, name, first, error),
     }
-    libc::close(fd);
-    0
 }
 
-fn find_argument(i: usize, first: bool) -> u32 {
-    let mut arg = io::buffer();
-    let n = os::arg(i, &mut arg);
-    if os::errno() != 0 {
-        os::fail(b"study: argument");
-        return 2;
+fn find_argument(con: &Console, i: usize, first: bool) -> u32 {
+    let mut arg = [0u8; 4096];
+    match con.rt.arg(i, &mut arg) {
+        Ok(n) => find_file(con, &arg[..n], first),
+        Err(error) => say_argument(con, error),
     }
-    find_file(&arg[..n], first)
 }
 
-fn find_files(from: usize, bare: bool) -> u32 {
+fn find_files(con: &Console, from: usize, bare: bool) -> u32 {
     let mut i = from;
     let mut status: u32 = 0;
-    let count = os::arg_count();
+    let count = arg_count(con);
     while i < count {
-        status = worse(status, find_argument(i, is_first(bare, i, from)));
+        status = worse(status, find_argument(con, i, is_first(bare, i, from)));
         i += 1;
     }
     status
 }
 
-fn each_file(from: usize, mode: Mode) -> u32 {
+fn each_file(con: &Console, from: usize, mode: Mode) -> u32 {
     let mut i = from;
     let mut status: u32 = 0;
-    let count = os::arg_count();
+    let count = arg_count(con);
     while i < count {
         let first = is_first(is_bare(mode), i, from);
-        status = worse(status, argument_file(i, mode, first));
-        if is_lost(STDOUT_FILENO) {
+        status = worse(status, argument_file(con, i, mode, first));
+        if is_out_lost(con) {
             return 2;
         }
         i += 1;
@@ -631,50 +641,55 @@ fn each_file(from: usize, mode: Mode) -> u32 {
 }
 
 // Each file from argument i on.
-fn files(from: usize, mode: Mode) -> u32 {
+fn files(con: &Console, from: usize, mode: Mode) -> u32 {
     if 4096 < from {
         return 2;
     }
-    let several = from + 1 < os::arg_count();
+    let several = from + 1 < arg_count(con);
     if several {
         if mode.command == DRAW {
-            err(b"study: a picture is of one file; `study draw FILE... --to DIR` writes several\n");
+            err(
+                con,
+                b"study: a picture is of one file; `study draw FILE... --to DIR` writes several\n",
+            );
             return 2;
         }
-        let missing = find_files(from, is_bare(mode));
+        let missing = find_files(con, from, is_bare(mode));
         if missing != 0 {
             return missing;
         }
     }
     if mode.kind != ALL {
-        out_csv_heading(mode.kind);
+        out_csv_heading(con, mode.kind);
     }
     let mut m = mode;
     m.titled = several && mode.kind == ALL;
-    each_file(from, m)
+    each_file(con, from, m)
 }
 
 // The files after a word that asks for some.
-fn files_after(i: usize, mode: Mode) -> u32 {
+fn files_after(con: &Console, i: usize, mode: Mode) -> u32 {
     if 4096 < i {
         return 2;
     }
-    if os::arg_count() <= i + 1 {
+    if arg_count(con) <= i + 1 {
         err(
+            con,
             b"study: expected the name of a file after `check`, `csv`, `draw` or `print`; - is standard input\n",
         );
         return 2;
     }
-    files(i + 1, mode)
+    files(con, i + 1, mode)
 }
 
 // After a command, `--strict` may stand before the files.
-fn files_of(i: usize, command: u32, strict: bool) -> u32 {
+fn files_of(con: &Console, i: usize, command: u32, strict: bool) -> u32 {
     if 4096 < i {
         return 2;
     }
-    if kind_of(i + 1) == STRICT {
+    if kind_of(con, i + 1) == STRICT {
         return files_after(
+            con,
             i + 1,
             Mode {
                 command,
@@ -685,6 +700,7 @@ fn files_of(i: usize, command: u32, strict: bool) -> u32 {
         );
     }
     files_after(
+        con,
         i,
         Mode {
             command,
@@ -696,25 +712,26 @@ fn files_of(i: usize, command: u32, strict: bool) -> u32 {
 }
 
 // The records of one kind: rows, unless an option after the word says otherwise.
-fn records_of(i: usize, strict: bool) -> u32 {
+fn records_of(con: &Console, i: usize, strict: bool) -> u32 {
     if 4096 < i {
         return 2;
     }
-    let option = kind_of(i + 1);
+    let option = kind_of(con, i + 1);
     if option == BY_REACTION {
-        return records_after(i + 1, REACTIONS, strict);
+        return records_after(con, i + 1, REACTIONS, strict);
     }
     if option == BY_VELOCITY {
-        return records_after(i + 1, VELOCITIES, strict);
+        return records_after(con, i + 1, VELOCITIES, strict);
     }
-    records_after(i, ROWS, strict)
+    records_after(con, i, ROWS, strict)
 }
 
-fn records_after(i: usize, kind: u32, strict: bool) -> u32 {
+fn records_after(con: &Console, i: usize, kind: u32, strict: bool) -> u32 {
     if 4096 < i {
         return 2;
     }
     files_after(
+        con,
         i,
         Mode {
             command: FILE,
@@ -726,8 +743,8 @@ fn records_after(i: usize, kind: u32, strict: bool) -> u32 {
 }
 
 // The arguments from i on.
-fn asked(i: usize, strict: bool) -> u32 {
-    let kind = kind_of(i);
+fn asked(con: &Console, i: usize, strict: bool) -> u32 {
+    let kind = kind_of(con, i);
     let mode = Mode {
         command: FILE,
         kind: ALL,
@@ -735,61 +752,75 @@ fn asked(i: usize, strict: bool) -> u32 {
         titled: false,
     };
     match kind {
-        MISSING => study_input(mode),
+        MISSING => study_input(con, mode),
         HELP => {
-            help();
+            help(con);
             0
         }
         VERSION => {
-            version();
+            version(con);
             0
         }
-        SEEDED => seeded_after(i),
-        CHECK | DRAW | PRINT => files_of(i, kind, strict),
-        CSV => records_of(i, strict),
-        FILE | INPUT => files(i, mode),
-        _ => option_at(i),
+        SEEDED => seeded_after(con, i),
+        CHECK | DRAW | PRINT => files_of(con, i, kind, strict),
+        CSV => records_of(con, i, strict),
+        FILE | INPUT => files(con, i, mode),
+        _ => option_at(con, i),
     }
 }
 
-fn option_at(i: usize) -> u32 {
-    let mut arg = io::buffer();
-    let n = os::arg(i, &mut arg);
-    say_option(&arg[..n])
+fn option_at(con: &Console, i: usize) -> u32 {
+    let mut arg = [0u8; 4096];
+    match con.rt.arg(i, &mut arg) {
+        Ok(n) => say_option(con, &arg[..n]),
+        Err(_) => say_option(con, b""),
+    }
 }
 
 // `--strict` stands before the command or after it.
-fn asked_from(i: usize) -> u32 {
+fn asked_from(con: &Console, i: usize) -> u32 {
     if 4096 < i {
         return 2;
     }
-    if kind_of(i) == STRICT {
-        return asked(i + 1, true);
+    if kind_of(con, i) == STRICT {
+        return asked(con, i + 1, true);
     }
-    asked(i, false)
+    asked(con, i, false)
 }
 
-// A program cannot end with a status of its own: with --status as its first argument it writes one digit to descriptor 3.
-fn tell(status: u32) {
-    io::print_decimal(3, status as u64);
+// With --status as its first argument the program writes its status, one digit, to descriptor 3.
+fn tell(con: &Console, status: u32) {
+    match OpenOptions::new().append(true).open(&con.rt, "/dev/fd/3") {
+        Ok(mut file) => tell_to(&mut file, status),
+        Err(_) => {}
+    }
+}
+
+fn tell_to(file: &mut File, status: u32) {
+    let _ = write!(file, "{status}");
 }
 
 // What was to be written and was not makes the status 2.
-fn ended(status: u32) -> u32 {
-    if is_lost(STDOUT_FILENO) {
-        err(b"study: standard output is closed or was not written to its end\n");
+fn ended(con: &Console, status: u32) -> u32 {
+    if is_out_lost(con) {
+        err(
+            con,
+            b"study: standard output is closed or was not written to its end\n",
+        );
         return 2;
     }
-    if is_lost(STDERR_FILENO) {
+    if is_err_lost(con) {
         return 2;
     }
     status
 }
 
-fn main() {
-    if kind_of(1) == STATUS {
-        tell(ended(asked_from(2)));
+fn main(rt: HostRuntime) {
+    let con = new_console(rt);
+    if kind_of(&con, 1) == STATUS {
+        let status = ended(&con, asked_from(&con, 2));
+        tell(&con, status);
         return;
     }
-    ended(asked_from(1));
+    ended(&con, asked_from(&con, 1));
 }

@@ -1,5 +1,5 @@
 // The model that a study describes, in one spelling: the text of a study with no call.
-use crate::out::{err, out_part};
+use crate::out::{Console, err, out_part};
 use model::header::Header;
 use study_writer::study::write_study;
 
@@ -14,13 +14,22 @@ fn put_model(
     write_study(text, header, bodies, words, numbers)
 }
 
-pub fn print_model(header: Header, bodies: &[f32], words: &[u32], numbers: &[f32]) -> u32 {
+pub fn print_model(
+    con: &Console,
+    header: Header,
+    bodies: &[f32],
+    words: &[u32],
+    numbers: &[f32],
+) -> u32 {
     let mut text = [0u8; 524288];
     let n = put_model(&mut text, header, bodies, words, numbers);
     if n == 0 {
-        err(b"study: a model has at most 128 bodies and 128 joints\n");
+        err(
+            con,
+            b"study: a model has at most 128 bodies and 128 joints\n",
+        );
         return 2;
     }
-    out_part(&text, 0, n);
+    out_part(con, &text, 0, n);
     0
 }

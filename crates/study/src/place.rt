@@ -1,15 +1,15 @@
 // Where something stands in a study's file, and the line itself with a mark under the word.
-use crate::out::{err, err_number, err_part, line_end};
+use crate::out::{Console, err, err_number, err_part, line_end};
 use study_reader::words::{column_of, line_of, next_word};
 
 // FILE:LINE:COLUMN and a colon.
-pub fn say_place(name: &[u8], text: &[u8], at: usize) {
-    err(name);
-    err(b":");
-    err_number(line_of(text, at));
-    err(b":");
-    err_number(column_of(text, at));
-    err(b": ");
+pub fn say_place(con: &Console, name: &[u8], text: &[u8], at: usize) {
+    err(con, name);
+    err(con, b":");
+    err_number(con, line_of(text, at));
+    err(con, b":");
+    err_number(con, column_of(text, at));
+    err(con, b": ");
 }
 
 // ---- the line itself
@@ -147,21 +147,21 @@ fn underline(line: &mut [u8], text: &[u8], from: usize, to: usize, at: usize) ->
     n
 }
 
-fn say_shown(text: &[u8], from: usize, to: usize) {
-    let mut line = io::buffer();
+fn say_shown(con: &Console, text: &[u8], from: usize, to: usize) {
+    let mut line = [0u8; 4096];
     let n = show(&mut line, text, from, to);
-    err_part(&line, 0, n);
-    err(b"\n");
+    err_part(con, &line, 0, n);
+    err(con, b"\n");
 }
 
-fn say_underlined(text: &[u8], from: usize, to: usize, at: usize) {
-    let mut line = io::buffer();
+fn say_underlined(con: &Console, text: &[u8], from: usize, to: usize, at: usize) {
+    let mut line = [0u8; 4096];
     let n = underline(&mut line, text, from, to, at);
-    err_part(&line, 0, n);
+    err_part(con, &line, 0, n);
     if to <= at {
-        err(b"^");
+        err(con, b"^");
     }
-    err(b"\n");
+    err(con, b"\n");
 }
 
 fn least(a: usize, b: usize) -> usize {
@@ -172,10 +172,10 @@ fn least(a: usize, b: usize) -> usize {
 }
 
 // The line that holds an offset, and a mark under the word that starts there.
-pub fn show_line(text: &[u8], at: usize) {
+pub fn show_line(con: &Console, text: &[u8], at: usize) {
     let from = shown_from(line_begin(text, at), at);
     let to = shown_to(from, line_end(text, from));
     let w = next_word(text, at);
-    say_shown(text, from, to);
-    say_underlined(text, from, least(w.end, to), at);
+    say_shown(con, text, from, to);
+    say_underlined(con, text, from, least(w.end, to), at);
 }

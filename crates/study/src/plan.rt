@@ -1,5 +1,5 @@
 // What can be said of the calls of a study without a run: the first that would be refused whatever the numbers are, and a table of targets that is not there.
-use crate::out::{err, err_number};
+use crate::out::{Console, err, err_number};
 use crate::place::{say_place, show_line};
 use crate::refusals::say_rule;
 use crate::targets::find_targets;
@@ -126,24 +126,24 @@ fn built_after(call: StudyCall, built: bool) -> bool {
     }
 }
 
-fn say_planned(name: &[u8], text: &[u8], at: usize, k: u32) {
-    say_place(name, text, at);
-    err(b"this call is refused with ");
-    err_number(k as u64);
-    err(b": ");
-    say_rule(k);
-    err(b"\n");
-    show_line(text, at);
+fn say_planned(con: &Console, name: &[u8], text: &[u8], at: usize, k: u32) {
+    say_place(con, name, text, at);
+    err(con, b"this call is refused with ");
+    err_number(con, k as u64);
+    err(con, b": ");
+    say_rule(con, k);
+    err(con, b"\n");
+    show_line(con, text, at);
 }
 
 // A call's refusal, told; or that of a table of targets that is not there.
-fn told(name: &[u8], text: &[u8], at: usize, call: StudyCall, built: bool) -> u32 {
+fn told(con: &Console, name: &[u8], text: &[u8], at: usize, call: StudyCall, built: bool) -> u32 {
     match call {
-        StudyCall::SetTargets(start, end) => find_targets(name, text, Word { start, end }),
+        StudyCall::SetTargets(start, end) => find_targets(con, name, text, Word { start, end }),
         _ => {
             let k = refusal_of(call, built);
             if k != 0 {
-                say_planned(name, text, next_word(text, at).start, k);
+                say_planned(con, name, text, next_word(text, at).start, k);
             }
             k
         }
@@ -151,7 +151,7 @@ fn told(name: &[u8], text: &[u8], at: usize, call: StudyCall, built: bool) -> u3
 }
 
 // One line; what a `repeat` has in it comes once.
-fn plan_line(name: &[u8], text: &[u8], names: &[u32], st: State, p: Plan) -> Plan {
+fn plan_line(con: &Console, name: &[u8], text: &[u8], names: &[u32], st: State, p: Plan) -> Plan {
     let act = act_at(text, names, st.bodies, st.joints, p.at);
     let here = Place {
         at: p.at,
@@ -163,7 +163,7 @@ fn plan_line(name: &[u8], text: &[u8], names: &[u32], st: State, p: Plan) -> Pla
         Act::Call(call) => Plan {
             at: next.at,
             built: built_after(call, p.built),
-            refused: told(name, text, p.at, call, p.built),
+            refused: told(con, name, text, p.at, call, p.built),
         },
         _ => Plan {
             at: next.at,
@@ -174,7 +174,7 @@ fn plan_line(name: &[u8], text: &[u8], names: &[u32], st: State, p: Plan) -> Pla
 }
 
 // The first refusal, told, or 0; NO_FILE for a table that is not there.
-pub fn check_calls(name: &[u8], text: &[u8], names: &[u32], st: State) -> u32 {
+pub fn check_calls(con: &Console, name: &[u8], text: &[u8], names: &[u32], st: State) -> u32 {
     let mut p = Plan {
         at: st.calls,
         built: false,
@@ -185,7 +185,7 @@ pub fn check_calls(name: &[u8], text: &[u8], names: &[u32], st: State) -> u32 {
         if text.len() <= p.at {
             return 0;
         }
-        p = plan_line(name, text, names, st, p);
+        p = plan_line(con, name, text, names, st, p);
         if p.refused != 0 {
             return p.refused;
         }

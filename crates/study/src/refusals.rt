@@ -1,6 +1,6 @@
 // A refused call: its rule in words, and where the model broke it (`refusal_place`), with the line that gave it.
 use crate::header_of;
-use crate::out::{err, err_line, err_number, err_part};
+use crate::out::{Console, err, err_line, err_number, err_part};
 use crate::place::show_line;
 use model::layout::{BODY_WIDTH, NUMBERS_WIDTH, WORDS_WIDTH};
 use model::refusal_place::{Place, refusal_place};
@@ -9,8 +9,9 @@ use study_reader::storage::{BODIES, JOINTS, MOST, NUMBERS, kept, word_at};
 use study_reader::words::{Word, column_of, line_of};
 
 // The rule that a refusal's number stands for: what has to hold.
-pub fn say_rule(k: u32) {
+pub fn say_rule(con: &Console, k: u32) {
     err_line(
+        con,
         b"\
         (no such rule)\n\
         a model has at most 128 bodies\n\
@@ -35,50 +36,55 @@ pub fn say_rule(k: u32) {
 }
 
 // The place in the same file, and the line itself below.
-fn say_given(text: &[u8], at: usize) {
-    err(b", line ");
-    err_number(line_of(text, at));
-    err(b", column ");
-    err_number(column_of(text, at));
-    err(b"\n");
-    show_line(text, at);
+fn say_given(con: &Console, text: &[u8], at: usize) {
+    err(con, b", line ");
+    err_number(con, line_of(text, at));
+    err(con, b", column ");
+    err_number(con, column_of(text, at));
+    err(con, b"\n");
+    show_line(con, text, at);
 }
 
-fn say_line(text: &[u8], at: u32) {
+fn say_line(con: &Console, text: &[u8], at: u32) {
     if at == 0 {
-        err(b", by default\n");
+        err(con, b", by default\n");
         return;
     }
-    say_given(text, at as usize);
+    say_given(con, text, at as usize);
 }
 
-fn say_name(text: &[u8], what: &[u8], w: Word) {
-    err(what);
-    err_part(text, w.start, w.end);
+fn say_name(con: &Console, text: &[u8], what: &[u8], w: Word) {
+    err(con, what);
+    err_part(con, text, w.start, w.end);
 }
 
 // ---- rules 1 and 2
 
-fn say_last_body(text: &[u8], names: &[u32]) {
+fn say_last_body(con: &Console, text: &[u8], names: &[u32]) {
     let w = body_name(names, 128);
-    say_name(text, b"body ", w);
-    say_line(text, kept(w.start));
+    say_name(con, text, b"body ", w);
+    say_line(con, text, kept(w.start));
 }
 
-fn say_last_joint(text: &[u8], names: &[u32]) {
+fn say_last_joint(con: &Console, text: &[u8], names: &[u32]) {
     let w = joint_name(names, 128);
-    say_name(text, b"joint ", w);
-    say_line(text, kept(w.start));
+    say_name(con, text, b"joint ", w);
+    say_line(con, text, kept(w.start));
 }
 
 // ---- a place in the model
 
-fn say_setting_name(i: u32) {
-    err_line(b"dt\nlength_unit\nnormalized_max_corrective_velocity\n", i);
+fn say_setting_name(con: &Console, i: u32) {
+    err_line(
+        con,
+        b"dt\nlength_unit\nnormalized_max_corrective_velocity\n",
+        i,
+    );
 }
 
-fn say_body_place(p: u32) {
+fn say_body_place(con: &Console, p: u32) {
     err_line(
+        con,
         b"\
         rotation, first number\n\
         rotation, second number\n\
@@ -93,20 +99,21 @@ fn say_body_place(p: u32) {
 }
 
 // A joint's two bodies have no word of their own.
-fn say_word_place(p: u32) {
+fn say_word_place(con: &Console, p: u32) {
     if p < 2 {
         return;
     }
-    err(b", ");
-    err_line(b"lock\nlimit\nmotor\ncouple\n", p - 2);
+    err(con, b", ");
+    err_line(con, b"lock\nlimit\nmotor\ncouple\n", p - 2);
 }
 
-fn say_axis(axis: u32) {
-    err_line(b" x\n y\n angle\n", axis);
+fn say_axis(con: &Console, axis: u32) {
+    err_line(con, b" x\n y\n angle\n", axis);
 }
 
-fn say_motor_place(p: u32) {
+fn say_motor_place(con: &Console, p: u32) {
     err_line(
+        con,
         b"\
         target_velocity\n\
         target_position\n\
@@ -117,11 +124,12 @@ fn say_motor_place(p: u32) {
         ",
         p % 6,
     );
-    say_axis(p / 6);
+    say_axis(con, p / 6);
 }
 
-fn say_frame_place(p: u32) {
+fn say_frame_place(con: &Console, p: u32) {
     err_line(
+        con,
         b"\
         frame1_rotation, first number\n\
         frame1_rotation, second number\n\
@@ -136,84 +144,92 @@ fn say_frame_place(p: u32) {
     );
 }
 
-fn say_joint_place(p: u32) {
+fn say_joint_place(con: &Console, p: u32) {
     if p < 8 {
-        say_frame_place(p);
+        say_frame_place(con, p);
         return;
     }
     if p < 17 {
-        err(b"limits");
-        say_axis((p - 8) / 3);
+        err(con, b"limits");
+        say_axis(con, (p - 8) / 3);
         return;
     }
     if p < 35 {
-        say_motor_place(p - 17);
+        say_motor_place(con, p - 17);
         return;
     }
     if p < 37 {
-        err_line(b"natural_frequency\ndamping_ratio\n", p - 35);
+        err_line(con, b"natural_frequency\ndamping_ratio\n", p - 35);
         return;
     }
-    err(b"center");
+    err(con, b"center");
 }
 
-fn say_setting(text: &[u8], origins: &[u32], i: usize) {
+fn say_setting(con: &Console, text: &[u8], origins: &[u32], i: usize) {
     if i < BODIES {
-        err(b"settings, ");
-        say_setting_name(i as u32);
-        say_line(text, word_at(origins, i));
+        err(con, b"settings, ");
+        say_setting_name(con, i as u32);
+        say_line(con, text, word_at(origins, i));
     }
 }
 
-fn say_body_number(text: &[u8], names: &[u32], origins: &[u32], i: usize, p: usize) {
+fn say_body_number(con: &Console, text: &[u8], names: &[u32], origins: &[u32], i: usize, p: usize) {
     if i < MOST as usize {
         if p < BODY_WIDTH {
-            say_name(text, b"body ", body_name(names, i as u32));
-            err(b", ");
-            say_body_place(p as u32);
-            say_line(text, word_at(origins, BODIES + BODY_WIDTH * i + p));
+            say_name(con, text, b"body ", body_name(names, i as u32));
+            err(con, b", ");
+            say_body_place(con, p as u32);
+            say_line(con, text, word_at(origins, BODIES + BODY_WIDTH * i + p));
         }
     }
 }
 
-fn say_joint_word(text: &[u8], names: &[u32], origins: &[u32], j: usize, p: usize) {
+fn say_joint_word(con: &Console, text: &[u8], names: &[u32], origins: &[u32], j: usize, p: usize) {
     if j < MOST as usize {
         if p < WORDS_WIDTH {
-            say_name(text, b"joint ", joint_name(names, j as u32));
-            say_word_place(p as u32);
-            say_line(text, word_at(origins, NUMBERS + WORDS_WIDTH * j + p));
+            say_name(con, text, b"joint ", joint_name(names, j as u32));
+            say_word_place(con, p as u32);
+            say_line(con, text, word_at(origins, NUMBERS + WORDS_WIDTH * j + p));
         }
     }
 }
 
-fn say_joint_number(text: &[u8], names: &[u32], origins: &[u32], j: usize, p: usize) {
+fn say_joint_number(
+    con: &Console,
+    text: &[u8],
+    names: &[u32],
+    origins: &[u32],
+    j: usize,
+    p: usize,
+) {
     if j < MOST as usize {
         if p < NUMBERS_WIDTH {
-            say_name(text, b"joint ", joint_name(names, j as u32));
-            err(b", ");
-            say_joint_place(p as u32);
-            say_line(text, word_at(origins, JOINTS + NUMBERS_WIDTH * j + p));
+            say_name(con, text, b"joint ", joint_name(names, j as u32));
+            err(con, b", ");
+            say_joint_place(con, p as u32);
+            say_line(con, text, word_at(origins, JOINTS + NUMBERS_WIDTH * j + p));
         }
     }
 }
 
-fn say_call(text: &[u8], call: usize) {
-    err(b"the call itself");
-    say_given(text, call);
+fn say_call(con: &Console, text: &[u8], call: usize) {
+    err(con, b"the call itself");
+    say_given(con, text, call);
 }
 
-fn say_in(text: &[u8], names: &[u32], origins: &[u32], place: Place, call: usize) {
+fn say_in(con: &Console, text: &[u8], names: &[u32], origins: &[u32], place: Place, call: usize) {
     match place {
-        Place::Nowhere => say_call(text, call),
-        Place::Setting(i) => say_setting(text, origins, i),
-        Place::BodyNumber(i, p) => say_body_number(text, names, origins, i, p),
-        Place::JointWord(j, p) => say_joint_word(text, names, origins, j, p),
-        Place::JointNumber(j, p) => say_joint_number(text, names, origins, j, p),
+        Place::Nowhere => say_call(con, text, call),
+        Place::Setting(i) => say_setting(con, text, origins, i),
+        Place::BodyNumber(i, p) => say_body_number(con, text, names, origins, i, p),
+        Place::JointWord(j, p) => say_joint_word(con, text, names, origins, j, p),
+        Place::JointNumber(j, p) => say_joint_number(con, text, names, origins, j, p),
     }
 }
 
 // Where a model broke its rule, or the call that did.
 pub fn say_where(
+    con: &Console,
     text: &[u8],
     names: &[u32],
     origins: &[u32],
@@ -225,13 +241,13 @@ pub fn say_where(
     k: u32,
 ) {
     if k == 1 {
-        say_last_body(text, names);
+        say_last_body(con, text, names);
         return;
     }
     if k == 2 {
-        say_last_joint(text, names);
+        say_last_joint(con, text, names);
         return;
     }
     let place = refusal_place(header_of(settings), bodies, words, numbers, k);
-    say_in(text, names, origins, place, call);
+    say_in(con, text, names, origins, place, call);
 }

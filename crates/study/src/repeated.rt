@@ -1,5 +1,5 @@
 // A second reading of the lines, for what the first does not keep: a line that replaces an earlier one, numbers that look mistyped, what is called.
-use crate::out::{err, err_number};
+use crate::out::{Console, err, err_number};
 use crate::place::{say_place, show_line};
 use model::layout::{LIMITS_ANGULAR, MOTOR_ANGULAR, NUMBERS_WIDTH};
 use study_reader::calls::read_call;
@@ -31,9 +31,9 @@ pub fn either(a: bool, b: bool) -> bool {
     b
 }
 
-pub fn begin_warning(name: &[u8], text: &[u8], at: usize) {
-    say_place(name, text, at);
-    err(b"warning: ");
+pub fn begin_warning(con: &Console, name: &[u8], text: &[u8], at: usize) {
+    say_place(con, name, text, at);
+    err(con, b"warning: ");
 }
 
 // ---- a line that replaces another
@@ -63,19 +63,20 @@ fn given_before(seen: &[u32], s: Reading, place: usize) -> u32 {
     before
 }
 
-fn warn_replaced(name: &[u8], text: &[u8], at: usize, before: u32) -> bool {
+fn warn_replaced(con: &Console, name: &[u8], text: &[u8], at: usize, before: u32) -> bool {
     if before == 0 {
         return false;
     }
-    begin_warning(name, text, at);
-    err(b"this line replaces what line ");
-    err_number(line_of(text, before as usize));
-    err(b" gives\n");
-    show_line(text, at);
+    begin_warning(con, name, text, at);
+    err(con, b"this line replaces what line ");
+    err_number(con, line_of(text, before as usize));
+    err(con, b" gives\n");
+    show_line(con, text, at);
     true
 }
 
 fn given_once(
+    con: &Console,
     name: &[u8],
     text: &[u8],
     seen: &mut [u32],
@@ -85,7 +86,7 @@ fn given_once(
 ) -> bool {
     let before = given_before(seen, s, place);
     set_word(seen, place, kept(w.start));
-    warn_replaced(name, text, w.start, before)
+    warn_replaced(con, name, text, w.start, before)
 }
 
 // ---- numbers that look mistyped
@@ -115,64 +116,75 @@ fn typed(text: &[u8], at: usize) -> f32 {
     value_of(number_in(text, next_word(text, at)))
 }
 
-fn warn_turn(name: &[u8], text: &[u8], at: usize, x: f32) -> bool {
+fn warn_turn(con: &Console, name: &[u8], text: &[u8], at: usize, x: f32) -> bool {
     if is_turn(x) {
-        begin_warning(name, text, at);
-        err(b"a turn or more; angles are in radians, not in degrees\n");
-        show_line(text, at);
+        begin_warning(con, name, text, at);
+        err(
+            con,
+            b"a turn or more; angles are in radians, not in degrees\n",
+        );
+        show_line(con, text, at);
         return true;
     }
     false
 }
 
 // An angular limit, a target angle or an angle of a turn or more.
-fn warn_angles(name: &[u8], text: &[u8], kind: u32, keyword: u32, n: Numbers) -> bool {
+fn warn_angles(
+    con: &Console,
+    name: &[u8],
+    text: &[u8],
+    kind: u32,
+    keyword: u32,
+    n: Numbers,
+) -> bool {
     if is_typed_angle(keyword) {
-        return warn_turn(name, text, n.x_at, typed(text, n.x_at));
+        return warn_turn(con, name, text, n.x_at, typed(text, n.x_at));
     }
     if kind != JOINT_ITEM {
         return false;
     }
     if n.place == LIMITS_ANGULAR as u32 {
         return either(
-            warn_turn(name, text, n.x_at, n.x),
-            warn_turn(name, text, n.y_at, n.y),
+            warn_turn(con, name, text, n.x_at, n.x),
+            warn_turn(con, name, text, n.y_at, n.y),
         );
     }
     if n.place == MOTOR_ANGULAR as u32 + 1 {
-        return warn_turn(name, text, n.x_at, n.x);
+        return warn_turn(con, name, text, n.x_at, n.x);
     }
     false
 }
 
-fn warn_inverse(name: &[u8], text: &[u8], at: usize, x: f32, inverse: f32) -> bool {
+fn warn_inverse(con: &Console, name: &[u8], text: &[u8], at: usize, x: f32, inverse: f32) -> bool {
     if inverse != 0.0 {
         return false;
     }
     if x == 0.0 {
         return false;
     }
-    begin_warning(name, text, at);
+    begin_warning(con, name, text, at);
     err(
+        con,
         b"so large or so small that its inverse is taken as 0, as if nothing could move the body\n",
     );
-    show_line(text, at);
+    show_line(con, text, at);
     true
 }
 
 // A mass or an inertia whose inverse is 0.
-fn warn_mass(name: &[u8], text: &[u8], keyword: u32, n: Numbers) -> bool {
+fn warn_mass(con: &Console, name: &[u8], text: &[u8], keyword: u32, n: Numbers) -> bool {
     match keyword {
-        MASS | INERTIA => warn_inverse(name, text, n.x_at, typed(text, n.x_at), n.x),
+        MASS | INERTIA => warn_inverse(con, name, text, n.x_at, typed(text, n.x_at), n.x),
         _ => false,
     }
 }
 
-fn warn_numbers(name: &[u8], text: &[u8], kind: u32, w: Word, n: Numbers) -> bool {
+fn warn_numbers(con: &Console, name: &[u8], text: &[u8], kind: u32, w: Word, n: Numbers) -> bool {
     let keyword = item_keyword(text, w);
     either(
-        warn_angles(name, text, kind, keyword, n),
-        warn_mass(name, text, keyword, n),
+        warn_angles(con, name, text, kind, keyword, n),
+        warn_mass(con, name, text, keyword, n),
     )
 }
 
@@ -227,6 +239,7 @@ fn with_call(s: Reading, st: State, keyword: u32) -> Reading {
 }
 
 fn after_line(
+    con: &Console,
     name: &[u8],
     text: &[u8],
     names: &[u32],
@@ -239,13 +252,13 @@ fn after_line(
     let change = read_line(text, names, st);
     match change {
         Change::Given(n) => {
-            let again = given_once(name, text, seen, s, w, seen_place(st.kind, n.place));
-            let odd = warn_numbers(name, text, st.kind, w, n);
+            let again = given_once(con, name, text, seen, s, w, seen_place(st.kind, n.place));
+            let odd = warn_numbers(con, name, text, st.kind, w, n);
             with_warning(s, either(again, odd))
         }
         Change::JointWord(place, _, _) => {
             let from = seen_place(st.kind, joint_word(place));
-            with_warning(s, given_once(name, text, seen, s, w, from))
+            with_warning(s, given_once(con, name, text, seen, s, w, from))
         }
         Change::OpenSettings => with_item(
             s,
@@ -285,6 +298,7 @@ fn scanned(text: &[u8], s: Reading) -> Reading {
 }
 
 fn scan_line(
+    con: &Console,
     name: &[u8],
     text: &[u8],
     names: &[u32],
@@ -294,10 +308,14 @@ fn scan_line(
 ) -> Reading {
     let st = s.st;
     let w = next_word(text, st.at);
-    scanned(text, after_line(name, text, names, seen, changed, s, w))
+    scanned(
+        text,
+        after_line(con, name, text, names, seen, changed, s, w),
+    )
 }
 
 fn scan_lines(
+    con: &Console,
     name: &[u8],
     text: &[u8],
     names: &[u32],
@@ -316,14 +334,20 @@ fn scan_lines(
         if text.len() <= s.st.at {
             return s;
         }
-        s = scan_line(name, text, names, &mut *seen, &mut *changed, s);
+        s = scan_line(con, name, text, names, &mut *seen, &mut *changed, s);
         left -= 1;
     }
     s
 }
 
 // Reads the lines of a text that can be read once more; which joints' masks are changed by a call is written to `changed`.
-pub fn scan(name: &[u8], text: &[u8], names: &[u32], changed: &mut [u32]) -> Reading {
+pub fn scan(
+    con: &Console,
+    name: &[u8],
+    text: &[u8],
+    names: &[u32],
+    changed: &mut [u32],
+) -> Reading {
     let mut seen = [0u32; 128];
-    scan_lines(name, text, names, &mut seen, changed)
+    scan_lines(con, name, text, names, &mut seen, changed)
 }

@@ -1,5 +1,5 @@
 // How far from settled the rows of a built model are: a row's residual is what one more step would change of its impulse.
-use crate::out::{err, out, out_number, out_part};
+use crate::out::{Console, err, out, out_number, out_part};
 use crate::place::show_line;
 use crate::repeated::begin_warning;
 use model::calls::read_rows;
@@ -132,7 +132,7 @@ pub fn largest(
 // ---- what is said of it
 
 // The line of the row, by its joint's name; nothing where there is no row.
-pub fn out_residual(text: &[u8], names: &[u32], l: Residual) {
+pub fn out_residual(con: &Console, text: &[u8], names: &[u32], l: Residual) {
     if !l.found {
         return;
     }
@@ -145,26 +145,30 @@ pub fn out_residual(text: &[u8], names: &[u32], l: Residual) {
     if end < start {
         return;
     }
-    let mut line = io::buffer();
+    let mut line = [0u8; 4096];
     let id = l.id;
     let n = write_residual(&mut line, &text[start..end], id, l.residual);
-    out_part(&line, 0, n);
+    out_part(con, &line, 0, n);
 }
 
 // A NaN among a table's impulses and residuals, or a residual above a thousandth of the largest impulse. Whether there was one.
-pub fn warn_residual(name: &[u8], text: &[u8], at: usize, l: Residual) -> bool {
+pub fn warn_residual(con: &Console, name: &[u8], text: &[u8], at: usize, l: Residual) -> bool {
     if is_lost_number(l) {
-        begin_warning(name, text, at);
-        err(b"an impulse or a residual of this table is not a number\n");
-        show_line(text, at);
+        begin_warning(con, name, text, at);
+        err(
+            con,
+            b"an impulse or a residual of this table is not a number\n",
+        );
+        show_line(con, text, at);
         return true;
     }
     if is_larger(l.residual, l.impulse * 0.001) {
-        begin_warning(name, text, at);
+        begin_warning(con, name, text, at);
         err(
+            con,
             b"the rows are not settled: the largest residual is above a thousandth of the largest impulse\n",
         );
-        show_line(text, at);
+        show_line(con, text, at);
         return true;
     }
     false
@@ -178,11 +182,11 @@ fn is_lost_number(l: Residual) -> bool {
 }
 
 // After sweeps until no residual is above a tolerance.
-pub fn say_rounds(settled: bool, n: u32) {
+pub fn say_rounds(con: &Console, settled: bool, n: u32) {
     if !settled {
-        out(b"not ");
+        out(con, b"not ");
     }
-    out(b"settled after ");
-    out_number(n as u64);
-    out(b" rounds\n");
+    out(con, b"settled after ");
+    out_number(con, n as u64);
+    out(con, b" rounds\n");
 }

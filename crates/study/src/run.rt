@@ -1,13 +1,12 @@
 // The calls of a study, in order: study_run runs each line, and what its call says is printed. The first refused call ends it.
 use crate::csv::{ALL, Table, record_table};
-use crate::out::{err, err_number, is_lost, out_part};
+use crate::out::{Console, err, err_number, is_out_lost, is_watched, out_part};
 use crate::place::say_place;
 use crate::refusals::{say_rule, say_where};
 use crate::repeated::either;
 use crate::residual::{largest, out_residual, say_rounds, warn_residual};
 use crate::table::{print_rows, print_table};
 use crate::targets::set_named_targets;
-use libc::{STDERR_FILENO, STDOUT_FILENO};
 use model::header::Header;
 use rows::joint_velocity_constraint::SolverVel;
 use study_reader::draft::State;
@@ -55,17 +54,18 @@ fn unswept() -> Motors {
 
 // ---- what is told of a refusal
 
-fn say_refused(name: &[u8], text: &[u8], k: u32, at: usize) {
-    say_place(name, text, at);
-    err(b"refused with ");
-    err_number(k as u64);
-    err(b": ");
-    say_rule(k);
-    err(b"; here: ");
+fn say_refused(con: &Console, name: &[u8], text: &[u8], k: u32, at: usize) {
+    say_place(con, name, text, at);
+    err(con, b"refused with ");
+    err_number(con, k as u64);
+    err(con, b": ");
+    say_rule(con, k);
+    err(con, b"; here: ");
 }
 
 // Tells where a call was refused.
 fn say_all(
+    con: &Console,
     name: &[u8],
     text: &[u8],
     names: &[u32],
@@ -77,14 +77,15 @@ fn say_all(
     call: usize,
     k: u32,
 ) {
-    say_refused(name, text, k, call);
+    say_refused(con, name, text, k, call);
     say_where(
-        text, names, origins, settings, bodies, words, numbers, call, k,
+        con, text, names, origins, settings, bodies, words, numbers, call, k,
     );
 }
 
 // Loads and runs nothing.
 pub fn check_study(
+    con: &Console,
     name: &[u8],
     text: &[u8],
     names: &[u32],
@@ -100,34 +101,34 @@ pub fn check_study(
     let k = refusal_of(run_load(header, bodies, words, numbers, rows, unswept()));
     if k != 0 {
         say_all(
-            name, text, names, origins, settings, bodies, words, numbers, read.calls, k,
+            con, name, text, names, origins, settings, bodies, words, numbers, read.calls, k,
         );
     }
     k
 }
 
 // How far a long study is, where somebody watches.
-fn say_progress(calls: u64) {
+fn say_progress(con: &Console, calls: u64) {
     if calls % 100000 == 0 {
-        if libc::isatty(STDERR_FILENO) == 1 {
-            err(b"study: ");
-            err_number(calls);
-            err(b" calls\n");
+        if is_watched(con) {
+            err(con, b"study: ");
+            err_number(con, calls);
+            err(con, b" calls\n");
         }
     }
 }
 
 // ---- what is printed
 
-fn out_velocity(name: &[u8], v: SolverVel) {
-    let mut line = io::buffer();
+fn out_velocity(con: &Console, name: &[u8], v: SolverVel) {
+    let mut line = [0u8; 4096];
     let linear = v.linear;
     let n = write_velocity(&mut line, name, linear.x, linear.y, v.angular);
-    out_part(&line, 0, n);
+    out_part(con, &line, 0, n);
 }
 
 // A body's velocity, by its name.
-fn velocity_line(text: &[u8], names: &[u32], i: u32, v: SolverVel) {
+fn velocity_line(con: &Console, text: &[u8], names: &[u32], i: u32, v: SolverVel) {
     let w = body_name(names, i);
     let start = w.start;
     let end = w.end;
@@ -137,7 +138,7 @@ fn velocity_line(text: &[u8], names: &[u32], i: u32, v: SolverVel) {
     if end < start {
         return;
     }
-    out_velocity(&text[start..end], v);
+    out_velocity(con, &text[start..end], v);
 }
 
 // ---- the run after a turn
@@ -168,8 +169,8 @@ fn ended(r: Run, k: u32) -> Run {
 }
 
 // Standard output that cannot be written ends a study too.
-fn printed(r: Run, t: Turned) -> Run {
-    if is_lost(STDOUT_FILENO) {
+fn printed(con: &Console, r: Run, t: Turned) -> Run {
+    if is_out_lost(con) {
         return ended(r, NO_FILE);
     }
     went(r, t)
@@ -184,6 +185,7 @@ fn counted(tables: u32) -> u32 {
 
 // What a call asks to be printed of the model: a joint's rows, a body's velocity, or after how many rounds the rows are settled or not, with the row of the largest residual.
 fn print_reply(
+    con: &Console,
     text: &[u8],
     names: &[u32],
     header: Header,
@@ -196,11 +198,14 @@ fn print_reply(
     reply: Reply,
 ) {
     match reply {
-        Reply::Rows(j) => print_rows(text, names, header, bodies, words, numbers, rows, motors, j),
-        Reply::Velocity(i, v) => velocity_line(text, names, i, v),
+        Reply::Rows(j) => print_rows(
+            con, text, names, header, bodies, words, numbers, rows, motors, j,
+        ),
+        Reply::Velocity(i, v) => velocity_line(con, text, names, i, v),
         Reply::Settled(settled, n) => {
-            say_rounds(settled, n);
+            say_rounds(con, settled, n);
             out_residual(
+                con,
                 text,
                 names,
                 largest(header, bodies, words, numbers, rows, joints),
@@ -212,6 +217,7 @@ fn print_reply(
 
 // A table, or its records, and what its numbers say of themselves.
 fn table_turn(
+    con: &Console,
     name: &[u8],
     text: &[u8],
     names: &[u32],
@@ -231,7 +237,7 @@ fn table_turn(
     let most = largest(header, bodies, words, numbers, rows, st.joints);
     if r.kind == ALL {
         print_table(
-            text, names, header, bodies, words, numbers, rows, motors, st.joints, csv, most,
+            con, text, names, header, bodies, words, numbers, rows, motors, st.joints, csv, most,
         );
     } else {
         let table = Table {
@@ -239,20 +245,21 @@ fn table_turn(
             number,
         };
         record_table(
-            name, text, names, header, bodies, words, numbers, rows, motors, st, table, r.kind,
+            con, name, text, names, header, bodies, words, numbers, rows, motors, st, table, r.kind,
         );
     }
-    let mut s = printed(r, t);
+    let mut s = printed(con, r, t);
     if s.over {
         return s;
     }
-    s.warned = either(r.warned, warn_residual(name, text, w.start, most));
+    s.warned = either(r.warned, warn_residual(con, name, text, w.start, most));
     s.tables = number;
     s
 }
 
 // The motor table that a call names.
 fn targets_turn(
+    con: &Console,
     name: &[u8],
     text: &[u8],
     bodies: &[f32],
@@ -265,15 +272,18 @@ fn targets_turn(
 ) -> Run {
     let header = t.header;
     let motors = t.motors;
-    let k = set_named_targets(name, text, w, header, bodies, words, numbers, rows, motors);
+    let k = set_named_targets(
+        con, name, text, w, header, bodies, words, numbers, rows, motors,
+    );
     if k != 0 {
         return ended(r, k);
     }
-    printed(r, t)
+    printed(con, r, t)
 }
 
 // What a call said: printed, fetched, or the end.
 fn replied(
+    con: &Console,
     name: &[u8],
     text: &[u8],
     names: &[u32],
@@ -290,9 +300,10 @@ fn replied(
         Reply::Granted => went(r, t),
         Reply::Refused(k) => ended(r, k),
         Reply::Table(csv) => table_turn(
-            name, text, names, bodies, words, numbers, rows, st, r, t, csv,
+            con, name, text, names, bodies, words, numbers, rows, st, r, t, csv,
         ),
         Reply::Targets(start, end) => targets_turn(
+            con,
             name,
             text,
             bodies,
@@ -308,16 +319,18 @@ fn replied(
                 let header = t.header;
                 let motors = t.motors;
                 print_reply(
-                    text, names, header, bodies, words, numbers, rows, motors, st.joints, reply,
+                    con, text, names, header, bodies, words, numbers, rows, motors, st.joints,
+                    reply,
                 );
             }
-            printed(r, t)
+            printed(con, r, t)
         }
     }
 }
 
 // What a turn tells.
 fn turned(
+    con: &Console,
     name: &[u8],
     text: &[u8],
     names: &[u32],
@@ -334,7 +347,7 @@ fn turned(
         Told::Over => ended(r, 0),
         Told::Passed => went(r, t),
         Told::Called(reply) => replied(
-            name, text, names, bodies, words, numbers, rows, st, r, t, reply,
+            con, name, text, names, bodies, words, numbers, rows, st, r, t, reply,
         ),
     }
 }
@@ -343,6 +356,7 @@ fn turned(
 
 // One line.
 fn run_turn(
+    con: &Console,
     name: &[u8],
     text: &[u8],
     names: &[u32],
@@ -359,11 +373,14 @@ fn run_turn(
     let t = turn(
         text, names, st.bodies, st.joints, place, header, bodies, words, numbers, rows, motors,
     );
-    turned(name, text, names, bodies, words, numbers, rows, st, r, t)
+    turned(
+        con, name, text, names, bodies, words, numbers, rows, st, r, t,
+    )
 }
 
 // All calls, as far as the first that is refused.
 fn run_calls(
+    con: &Console,
     name: &[u8],
     text: &[u8],
     names: &[u32],
@@ -381,13 +398,14 @@ fn run_calls(
             return r;
         }
         calls += 1;
-        r = run_turn(name, text, names, bodies, words, numbers, rows, st, r);
-        say_progress(calls);
+        r = run_turn(con, name, text, names, bodies, words, numbers, rows, st, r);
+        say_progress(con, calls);
     }
     r
 }
 
 pub fn run_study(
+    con: &Console,
     name: &[u8],
     text: &[u8],
     names: &[u32],
@@ -402,15 +420,18 @@ pub fn run_study(
     kind: u32,
 ) -> Run {
     let start = begun(header, st.calls, kind);
-    let r = run_calls(name, text, names, bodies, words, numbers, rows, st, start);
+    let r = run_calls(
+        con, name, text, names, bodies, words, numbers, rows, st, start,
+    );
     say_ended(
-        name, text, names, origins, settings, bodies, words, numbers, r,
+        con, name, text, names, origins, settings, bodies, words, numbers, r,
     );
     r
 }
 
 // Tells where the call was refused that ended a run.
 fn say_ended(
+    con: &Console,
     name: &[u8],
     text: &[u8],
     names: &[u32],
@@ -429,7 +450,7 @@ fn say_ended(
     }
     let w = next_word(text, r.place.at);
     say_all(
-        name, text, names, origins, settings, bodies, words, numbers, w.start, r.refused,
+        con, name, text, names, origins, settings, bodies, words, numbers, w.start, r.refused,
     );
 }
 

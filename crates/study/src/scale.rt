@@ -1,5 +1,5 @@
 // The bar of a picture's scale: 1, 2 or 5 times a power of ten of metres.
-use crate::out::{out, out_millionths};
+use crate::out::{Console, out, out_millionths};
 
 // A length of a digit times a power of ten, whose exponent is kept 30 higher.
 #[derive(Clone, Copy)]
@@ -57,41 +57,41 @@ fn bar_for(scale: f32) -> Bar {
     b
 }
 
-fn out_zeros(n: u32) {
+fn out_zeros(con: &Console, n: u32) {
     let mut left = n;
     while 0 < left {
-        out(b"0");
+        out(con, b"0");
         left -= 1;
     }
 }
 
-fn out_digit(digit: u32) {
+fn out_digit(con: &Console, digit: u32) {
     match digit {
-        1 => out(b"1"),
-        2 => out(b"2"),
-        _ => out(b"5"),
+        1 => out(con, b"1"),
+        2 => out(con, b"2"),
+        _ => out(con, b"5"),
     }
 }
 
 // The number of metres as a decimal.
-fn out_metres(b: Bar) {
+fn out_metres(con: &Console, b: Bar) {
     if 30 <= b.exponent {
-        out_digit(b.digit);
-        out_zeros(b.exponent - 30);
+        out_digit(con, b.digit);
+        out_zeros(con, b.exponent - 30);
         return;
     }
-    out(b"0.");
-    out_zeros(29 - b.exponent);
-    out_digit(b.digit);
+    out(con, b"0.");
+    out_zeros(con, 29 - b.exponent);
+    out_digit(con, b.digit);
 }
 
 // The bar's label, under a height of the picture; answers how long the bar is.
-pub fn out_scale(scale: f32, y: f32) -> f32 {
+pub fn out_scale(con: &Console, scale: f32, y: f32) -> f32 {
     let b = bar_for(scale);
-    out(b"<text x=\"0\" y=\"");
-    out_millionths(y + 0.0003);
-    out(b"\">");
-    out_metres(b);
-    out(b" m</text>\n");
+    out(con, b"<text x=\"0\" y=\"");
+    out_millionths(con, y + 0.0003);
+    out(con, b"\">");
+    out_metres(con, b);
+    out(con, b" m</text>\n");
     b.metres * scale
 }

@@ -1,6 +1,6 @@
 // The table of a built model: a line a row, and the rules that its rows came from.
 use crate::help::made_by;
-use crate::out::out_part;
+use crate::out::{Console, out_part};
 use crate::records::joint_word;
 use crate::residual::{Residual, out_residual};
 use catalogue::text::put_id;
@@ -22,10 +22,10 @@ use study_text::row::write_row;
 use study_text::rules::{rule_index, rule_of};
 
 // An id as document 01's cases write it.
-pub fn out_id(id: WritebackId) {
+pub fn out_id(con: &Console, id: WritebackId) {
     let mut bytes = [0u8; 6];
     let end = put_id(&mut bytes, 0, id);
-    out_part(&bytes, 0, end);
+    out_part(con, &bytes, 0, end);
 }
 
 // ---- one line, as text or as comma-separated values
@@ -55,44 +55,52 @@ pub enum Line {
 }
 
 // One row, by the names of its joint and bodies. A name has at most 64 bytes, so that the line fits.
-fn out_row(joint: &[u8], body1: &[u8], body2: &[u8], h: Heading, v: Values) {
+fn out_row(con: &Console, joint: &[u8], body1: &[u8], body2: &[u8], h: Heading, v: Values) {
     let id = v.id;
-    let mut line = io::buffer();
+    let mut line = [0u8; 4096];
     if h.csv {
         let n = write_csv_row(
             &mut line, joint, body1, body2, id, h.coupled, v.impulse, v.low, v.high, v.residual,
         );
-        out_part(&line, 0, n);
+        out_part(con, &line, 0, n);
         return;
     }
     let n = write_row(
         &mut line, joint, body1, body2, id, h.coupled, v.impulse, v.low, v.high, v.residual,
     );
-    out_part(&line, 0, n);
+    out_part(con, &line, 0, n);
 }
 
-fn out_reaction(joint: &[u8], body1: &[u8], body2: &[u8], h: Heading, g: Given) {
+fn out_reaction(con: &Console, joint: &[u8], body1: &[u8], body2: &[u8], h: Heading, g: Given) {
     let reaction = g.reaction;
-    let mut line = io::buffer();
+    let mut line = [0u8; 4096];
     if h.csv {
         let n = write_csv_reaction(&mut line, joint, body1, body2, reaction, g.swept, g.motors);
-        out_part(&line, 0, n);
+        out_part(con, &line, 0, n);
         return;
     }
     let n = write_reaction(&mut line, joint, body1, body2, reaction, g.swept, g.motors);
-    out_part(&line, 0, n);
+    out_part(con, &line, 0, n);
 }
 
-fn out_line(joint: &[u8], body1: &[u8], body2: &[u8], h: Heading, line: Line) {
+fn out_line(con: &Console, joint: &[u8], body1: &[u8], body2: &[u8], h: Heading, line: Line) {
     match line {
-        Line::Row(v) => out_row(joint, body1, body2, h, v),
-        Line::Reaction(g) => out_reaction(joint, body1, body2, h, g),
+        Line::Row(v) => out_row(con, joint, body1, body2, h, v),
+        Line::Reaction(g) => out_reaction(con, joint, body1, body2, h, g),
     }
 }
 
-fn text_body2(text: &[u8], names: &[u32], joint: &[u8], body1: &[u8], h: Heading, line: Line) {
+fn text_body2(
+    con: &Console,
+    text: &[u8],
+    names: &[u32],
+    joint: &[u8],
+    body1: &[u8],
+    h: Heading,
+    line: Line,
+) {
     if h.body2 == WORLD {
-        out_line(joint, body1, b"world", h, line);
+        out_line(con, joint, body1, b"world", h, line);
         return;
     }
     let w = body_name(names, h.body2);
@@ -104,12 +112,12 @@ fn text_body2(text: &[u8], names: &[u32], joint: &[u8], body1: &[u8], h: Heading
     if end < start {
         return;
     }
-    out_line(joint, body1, &text[start..end], h, line);
+    out_line(con, joint, body1, &text[start..end], h, line);
 }
 
-fn text_body1(text: &[u8], names: &[u32], joint: &[u8], h: Heading, line: Line) {
+fn text_body1(con: &Console, text: &[u8], names: &[u32], joint: &[u8], h: Heading, line: Line) {
     if h.body1 == WORLD {
-        text_body2(text, names, joint, b"world", h, line);
+        text_body2(con, text, names, joint, b"world", h, line);
         return;
     }
     let w = body_name(names, h.body1);
@@ -121,10 +129,10 @@ fn text_body1(text: &[u8], names: &[u32], joint: &[u8], h: Heading, line: Line) 
     if end < start {
         return;
     }
-    text_body2(text, names, joint, &text[start..end], h, line);
+    text_body2(con, text, names, joint, &text[start..end], h, line);
 }
 
-pub fn text_joint(text: &[u8], names: &[u32], h: Heading, line: Line) {
+pub fn text_joint(con: &Console, text: &[u8], names: &[u32], h: Heading, line: Line) {
     let w = joint_name(names, h.joint);
     let start = w.start;
     let end = w.end;
@@ -134,7 +142,7 @@ pub fn text_joint(text: &[u8], names: &[u32], h: Heading, line: Line) {
     if end < start {
         return;
     }
-    text_body1(text, names, &text[start..end], h, line);
+    text_body1(con, text, names, &text[start..end], h, line);
 }
 
 // ---- rows
@@ -180,6 +188,7 @@ fn bit(rule: u32) -> u32 {
 }
 
 fn row_lines(
+    con: &Console,
     text: &[u8],
     names: &[u32],
     bodies: &[f32],
@@ -204,7 +213,7 @@ fn row_lines(
                 high: row.impulse_max,
                 residual: residual_at(bodies, words, row, joint),
             };
-            text_joint(text, names, h, Line::Row(values));
+            text_joint(con, text, names, h, Line::Row(values));
             all = all | bit(rule_index(rule_of(id, h.coupled)));
         }
         i += 1;
@@ -214,6 +223,7 @@ fn row_lines(
 
 // The rows of one joint.
 fn joint_lines(
+    con: &Console,
     text: &[u8],
     names: &[u32],
     header: Header,
@@ -227,11 +237,12 @@ fn joint_lines(
     let read = read_rows(header, bodies, words, numbers, rows, h.joint);
     let named = read.ids;
     let made = read.rows;
-    row_lines(text, names, bodies, words, h, named, made, used)
+    row_lines(con, text, names, bodies, words, h, named, made, used)
 }
 
 // The reaction of one joint: what its rows together gave its bodies; and its motors that the last round found low or high.
 pub fn reaction_line(
+    con: &Console,
     text: &[u8],
     names: &[u32],
     header: Header,
@@ -249,49 +260,50 @@ pub fn reaction_line(
         swept: h.swept,
         motors: h.motors,
     };
-    text_joint(text, names, h, Line::Reaction(given));
+    text_joint(con, text, names, h, Line::Reaction(given));
 }
 
-pub fn out_reaction_heading(csv: bool) {
-    let mut line = io::buffer();
+pub fn out_reaction_heading(con: &Console, csv: bool) {
+    let mut line = [0u8; 4096];
     if csv {
         let n = write_csv_reaction_heading(&mut line);
-        out_part(&line, 0, n);
+        out_part(con, &line, 0, n);
         return;
     }
     let n = write_reaction_heading(&mut line);
-    out_part(&line, 0, n);
+    out_part(con, &line, 0, n);
 }
 
-pub fn out_reaction_notes() {
-    let mut lines = io::buffer();
+pub fn out_reaction_notes(con: &Console) {
+    let mut lines = [0u8; 4096];
     let n = write_reaction_notes(&mut lines);
-    out_part(&lines, 0, n);
+    out_part(con, &lines, 0, n);
 }
 
-pub fn out_heading(csv: bool) {
-    let mut line = io::buffer();
+pub fn out_heading(con: &Console, csv: bool) {
+    let mut line = [0u8; 4096];
     if csv {
         let n = write_csv_heading(&mut line);
-        out_part(&line, 0, n);
+        out_part(con, &line, 0, n);
         return;
     }
     let n = write_heading(&mut line);
-    out_part(&line, 0, n);
+    out_part(con, &line, 0, n);
 }
 
 // The rules that were used, each once, in words, and the version that made the table.
-pub fn out_rules(used: u32) {
+pub fn out_rules(con: &Console, used: u32) {
     let mut lines = [0u8; 4608];
     let n = write_rules(&mut lines, used);
-    out_part(&lines, 0, n);
-    made_by();
+    out_part(con, &lines, 0, n);
+    made_by(con);
 }
 
 // ---- what a call prints
 
 // A joint's rows, without a heading.
 pub fn print_rows(
+    con: &Console,
     text: &[u8],
     names: &[u32],
     header: Header,
@@ -303,11 +315,12 @@ pub fn print_rows(
     joint: u32,
 ) {
     let h = heading_of(words, motors, joint, false);
-    joint_lines(text, names, header, bodies, words, numbers, rows, h, 0);
+    joint_lines(con, text, names, header, bodies, words, numbers, rows, h, 0);
 }
 
 // The rows of the first so many joints; answers the rules that they came from.
 fn all_lines(
+    con: &Console,
     text: &[u8],
     names: &[u32],
     header: Header,
@@ -323,7 +336,9 @@ fn all_lines(
     let mut j: u32 = 0;
     while j < joints {
         let h = heading_of(words, motors, j, csv);
-        used = joint_lines(text, names, header, bodies, words, numbers, rows, h, used);
+        used = joint_lines(
+            con, text, names, header, bodies, words, numbers, rows, h, used,
+        );
         j += 1;
     }
     used
@@ -331,6 +346,7 @@ fn all_lines(
 
 // The joints' reactions, a line each, under the rows.
 fn all_reactions(
+    con: &Console,
     text: &[u8],
     names: &[u32],
     header: Header,
@@ -342,17 +358,18 @@ fn all_reactions(
     joints: u32,
     csv: bool,
 ) {
-    out_reaction_heading(csv);
+    out_reaction_heading(con, csv);
     let mut j: u32 = 0;
     while j < joints {
         let h = heading_of(words, motors, j, csv);
-        reaction_line(text, names, header, bodies, words, numbers, rows, h);
+        reaction_line(con, text, names, header, bodies, words, numbers, rows, h);
         j += 1;
     }
 }
 
 // A table, with the row of the largest residual.
 pub fn print_table(
+    con: &Console,
     text: &[u8],
     names: &[u32],
     header: Header,
@@ -365,18 +382,18 @@ pub fn print_table(
     csv: bool,
     most: Residual,
 ) {
-    out_heading(csv);
+    out_heading(con, csv);
     let used = all_lines(
-        text, names, header, bodies, words, numbers, rows, motors, joints, csv,
+        con, text, names, header, bodies, words, numbers, rows, motors, joints, csv,
     );
     if !csv {
-        out_residual(text, names, most);
+        out_residual(con, text, names, most);
     }
     all_reactions(
-        text, names, header, bodies, words, numbers, rows, motors, joints, csv,
+        con, text, names, header, bodies, words, numbers, rows, motors, joints, csv,
     );
     if !csv {
-        out_reaction_notes();
-        out_rules(used);
+        out_reaction_notes(con);
+        out_rules(con, used);
     }
 }

@@ -1,9 +1,11 @@
 // The table of motor targets that a study names: a file beside the study's own, unless its name starts at the root.
-use crate::input::read_all;
-use crate::out::err;
+use crate::input::{open, read_all};
+use crate::out::{Console, EINVAL, err, fail};
 use crate::place::{say_place, show_line};
 use crate::run::{NO_FILE, refusal_of};
 use model::header::Header;
+use std::fs::File;
+use std::io;
 use study_reader::words::{Word, bytes_of};
 use study_run::motors::Motors;
 use study_run::runs::run_targets;
@@ -78,54 +80,61 @@ fn put_path(path: &mut [u8], name: &[u8], file: &[u8]) -> usize {
 
 // ---- the file
 
-fn open_part(path: &[u8], n: usize) -> i32 {
+fn open_part(con: &Console, path: &[u8], n: usize) -> io::Result<File> {
     if path.len() < n {
-        return -1;
+        return Err(io::Error::from_raw_os_error(EINVAL));
     }
-    os::open_read(&path[0..n])
+    open(con, &path[0..n])
 }
 
-fn fail_part(path: &[u8], n: usize) {
+fn fail_part(con: &Console, path: &[u8], n: usize, error: io::Error) {
     if path.len() < n {
         return;
     }
-    os::fail(&path[0..n]);
+    fail(con, &path[0..n], error);
 }
 
-fn say_no_table(name: &[u8], text: &[u8], w: Word, path: &[u8], n: usize) -> u32 {
-    say_place(name, text, w.start);
-    fail_part(path, n);
-    show_line(text, w.start);
-    NO_FILE
-}
-
-fn too_long(name: &[u8], text: &[u8], w: Word) -> u32 {
-    say_place(name, text, w.start);
-    err(b"a motor table has at most 262143 bytes\n");
-    show_line(text, w.start);
-    NO_FILE
-}
-
-// Whether the table that a word names can be opened: 0, or what `set_named_targets` answers where it cannot.
-pub fn find_targets(name: &[u8], text: &[u8], w: Word) -> u32 {
-    let mut path = io::buffer();
-    let n = put_path(&mut path, name, bytes_of(text, w));
-    let fd = open_part(&path, n);
-    if fd < 0 {
-        return say_no_table(name, text, w, &path, n);
-    }
-    libc::close(fd);
-    0
-}
-
-// A table's bytes from a descriptor.
-fn targets_from(
+fn say_no_table(
+    con: &Console,
     name: &[u8],
     text: &[u8],
     w: Word,
     path: &[u8],
     n: usize,
-    fd: i32,
+    error: io::Error,
+) -> u32 {
+    say_place(con, name, text, w.start);
+    fail_part(con, path, n, error);
+    show_line(con, text, w.start);
+    NO_FILE
+}
+
+fn too_long(con: &Console, name: &[u8], text: &[u8], w: Word) -> u32 {
+    say_place(con, name, text, w.start);
+    err(con, b"a motor table has at most 262143 bytes\n");
+    show_line(con, text, w.start);
+    NO_FILE
+}
+
+// Whether the table that a word names can be opened: 0, or what `set_named_targets` answers where it cannot.
+pub fn find_targets(con: &Console, name: &[u8], text: &[u8], w: Word) -> u32 {
+    let mut path = [0u8; 4096];
+    let n = put_path(&mut path, name, bytes_of(text, w));
+    match open_part(con, &path, n) {
+        Ok(_) => 0,
+        Err(error) => say_no_table(con, name, text, w, &path, n, error),
+    }
+}
+
+// A table's bytes from a file.
+fn targets_from(
+    con: &Console,
+    name: &[u8],
+    text: &[u8],
+    w: Word,
+    path: &[u8],
+    n: usize,
+    file: &mut File,
     header: Header,
     bodies: &[f32],
     words: &[u32],
@@ -134,19 +143,20 @@ fn targets_from(
     motors: Motors,
 ) -> u32 {
     let mut table = [0u8; 262144];
-    let input = read_all(fd, &mut table);
-    if input.failed {
-        return say_no_table(name, text, w, path, n);
+    let input = read_all(file, &mut table);
+    if let Some(error) = input.failed {
+        return say_no_table(con, name, text, w, path, n, error);
     }
     let len = input.len;
     if len == 262144 {
-        return too_long(name, text, w);
+        return too_long(con, name, text, w);
     }
     refusal_of(run_targets(header, bodies, words, numbers, rows, motors, &table[..len]))
 }
 
 // The call's refusal, or 0.
 pub fn set_named_targets(
+    con: &Console,
     name: &[u8],
     text: &[u8],
     w: Word,
@@ -157,15 +167,12 @@ pub fn set_named_targets(
     rows: &[f32],
     motors: Motors,
 ) -> u32 {
-    let mut path = io::buffer();
+    let mut path = [0u8; 4096];
     let n = put_path(&mut path, name, bytes_of(text, w));
-    let fd = open_part(&path, n);
-    if fd < 0 {
-        return say_no_table(name, text, w, &path, n);
+    match open_part(con, &path, n) {
+        Ok(mut file) => targets_from(
+            con, name, text, w, &path, n, &mut file, header, bodies, words, numbers, rows, motors,
+        ),
+        Err(error) => say_no_table(con, name, text, w, &path, n, error),
     }
-    let k = targets_from(
-        name, text, w, &path, n, fd, header, bodies, words, numbers, rows, motors,
-    );
-    libc::close(fd);
-    k
 }

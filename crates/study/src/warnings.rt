@@ -1,6 +1,6 @@
 // What document 01 lets through and a person wants to hear about. Warnings go to standard error and change nothing; each function answers whether it
 // gave one.
-use crate::out::{err, err_line, err_part};
+use crate::out::{Console, err, err_line, err_part};
 use crate::place::show_line;
 use crate::records::{
     body_number, body_origin, frame1_at, frame1_rotation, frame2_at, joint_number, joint_origin,
@@ -53,8 +53,9 @@ const NOT_DRIVEN: u32 = 21;
 
 const NO_MOTOR: u32 = 24;
 
-fn say_warning(k: u32) {
+fn say_warning(con: &Console, k: u32) {
     err_line(
+        con,
         b"\
         : its rotation is far from unit length\n\
         : a negative inverse mass\n\
@@ -88,32 +89,32 @@ fn say_warning(k: u32) {
     );
 }
 
-fn say_kind(k: u32) {
+fn say_kind(con: &Console, k: u32) {
     if k < FRAME1 {
-        err(b"body ");
+        err(con, b"body ");
     } else {
-        err(b"joint ");
+        err(con, b"joint ");
     }
 }
 
 // The warning, at the word of the line that gave it.
-fn warn_at(name: &[u8], text: &[u8], at: usize, w: Word, k: u32) -> bool {
-    begin_warning(name, text, at);
-    say_kind(k);
-    err_part(text, w.start, w.end);
-    say_warning(k);
-    err(b"\n");
-    show_line(text, at);
+fn warn_at(con: &Console, name: &[u8], text: &[u8], at: usize, w: Word, k: u32) -> bool {
+    begin_warning(con, name, text, at);
+    say_kind(con, k);
+    err_part(con, text, w.start, w.end);
+    say_warning(con, k);
+    err(con, b"\n");
+    show_line(con, text, at);
     true
 }
 
-fn warn(name: &[u8], text: &[u8], w: Word, k: u32) -> bool {
-    warn_at(name, text, w.start, w, k)
+fn warn(con: &Console, name: &[u8], text: &[u8], w: Word, k: u32) -> bool {
+    warn_at(con, name, text, w.start, w, k)
 }
 
-fn warn_if(name: &[u8], text: &[u8], w: Word, k: u32, wrong: bool) -> bool {
+fn warn_if(con: &Console, name: &[u8], text: &[u8], w: Word, k: u32, wrong: bool) -> bool {
     if wrong {
-        return warn(name, text, w, k);
+        return warn(con, name, text, w, k);
     }
     false
 }
@@ -149,17 +150,18 @@ fn is_negative(draft: &[f32], i: u32) -> bool {
 }
 
 // What a body that a joint names lacks.
-fn warn_masses(name: &[u8], text: &[u8], origins: &[u32], i: u32, w: Word) -> bool {
+fn warn_masses(con: &Console, name: &[u8], text: &[u8], origins: &[u32], i: u32, w: Word) -> bool {
     if body_origin(origins, i, 4) != 0 {
         return false;
     }
     if body_origin(origins, i, 5) != 0 {
-        return warn(name, text, w, NO_INERTIA);
+        return warn(con, name, text, w, NO_INERTIA);
     }
-    warn(name, text, w, NO_MASS)
+    warn(con, name, text, w, NO_MASS)
 }
 
 fn warn_named(
+    con: &Console,
     name: &[u8],
     text: &[u8],
     origins: &[u32],
@@ -169,12 +171,13 @@ fn warn_named(
     w: Word,
 ) -> bool {
     if is_named(words, joints, i) {
-        return warn_masses(name, text, origins, i, w);
+        return warn_masses(con, name, text, origins, i, w);
     }
-    warn(name, text, w, NOT_NAMED)
+    warn(con, name, text, w, NOT_NAMED)
 }
 
 fn warn_body(
+    con: &Console,
     name: &[u8],
     text: &[u8],
     draft: &[f32],
@@ -186,9 +189,9 @@ fn warn_body(
 ) -> bool {
     let w = body_name(names, i);
     let far = is_far(body_number(draft, i, 0), body_number(draft, i, 1));
-    let turned = warn_if(name, text, w, ROTATION, far);
-    let negative = warn_if(name, text, w, NEGATIVE_MASS, is_negative(draft, i));
-    let named = warn_named(name, text, origins, words, joints, i, w);
+    let turned = warn_if(con, name, text, w, ROTATION, far);
+    let negative = warn_if(con, name, text, w, NEGATIVE_MASS, is_negative(draft, i));
+    let named = warn_named(con, name, text, origins, words, joints, i, w);
     either(turned, either(negative, named))
 }
 
@@ -203,11 +206,33 @@ fn is_missing(origins: &[u32], j: u32, position: usize, rotation: usize) -> bool
     joint_origin(origins, j, position) == 0 && joint_origin(origins, j, rotation) == 0
 }
 
-fn warn_frames(name: &[u8], text: &[u8], draft: &[f32], origins: &[u32], j: u32, w: Word) -> bool {
-    let one = warn_if(name, text, w, FRAME1, is_missing(origins, j, 2, 0));
-    let two = warn_if(name, text, w, FRAME2, is_missing(origins, j, 6, 4));
-    let three = warn_if(name, text, w, FRAME1_ROTATION, is_far_at(draft, j, 0, 1));
-    let four = warn_if(name, text, w, FRAME2_ROTATION, is_far_at(draft, j, 4, 5));
+fn warn_frames(
+    con: &Console,
+    name: &[u8],
+    text: &[u8],
+    draft: &[f32],
+    origins: &[u32],
+    j: u32,
+    w: Word,
+) -> bool {
+    let one = warn_if(con, name, text, w, FRAME1, is_missing(origins, j, 2, 0));
+    let two = warn_if(con, name, text, w, FRAME2, is_missing(origins, j, 6, 4));
+    let three = warn_if(
+        con,
+        name,
+        text,
+        w,
+        FRAME1_ROTATION,
+        is_far_at(draft, j, 0, 1),
+    );
+    let four = warn_if(
+        con,
+        name,
+        text,
+        w,
+        FRAME2_ROTATION,
+        is_far_at(draft, j, 4, 5),
+    );
     either(either(one, two), either(three, four))
 }
 
@@ -240,10 +265,17 @@ fn are_reversed(draft: &[f32], j: u32, low: usize, high: usize) -> bool {
     joint_number(draft, j, high) < joint_number(draft, j, low)
 }
 
-fn warn_limits(name: &[u8], text: &[u8], draft: &[f32], j: u32, w: Word) -> bool {
-    let one = warn_if(name, text, w, LIMITS_X, are_reversed(draft, j, 8, 9));
-    let two = warn_if(name, text, w, LIMITS_Y, are_reversed(draft, j, 11, 12));
-    let three = warn_if(name, text, w, LIMITS_ANGLE, are_reversed(draft, j, 14, 15));
+fn warn_limits(con: &Console, name: &[u8], text: &[u8], draft: &[f32], j: u32, w: Word) -> bool {
+    let one = warn_if(con, name, text, w, LIMITS_X, are_reversed(draft, j, 8, 9));
+    let two = warn_if(con, name, text, w, LIMITS_Y, are_reversed(draft, j, 11, 12));
+    let three = warn_if(
+        con,
+        name,
+        text,
+        w,
+        LIMITS_ANGLE,
+        are_reversed(draft, j, 14, 15),
+    );
     either(one, either(two, three))
 }
 
@@ -279,6 +311,7 @@ fn is_idle(coupled: u32, axis: usize) -> bool {
 
 // An axis that a mask names or not, by whether its numbers are given; `lacks` where they should be, and `idle` where nothing reads them.
 fn warn_given_axis(
+    con: &Console,
     name: &[u8],
     text: &[u8],
     w: Word,
@@ -288,15 +321,16 @@ fn warn_given_axis(
     idle: u32,
 ) -> bool {
     if named {
-        return warn_if(name, text, w, lacks, given == 0);
+        return warn_if(con, name, text, w, lacks, given == 0);
     }
     if given == 0 {
         return false;
     }
-    warn_at(name, text, given as usize, w, idle)
+    warn_at(con, name, text, given as usize, w, idle)
 }
 
 fn warn_axis(
+    con: &Console,
     name: &[u8],
     text: &[u8],
     origins: &[u32],
@@ -317,6 +351,7 @@ fn warn_axis(
     let driven = has_axis(joint_word(words, j, 4), a);
     let motor = motor_origin(origins, j, 17 + 6 * a);
     let one = warn_given_axis(
+        con,
         name,
         text,
         w,
@@ -326,6 +361,7 @@ fn warn_axis(
         NOT_LIMITED + axis,
     );
     let two = warn_given_axis(
+        con,
         name,
         text,
         w,
@@ -337,10 +373,18 @@ fn warn_axis(
     either(one, two)
 }
 
-fn warn_axes(name: &[u8], text: &[u8], origins: &[u32], words: &[u32], j: u32, w: Word) -> bool {
-    let x = warn_axis(name, text, origins, words, j, 0, w);
-    let y = warn_axis(name, text, origins, words, j, 1, w);
-    let angle = warn_axis(name, text, origins, words, j, 2, w);
+fn warn_axes(
+    con: &Console,
+    name: &[u8],
+    text: &[u8],
+    origins: &[u32],
+    words: &[u32],
+    j: u32,
+    w: Word,
+) -> bool {
+    let x = warn_axis(con, name, text, origins, words, j, 0, w);
+    let y = warn_axis(con, name, text, origins, words, j, 1, w);
+    let angle = warn_axis(con, name, text, origins, words, j, 2, w);
     either(x, either(y, angle))
 }
 
@@ -357,9 +401,17 @@ fn is_loose(words: &[u32], j: u32) -> bool {
     limited & coupled != 0 || joint_word(words, j, 4) & coupled == 0
 }
 
-fn warn_masks(name: &[u8], text: &[u8], origins: &[u32], words: &[u32], j: u32, w: Word) -> bool {
-    let loose = warn_if(name, text, w, COUPLE, is_loose(words, j));
-    either(loose, warn_axes(name, text, origins, words, j, w))
+fn warn_masks(
+    con: &Console,
+    name: &[u8],
+    text: &[u8],
+    origins: &[u32],
+    words: &[u32],
+    j: u32,
+    w: Word,
+) -> bool {
+    let loose = warn_if(con, name, text, w, COUPLE, is_loose(words, j));
+    either(loose, warn_axes(con, name, text, origins, words, j, w))
 }
 
 // A centre that is not typed as an angle.
@@ -369,6 +421,7 @@ fn is_far_center(draft: &[f32], words: &[u32], j: u32) -> bool {
 
 // Where a call changes the joint's masks, nothing is said of them.
 fn warn_joint(
+    con: &Console,
     name: &[u8],
     text: &[u8],
     draft: &[f32],
@@ -379,13 +432,13 @@ fn warn_joint(
     j: u32,
 ) -> bool {
     let w = joint_name(names, j);
-    let frames = warn_frames(name, text, draft, origins, j, w);
-    let limits = warn_limits(name, text, draft, j, w);
-    let center = warn_if(name, text, w, CENTRE, is_far_center(draft, words, j));
-    let apart = warn_if(name, text, w, FAR_APART, is_apart(draft, words, j));
+    let frames = warn_frames(con, name, text, draft, origins, j, w);
+    let limits = warn_limits(con, name, text, draft, j, w);
+    let center = warn_if(con, name, text, w, CENTRE, is_far_center(draft, words, j));
+    let apart = warn_if(con, name, text, w, FAR_APART, is_apart(draft, words, j));
     let told = either(either(frames, limits), either(center, apart));
     if word_at(changed, j as usize) == 0 {
-        return either(told, warn_masks(name, text, origins, words, j, w));
+        return either(told, warn_masks(con, name, text, origins, words, j, w));
     }
     told
 }
@@ -393,6 +446,7 @@ fn warn_joint(
 // ---- all of them
 
 fn warn_bodies(
+    con: &Console,
     name: &[u8],
     text: &[u8],
     draft: &[f32],
@@ -406,7 +460,7 @@ fn warn_bodies(
     let mut i: u32 = 0;
     while i < bodies {
         told = either(
-            warn_body(name, text, draft, origins, words, names, joints, i),
+            warn_body(con, name, text, draft, origins, words, names, joints, i),
             told,
         );
         i += 1;
@@ -415,6 +469,7 @@ fn warn_bodies(
 }
 
 fn warn_joints(
+    con: &Console,
     name: &[u8],
     text: &[u8],
     draft: &[f32],
@@ -428,7 +483,7 @@ fn warn_joints(
     let mut j: u32 = 0;
     while j < joints {
         told = either(
-            warn_joint(name, text, draft, origins, words, names, changed, j),
+            warn_joint(con, name, text, draft, origins, words, names, changed, j),
             told,
         );
         j += 1;
@@ -436,14 +491,14 @@ fn warn_joints(
     told
 }
 
-fn warn_dt(name: &[u8], text: &[u8], draft: &[f32], origins: &[u32]) -> bool {
+fn warn_dt(con: &Console, name: &[u8], text: &[u8], draft: &[f32], origins: &[u32]) -> bool {
     if number_at(draft, 0) != 0.0 {
         return false;
     }
     let at = word_at(origins, 0) as usize;
-    begin_warning(name, text, at);
-    err(b"dt is 0: a bias divides by it\n");
-    show_line(text, at);
+    begin_warning(con, name, text, at);
+    err(con, b"dt is 0: a bias divides by it\n");
+    show_line(con, text, at);
     true
 }
 
@@ -472,21 +527,23 @@ fn whole_warning(st: State, called: bool, prints: bool, runs: bool) -> u32 {
     NOTHING
 }
 
-fn warn_whole(name: &[u8], text: &[u8], k: u32) -> bool {
+fn warn_whole(con: &Console, name: &[u8], text: &[u8], k: u32) -> bool {
     if k == NOTHING {
         return false;
     }
-    begin_warning(name, text, 0);
+    begin_warning(con, name, text, 0);
     err_line(
+        con,
         b"\nthe study is empty\nno call, so that nothing is run\nno `table`, `read_rows`, `read_velocity` or `settle`, so that nothing is printed\n",
         k,
     );
-    err(b"\n");
+    err(con, b"\n");
     true
 }
 
 // Whether there was a warning.
 pub fn warnings(
+    con: &Console,
     name: &[u8],
     text: &[u8],
     draft: &[f32],
@@ -497,14 +554,14 @@ pub fn warnings(
     runs: bool,
 ) -> bool {
     let mut changed = [0u32; 129];
-    let s = scan(name, text, names, &mut changed);
-    let dt = warn_dt(name, text, draft, origins);
+    let s = scan(con, name, text, names, &mut changed);
+    let dt = warn_dt(con, name, text, draft, origins);
     let bodies = warn_bodies(
-        name, text, draft, origins, words, names, st.bodies, st.joints,
+        con, name, text, draft, origins, words, names, st.bodies, st.joints,
     );
     let joints = warn_joints(
-        name, text, draft, origins, words, names, &changed, st.joints,
+        con, name, text, draft, origins, words, names, &changed, st.joints,
     );
-    let calls = warn_whole(name, text, whole_warning(st, s.called, s.prints, runs));
+    let calls = warn_whole(con, name, text, whole_warning(st, s.called, s.prints, runs));
     either(either(s.warned, dt), either(either(bodies, joints), calls))
 }

@@ -1,6 +1,6 @@
 // A name as text of XML: what XML reserves by its entity, and a replacement character for each byte that XML does not take: a control byte, or one that
 // is not part of a character in UTF-8.
-use crate::out::{out, out_part};
+use crate::out::{Console, out, out_part};
 
 fn byte_at(text: &[u8], i: usize) -> u8 {
     if i < text.len() {
@@ -94,29 +94,29 @@ fn bytes_of(a: u8, b: u8, c: u8, d: u8) -> usize {
 }
 
 // A character of so many bytes, from an offset on.
-fn out_character(text: &[u8], at: usize, n: usize, a: u8) {
+fn out_character(con: &Console, text: &[u8], at: usize, n: usize, a: u8) {
     if n == 0 {
-        out(b"&#xFFFD;");
+        out(con, b"&#xFFFD;");
         return;
     }
     match a {
-        b'<' => out(b"&lt;"),
-        b'>' => out(b"&gt;"),
-        b'&' => out(b"&amp;"),
-        b'"' => out(b"&quot;"),
-        b'\'' => out(b"&apos;"),
-        _ => out_bytes(text, at, n),
+        b'<' => out(con, b"&lt;"),
+        b'>' => out(con, b"&gt;"),
+        b'&' => out(con, b"&amp;"),
+        b'"' => out(con, b"&quot;"),
+        b'\'' => out(con, b"&apos;"),
+        _ => out_bytes(con, text, at, n),
     }
 }
 
-fn out_bytes(text: &[u8], at: usize, n: usize) {
+fn out_bytes(con: &Console, text: &[u8], at: usize, n: usize) {
     if text.len() <= at {
         return;
     }
     if text.len() - at < n {
         return;
     }
-    out_part(text, at, at + n);
+    out_part(con, text, at, at + n);
 }
 
 // The bytes of the character at an offset, as far as `end`.
@@ -156,7 +156,7 @@ fn step(n: usize) -> usize {
     n
 }
 
-pub fn out_escaped(text: &[u8], start: usize, end: usize) {
+pub fn out_escaped(con: &Console, text: &[u8], start: usize, end: usize) {
     let mut at = start;
     let mut left = text.len();
     while 0 < left {
@@ -167,7 +167,7 @@ pub fn out_escaped(text: &[u8], start: usize, end: usize) {
             return;
         }
         let n = length_at(text, at, end);
-        out_character(text, at, n, text[at]);
+        out_character(con, text, at, n, text[at]);
         at = next(text, at, n);
         left -= 1;
     }

@@ -7,7 +7,8 @@
 
 use floats::bits::{from_bits, to_bits};
 use floats::sqrt::sqrt;
-use libc::{STDIN_FILENO, STDOUT_FILENO};
+use std::io;
+use std::io::Read;
 
 // More lines than this are not read.
 const MOST: u64 = 1000000;
@@ -63,25 +64,25 @@ enum Verdict {
 }
 
 // Reads one line and runs it.
-fn turn() -> Verdict {
+fn turn(rt: HostRuntime) -> io::Result<Verdict> {
     let mut line = [0u8; 29];
-    if io::read_full(STDIN_FILENO, &mut line) < 29 {
-        return Verdict::End;
+    if rt.stdin().read_exact(&mut line).is_err() {
+        return Ok(Verdict::End);
     }
     let a = from_bits(word(&line, 2));
     let b = from_bits(word(&line, 11));
     if answer(line[0], a, b) == word(&line, 20) {
-        return Verdict::Right;
+        return Ok(Verdict::Right);
     }
-    io::write_all(STDOUT_FILENO, &line);
-    Verdict::Wrong
+    rt.write_all(&line)?;
+    Ok(Verdict::Wrong)
 }
 
-fn main() {
+fn main(rt: HostRuntime) -> io::Result<()> {
     let mut lines = 0u64;
     let mut wrong = 0u64;
     while lines < MOST {
-        match turn() {
+        match turn(rt)? {
             Verdict::Right => {
                 lines += 1;
             }
@@ -94,8 +95,5 @@ fn main() {
             }
         }
     }
-    io::print_decimal(STDOUT_FILENO, lines);
-    io::write_all(STDOUT_FILENO, b" vectors, ");
-    io::print_decimal(STDOUT_FILENO, wrong);
-    io::write_all(STDOUT_FILENO, b" wrong\n");
+    println!(rt; "{lines} vectors, {wrong} wrong")
 }
