@@ -55,10 +55,7 @@ fn name(con: &Console) {
 
 pub fn version(con: &Console) {
     name(con);
-    out(
-        con,
-        b"; proved by rattle-kit-13f logic dac8208d650f15bf\n",
-    );
+    out(con, b"; proved by rattle-kit-13f logic dac8208d650f15bf\n");
 }
 
 // The last line below a table.
