@@ -6,7 +6,7 @@ use Rattle.rows.specs.declared.joint_constraint_builder.Warmstart.{Warmstart}
 use Rattle.multibody.specs.Rules.{refusal}
 use Rattle.multibody.specs.Model.{Model}
 use Rattle.multibody.specs.Counts.{body_count}
-use Rattle.multibody.specs.Calls.{Call, Outcome, outcome}
+use Rattle.multibody.specs.Calls.{Call, outcome}
 use Rattle.multibody.specs.Calls.Call.{build, warm_start, sweep, remove_bias, write_back}
 use Rattle.multibody.specs.Calls.Answer.{refused}
 use Rattle.multibody.specs.Traces.{Study}
