@@ -1,6 +1,5 @@
 // Files, opened by name and read to their end; the program's arguments.
-ghost use Rattle.std.specs.Prelude.{◌≡◌, ◌<◌, ◌≤◌, length};
-ghost use Rattle.io.specs.Counts.{IsPrefixLen};
+ghost use Rattle.std.specs.Prelude.{◌≡◌, ◌≤◌, IfOk, length, take};
 
 use crate::out::{Console, EINVAL, ENAMETOOLONG, fail};
 use std::env::FillError;
@@ -19,6 +18,7 @@ pub struct Input {
 // A read, from a place of the buffer on. Answers where the bytes end.
 fn read_from<R: Read>(from: &mut R, buf: &mut [u8], at: usize) -> io::Result<usize>
     requires { at ≤ length buf.old }
+    ensures { IfOk result (λ end. end ≤ length buf.new) }
 {
     let got = from.read(&mut buf[at..])?;
     Ok(at + got)
@@ -26,7 +26,8 @@ fn read_from<R: Read>(from: &mut R, buf: &mut [u8], at: usize) -> io::Result<usi
 
 // Reads until the input ends, the buffer is full or a read fails.
 pub fn read_all<R: Read>(from: &mut R, buf: &mut [u8]) -> Input
-    ensures { IsPrefixLen result.len buf.new }
+    ensures bound { result.len ≤ length buf.new }
+    ensures prefix { result.len ≡ length (take result.len buf.new) }
 {
     let most = buf.len();
     let mut at: usize = 0;
