@@ -3,7 +3,7 @@ bounds and residuals, the joints' reactions and the motors that ran out of force
 
     tools/library && PYTHONPATH=python python3 tests/text_and_python.py [COUNT] [SEED]
 
-STUDY_PROGRAM names another program than target/bin/study.
+STUDY_PROGRAM names another program than crates/study/out/study.
 """
 
 import csv

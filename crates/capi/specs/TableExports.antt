@@ -1,5 +1,5 @@
 -- The numbers and words in which the exports answer.
-use Rattle.std.specs.Prelude.{Bool, cond, ◌&&◌, List, ℕ, ◌+◌, ◌-◌, ◌^◌, leb, ltb, length, set}
+use Rattle.std.specs.Prelude.{cond, ◌&&◌, List, ℕ, ◌+◌, ◌-◌, ◌^◌, leb, ltb, length, set}
 use Rattle.motor_table.specs.Tables.{Table}
 use Rattle.motor_table.specs.Tables.Table.{granted, refused}
 use Rattle.motor_table.specs.Text.{text_of}

@@ -4,6 +4,8 @@
 // them, and every NaN is 7fc00000.
 #![tactic(auto)]
 
+ghost use Rattle.std.specs.Prelude.{◌≤◌, IfOk, length};
+
 use crate::leaves::leaf;
 use crate::line::{Line, next_case};
 use crate::models::{State, draw_words, run_given, run_named, start};
@@ -16,9 +18,6 @@ mod leaves;
 mod line;
 mod models;
 mod show;
-
-// More bytes than this are not read.
-const MOST: u64 = 8192;
 
 // One line. A call is given as much of the storage as the lines before it say.
 fn run_line(
@@ -82,17 +81,32 @@ fn run(
     }
 }
 
+// Reads standard input until it ends or the text is full. Answers how many bytes there are.
+fn read_text(rt: HostRuntime, text: &mut [u8]) -> io::Result<usize>
+    ensures { IfOk result (λ n. n ≤ length text.new) }
+{
+    let mut at = 0usize;
+    for _turn in 0..text.len() {
+        let got = rt.stdin().read(&mut text[at..])?;
+        if got == 0 {
+            return Ok(at);
+        }
+        at += got;
+    }
+    Ok(at)
+}
+
 fn main(rt: HostRuntime) -> io::Result<()> {
-    let mut text = Vec::new(rt.alloc());
+    let mut text = [0u8; 8192];
     let mut bodies = [0.0f32; 1290];
     let mut words = [0u32; 1548];
     let mut numbers = [0.0f32; 5418];
     let mut rows = [0.0f32; 54];
-    rt.stdin().take(MOST).read_to_end(&mut text)?;
+    let n = read_text(rt, &mut text)?;
     draw_words(&mut words);
     run(
         rt,
-        text.as_slice(),
+        &text[..n],
         &mut bodies,
         &mut words,
         &mut numbers,

@@ -1,13 +1,12 @@
 -- What the exported functions on the rows of a joint leave in the slices that they are lent. Where a slice is shorter than what is read or written of it, all stays.
-use Rattle.std.specs.Prelude.{ℕ, ◌+◌, ◌%◌, Bool, cond, ◌&&◌, List, [], ◌∷◌, leb, ltb, eqb, length, get_or, set, take, drop, Float}
-use Rattle.std.specs.Float.{nan}
+use Rattle.std.specs.Prelude.{ℕ, ◌+◌, ◌%◌, Bool, cond, ◌&&◌, List, [], ◌∷◌, leb, ltb, eqb, length, get_or, take, drop, Float}
 use Rattle.comparison.specs.Exports.{at, vector_at, put_two}
 use Rattle.rows.specs.Step.{step_of, warmstart_of, remove_bias_of}
 use Rattle.rows.specs.Finalize.{finalize_groups}
 use Rattle.rows.specs.MotorModel.{combine_coefficients_of}
 use Rattle.rows.specs.IntegrationParameters.{erp_inv_dt_of, cfm_coeff_of}
 use Rattle.rows.specs.Helper.{angular_limit_params_of}
-use Rattle.rows.specs.RowIds.{row_ids_array, row_id}
+use Rattle.rows.specs.RowIds.{row_ids_array}
 use Rattle.rows.specs.Update.{rows_array}
 use Rattle.rows.specs.Builder.{builder_update_of}
 use Rattle.rows.specs.declared.generic_joint.Masks.{Masks}
@@ -15,12 +14,7 @@ use Rattle.rows.specs.declared.joint_constraint_builder.SolverPose.{SolverPose}
 use Rattle.rows.specs.declared.joint_constraint_builder.ImpulseJoint.{ImpulseJoint}
 use Rattle.rows.specs.declared.joint_constraint_builder.Warmstart.{Warmstart}
 use Rattle.rows.specs.declared.joint_constraint_builder.Warmstart.TheVariants.{Cold, Warm}
-use Rattle.rows.specs.declared.joint_velocity_constraint.Rows.{Rows}
-use Rattle.rows.specs.declared.row_ids.RowId.{RowId}
-use Rattle.rows.specs.declared.row_ids.RowIds.{RowIds}
 use Rattle.rows.specs.declared.integration_parameters.SpringCoefficients.{SpringCoefficients}
-use Rattle.rows.specs.declared.integration_parameters.IntegrationParameters.{IntegrationParameters}
-use Rattle.rows.specs.declared.joint_constraint_helper.AngularLimitParams.{AngularLimitParams}
 use Rattle.rows.specs.declared.joint_velocity_constraint.JointConstraint.{JointConstraint}
 use Rattle.rows.specs.declared.joint_velocity_constraint.WritebackId.{WritebackId}
 use Rattle.rows.specs.declared.joint_velocity_constraint.WritebackId.TheVariants.{Dof, Limit, Motor}
@@ -30,7 +24,7 @@ use Rattle.rows.specs.declared.joint_velocity_constraint.Solved.{Solved}
 use Rattle.capi.specs.Stored.{put_three, of_six, put_first, put_ids}
 use Rattle.capi.specs.CallExports.{short_slice, params_of}
 use Rattle.model.specs.Layout.{row_width, numbers_width}
-use Rattle.model.specs.Store.{row_of_numbers, row_at, put_row, put_seed, motor_model_of, joint_at}
+use Rattle.model.specs.Store.{row_at, put_row, put_seed, motor_model_of, joint_at}
 use Rattle.comparison.specs.Exports.{side_number}
 
 -- ---- one row between two velocities

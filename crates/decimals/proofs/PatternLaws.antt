@@ -3,15 +3,15 @@ use mathlib.Core.Path.{◌≡◌, refl, sym, ap, ◌∙◌, subst}
 use mathlib.Core.Logic.{◌⊎◌, inl, inr}
 use mathlib.Core.Bool.{Bool, true, false, cond}
 use Prim.Native.Nat.{ℕ, ◌+◌, ◌-◌, ◌*◌, ◌/◌, ◌^◌, ◌≤◌, ◌<◌}
-use native.Mathlib.Nat.{le_refl, le_trans, le_of_eq, lt_of_lt_of_le, lt_of_le_of_lt, eq-or-lt_of_le, mul_assoc, mul-one, mul-div_cancel, mul-le-mul_right, zero-add}
+use native.Mathlib.Nat.{le_refl, le_trans, le_of_eq, lt_of_lt_of_le, eq-or-lt_of_le, mul_assoc, mul-one, mul-div_cancel, mul-le-mul_right}
 use native.Mathlib.Omega.{arith}
 use borrow.Author.Tests.{le-ltb, ltb-true, ltb-false}
 use lib.Dec.{T, ltb}
 use lib.Pow.{pow-add, pow_mono, pow_pos, pow-lt, shl_lt}
-use lib.Ieee.{Float, nan, inf, fin, binary32, up, down, size, odd, units, fits, to_bits, of_bits}
-use lib.Ieee.Digits.{size-lt, size-le}
-use lib.Ieee.Exact.{HasValue, units_val}
-use lib.Ieee.Fits.{down_pos, odd-fits, cond-fits, inf-fits}
+use lib.Ieee.{inf, binary32, size, odd, units, fits, of_bits}
+use lib.Ieee.Digits.{size-le}
+use lib.Ieee.Exact.{units_val}
+use lib.Ieee.Fits.{odd-fits, cond-fits, inf-fits}
 use lib.Ieee.Bits.{of_bits-to_bits}
 use Rattle.floats.proofs.Pattern.{size-shifted, to_bits-at}
 

@@ -2,13 +2,13 @@
 use mathlib.Core.Path.{◌≡◌, refl, sym, ap, subst, ◌∙◌}
 use mathlib.Core.Bool.{Bool, true, false, cond, ◌||◌}
 use mathlib.Core.List.{List, [], ◌∷◌, ◌++◌}
-use Prim.Native.Nat.{ℕ, zero, suc, ◌+◌, ◌-◌, ◌*◌, ◌^◌, ◌≤◌, ◌<◌}
+use Prim.Native.Nat.{ℕ, suc, ◌+◌, ◌-◌, ◌*◌, ◌^◌, ◌≤◌, ◌<◌}
 use native.Mathlib.Nat.{lt_of_lt_of_le, lt_of_le_of_lt, zero-add, zero-mul, mul_assoc, mul-le-mul_left, mul-lt-mul_of_pos_right, pow-suc}
 use native.Mathlib.Numerals.{add-one}
 use native.Mathlib.Omega.{arith}
 use borrow.Author.Tests.{le-leb, lt-leb, eqb-true, ne_eqb}
 use lib.Dec.{T, leb, ltb, eqb, lit≤, lit<}
-use lib.Pow.{pow_mono, pow_pos, shl_lt}
+use lib.Pow.{pow_mono, shl_lt}
 use lib.ListN.{length, take, drop, replicate, get_or, length-append, length-replicate, get_or-append, get_or-eq_default}
 use lib.Seq.{take_at}
 use lib.Ieee.{Float, nan, inf, fin, binary32, fits, of_bits, to_bits}

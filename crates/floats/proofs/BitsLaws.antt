@@ -1,14 +1,12 @@
 -- The parts of a finite binary32 number. Its size in units of 2 ^ -149 is whole: nothing is cut off (`units-exact`). It is exactly its leading digits times a power of two,
 -- the digits are below 2 ^ 24, the power is at most 253, and above 0 only where the leading digit is the 24th (`finite-parts`).
 -- What the bits say is what the parts are (`parts-infinite`, `parts_low`, `parts-normal`). Assumes nothing.
-use Rattle.std.proofs.Common.{◌≡◌, ℕ, zero, suc, ◌+◌, ◌-◌, ◌*◌, ◌/◌, ◌%◌, ◌^◌, ◌<◌, ◌≤◌, Bool, true, false, cond, not, ◌&&◌, ◌||◌, T, eqb, ltb, leb, ◌⊎◌, ℤ, pos, negsuc, sym, refl, ap, ◌∙◌, subst, inl, inr, le_trans, le_of_eq, lt_of_lt_of_le, le_of_suc-le-suc, add_assoc, lt_irrefl, mul-le-mul_right, zero-lt-suc, mul_assoc, eq-zero-or-pos, lt_of_mul-lt-mul_right, mul-lt-mul_of_pos_right, mul-pos, one-mul, lt_of_not-le, zero-mul, mul-one, mul_right_comm, le_of_mul-le-mul_right, mul-div_cancel, arith, lit<, le→leb, eqb→eq, ltb→lt, leb→le, pow_pos, pow-add, shl_lt}
+use Rattle.std.proofs.Common.{◌≡◌, ℕ, zero, suc, ◌+◌, ◌-◌, ◌*◌, ◌/◌, ◌%◌, ◌^◌, ◌<◌, ◌≤◌, Bool, true, false, cond, not, ◌&&◌, T, eqb, ltb, leb, ◌⊎◌, ℤ, pos, negsuc, sym, refl, ap, ◌∙◌, subst, inl, inr, le_trans, le_of_eq, lt_of_lt_of_le, le_of_suc-le-suc, add_assoc, lt_irrefl, mul-le-mul_right, zero-lt-suc, mul_assoc, eq-zero-or-pos, lt_of_mul-lt-mul_right, mul-lt-mul_of_pos_right, mul-pos, one-mul, lt_of_not-le, zero-mul, mul-one, mul_right_comm, le_of_mul-le-mul_right, mul-div_cancel, arith, lit<, le→leb, eqb→eq, ltb→lt, leb→le, pow_pos, pow-add, shl_lt}
 use native.Mathlib.Nat.{zero-div}
-use mathlib.Core.Bool.{beq}
-use lib.Dec.{eqb_refl}
 use lib.Arith.{lt→nleb}
 use lib.Ieee.Bits.{is_true, is_false}
 use lib.Pow.{pow-lt}
-use lib.Ieee.{Float, nan, inf, fin, binary32, up, down, level, eq, ne, size, fits, is_nan, to_bits}
+use lib.Ieee.{Float, nan, inf, fin, binary32, up, down, size, fits, is_nan, to_bits}
 use lib.Ieee.Digits.{back, size-le, size_reaches}
 use lib.Ieee.Fits.{kept-lt, up_pos, down_pos, and_l, and_r}
 use Rattle.floats.specs.Bits.{units_of, parts_of}

@@ -1,5 +1,5 @@
 -- The length of a vector is NaN, infinite, +0, or the correctly rounded root of its dot with itself (`length-is`): that dot is a number of binary32, and not negative.
-use Rattle.std.proofs.Common.{◌≡◌, ℕ, zero, suc, ◌+◌, ◌*◌, ◌^◌, Bool, true, false, T, ℤ, pos, negsuc, sym, refl, ap, ◌∙◌, subst, zero-lt-suc, arith, eqb→eq}
+use Rattle.std.proofs.Common.{◌≡◌, zero, suc, ◌+◌, ◌*◌, ◌^◌, Bool, true, false, T, ℤ, pos, negsuc, refl, ap, ◌∙◌, subst, zero-lt-suc, arith, eqb→eq}
 use native.Mathlib.Nat.{two-pow-succ}
 use lib.Ieee.{Float, nan, inf, fin, binary32, up, down, unlike, sum, add, mul, fits}
 use lib.Ieee.Fits.{add-fits}

@@ -1,14 +1,14 @@
 -- Near zero the recipe and the tangent agree to within one unit of the recipe's grid. For a T below 2 ^ 20 the power p1 is zero, so S(T) is T (`arc-near`).
 -- So where the angle is t itself, the recipe's A is the whole part of t · 2 ^ 30: in units t lies from A to below A + 1 (`within-a-unit`).
 -- At the border, t = 2 ^ -12, the recipe takes over with A / 2 ^ 30 = t (`border`).
-use Rattle.std.proofs.Common.{◌≡◌, ℕ, ◌+◌, ◌-◌, ◌*◌, ◌/◌, ◌^◌, ◌<◌, ◌≤◌, Bool, true, false, cond, not, ◌&&◌, T, ltb, ℤ, sym, refl, ap, ◌∙◌, subst, mul_comm, div-lt_iff_lt-mul, mul-le-mul, one-mul, zero-add, mul-one, div-mul-le_self, div-one, arith, ltb-true, le-ltb, lt-ltb}
+use Rattle.std.proofs.Common.{◌≡◌, ℕ, ◌+◌, ◌-◌, ◌*◌, ◌/◌, ◌^◌, ◌<◌, ◌≤◌, Bool, true, false, not, ◌&&◌, T, ℤ, refl, ap, ◌∙◌, mul_comm, div-lt_iff_lt-mul, mul-le-mul, zero-add, div-mul-le_self, div-one, arith, ltb-true, le-ltb, lt-ltb}
 use native.Mathlib.Nat.{div-eq_of_lt, lt-mul-div-succ}
 use lib.Ieee.{Float, nan, inf, fin, up, down, lt, of_bits}
 use lib.Ieee.Fits.{down_pos}
 use Rattle.floats.specs.Operators.{bits}
 use Rattle.floats.specs.Scalar.{is_finite}
 use Rattle.floats.specs.Sign.{sign_bit, abs_of}
-use Rattle.floats.specs.Angle.{with_term, series_from, series, arc, tangent_units, tangent_of, near_zero, angle_units}
+use Rattle.floats.specs.Angle.{series_from, series, arc, tangent_units, tangent_of, near_zero, angle_units}
 use Rattle.floats.proofs.UnitInterval.{InUnit, unit-cases, ratio-in-unit}
 use Rattle.floats.proofs.Series.{rest-zero}
 

@@ -4,7 +4,6 @@ use Rattle.std.proofs.Common.{◌≡◌, ℕ, zero, suc, ◌+◌, ◌-◌, ◌*�
 use native.Mathlib.Nat.{zero-div, div-le_of_le-mul}
 use lib.Ieee.Nearest.{div_mono}
 use Rattle.floats.specs.Angle.{with_term, series_from, term_count, series, power, nonzero_powers, series_sum}
-use Rattle.floats.specs.declared.angle.SeriesSum.{SeriesSum}
 
 -- ---- the terms
 

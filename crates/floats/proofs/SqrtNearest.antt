@@ -3,7 +3,7 @@
 -- or q is the least number of 24 digits, and then the root is not below q·p. Assumes nothing.
 use Rattle.std.proofs.Common.{◌≡◌, ℕ, ◌+◌, ◌-◌, ◌*◌, ◌/◌, ◌^◌, ◌<◌, ◌≤◌, Bool, true, false, not, T, leb, ◌⊎◌, ℤ, sym, refl, ap, ◌∙◌, subst, inl, inr, lt_of_lt_of_le, mul-le-mul_right, mul_assoc, mul-le-mul, lt_of_mul-lt-mul_right, eq-or-lt_of_le, mul-lt-mul_of_pos_right, mul-pos, lt_of_not-le, mul-div_cancel, arith, leb→le, pow_pos, pow_mono, pow-add, shl_lt}
 use lib.Dec.{nleb→lt}
-use lib.Ieee.{Float, nan, inf, fin, binary32, down, size, units, fits}
+use lib.Ieee.{Float, nan, inf, fin, binary32, down, units, fits}
 use lib.Ieee.Bits.{is_true}
 use lib.Ieee.Fits.{down_pos}
 use lib.Ieee.Exact.{HasValue, units_val}

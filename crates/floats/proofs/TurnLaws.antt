@@ -1,6 +1,6 @@
 -- The size of an angle within its turn. A finite number of d · 2 ^ k times 2 ^ -149 is d · 2 ^ k / 2 ^ 119 units, rounded down (`finite-angle`). For a k of 119 or more that is d · 2 ^ (k - 119)
 -- (`shifted_up`), which is doubled with whole turns off (`once_more`), and for a smaller one it is d / 2 ^ (119 - k), below a turn (`shifted_down`), and 0 up to k = 95 (`below_one`). Assumes nothing.
-use Rattle.std.proofs.Common.{◌≡◌, ℕ, ◌+◌, ◌-◌, ◌*◌, ◌/◌, ◌%◌, ◌^◌, ◌<◌, ◌≤◌, Bool, sym, refl, ap, ◌∙◌, subst, lt_of_lt_of_le, lt_of_le_of_lt, mul-le-mul_right, mod-eq_of_lt, mul_assoc, mul_comm, mul-one, div-le_self, mul_right_comm, mul-div_cancel, two-mul, arith, lit<, pow_pos, pow_mono, pow-add, shl_lt}
+use Rattle.std.proofs.Common.{◌≡◌, ℕ, ◌+◌, ◌-◌, ◌*◌, ◌/◌, ◌%◌, ◌^◌, ◌<◌, ◌≤◌, Bool, sym, refl, ap, ◌∙◌, lt_of_lt_of_le, lt_of_le_of_lt, mod-eq_of_lt, mul_assoc, mul-one, div-le_self, mul-div_cancel, arith, pow_pos, pow_mono, pow-add, shl_lt}
 use native.Mathlib.Nat.{mul-div-mul_right, add-mod, div-eq_of_lt, zero-mod}
 use lib.Ieee.{Float, nan, inf, fin, up, down}
 use lib.Ieee.Digits.{back}

@@ -1,17 +1,17 @@
 -- A frame's substeps keep the joints, the number of bodies and all past the total (`steps-kept`). So everything reverts: what a frame's substeps leave past the total is as it was, so that the first numbers put back make the whole.
-use Rattle.std.proofs.Common.{◌≡◌, ℕ, zero, suc, ◌+◌, ◌-◌, ◌*◌, ◌/◌, ◌≤◌, Bool, true, false, cond, ltb, List, ◌++◌, length, take, drop, sym, refl, ap, ◌∙◌, arith, take-append-drop, length-take-le, take_all, drop-drop, take_at, ltb-false}
+use Rattle.std.proofs.Common.{◌≡◌, ℕ, zero, suc, ◌+◌, ◌-◌, ◌*◌, ◌/◌, ◌≤◌, Bool, true, false, cond, ltb, List, ◌++◌, length, take, drop, sym, refl, ap, ◌∙◌, arith, take-append-drop, length-take-le, drop-drop, take_at, ltb-false}
 use mathlib.Core.Bool.{false≢true}
 use lib.Seq.{drop-length}
 use lib.Ieee.{Float}
 use Rattle.rows.specs.declared.joint_constraint_builder.Warmstart.{Warmstart}
 use Rattle.multibody.specs.Model.{Model}
-use Rattle.multibody.specs.Counts.{body_count, joint_count, row_capacity, total_rows, Room}
+use Rattle.multibody.specs.Counts.{body_count, joint_count, total_rows, Room}
 use Rattle.multibody.specs.Calls.{Call, Outcome, granted_of, run}
 use Rattle.multibody.specs.Calls.Call.{build, warm_start, sweep, remove_bias}
 use Rattle.multibody.specs.Calls.Answer.{refused}
 use Rattle.multibody.proofs.CountLaws.{same-bodies, rows_before-le, rows_fit}
 use Rattle.multibody.proofs.Keeps.{run-cases, run-counts}
-use Rattle.model.specs.Layout.{row_width, body_width}
+use Rattle.model.specs.Layout.{row_width}
 use Rattle.model.specs.Planar.{plane, planar}
 use Rattle.multibody.proofs.PastTotal.{past-total}
 use Rattle.model.proofs.PlanarLaws.{planar-laws}

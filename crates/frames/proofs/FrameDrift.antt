@@ -6,7 +6,7 @@ use Rattle.rows.specs.declared.joint_constraint_builder.Warmstart.{Warmstart}
 use Rattle.multibody.specs.Rules.{refusal}
 use Rattle.multibody.specs.Model.{Model}
 use Rattle.multibody.specs.Counts.{body_count}
-use Rattle.multibody.specs.Calls.{Call, Outcome, outcome}
+use Rattle.multibody.specs.Calls.{Call, outcome}
 use Rattle.multibody.specs.Calls.Call.{build, warm_start, sweep, remove_bias, write_back}
 use Rattle.multibody.specs.Calls.Answer.{refused}
 use Rattle.multibody.specs.Traces.{Study}
@@ -21,7 +21,7 @@ use Rattle.model.proofs.PlanarLaws.{planar-laws}
 use Rattle.model.proofs.SweepDrift.{place-masses, planar-carries, calls-drift}
 use Rattle.frames.specs.Moving.{moved, move_from, new_pose}
 use Rattle.frames.specs.Frames.{Moment, moment, Progress, progress, leaves, before_move, move_of, moved_moment, after_move, substep, substeps, steps_of, all_substeps, frame_rules, granted_frame, run_frame, with_dt, substep_of}
-use Rattle.frames.specs.Studies.{moving_calls}
+use Rattle.frames.specs.Studies.{MovingCall, moving_calls}
 use Rattle.frames.specs.Studies.MovingCall.{plain, frame}
 
 -- where the model of a moment is marked built, its rows have their bodies' inverse masses
@@ -102,14 +102,13 @@ module _ (warm : Warmstart) (sweeps : ℕ) where
 moving-start : (s : Study (machine moving_calls)) → Loaded moving_calls s → s.model.built ≡ false
 moving-start s l = (loaded-start planar-laws (record { model = s.model; rows = s.rows }) (record { handed_over = l.handed_over; by_load = l.by_load })).1
 
+moving-turn : (c : MovingCall) (m : Model) (rows : List Float) → Kept planar-laws planar-carries m rows
+    → Kept planar-laws planar-carries (moving_calls.run c m rows).after (moving_calls.run c m rows).rows
+moving-turn (plain c) m rows k = run-kept planar-laws planar-carries c m rows k
+moving-turn (frame warm sweeps n) m rows k = frame-kept warm sweeps n m rows k
+
 pub moving-keeps : CallsKeep planar-laws planar-carries moving_calls
-moving-keeps = record {
-  turn = λ c m rows k. elim c [
-    | plain c ↦ run-kept planar-laws planar-carries c m rows k
-    | frame warm sweeps n ↦ frame-kept warm sweeps n m rows k
-  ];
-  start = moving-start;
-}
+moving-keeps = record { turn = moving-turn; start = moving-start }
 
 pub moving-drift : StudyDrift moving_calls
 moving-drift = calls-drift moving_calls moving-keeps

@@ -1,12 +1,12 @@
 -- A frame's parts as the program runs them: a substep by its calls, the loop over the substeps, and the frame's rules.
-use Rattle.std.proofs.Common.{◌≡◌, ℕ, zero, suc, ◌+◌, ◌-◌, ◌<◌, ◌≤◌, Bool, true, false, ◌&&◌, ◌≢◌, List, [], ◌∷◌, length, pos, sym, refl, ap, ◌∙◌, arith, le-ltb, lt-ltb, eq-eqb, ne_eqb}
+use Rattle.std.proofs.Common.{◌≡◌, ℕ, zero, suc, ◌+◌, ◌-◌, ◌<◌, ◌≤◌, Bool, true, false, ◌≢◌, List, [], ◌∷◌, length, pos, sym, ap, ◌∙◌, arith, le-ltb, lt-ltb, eq-eqb, ne_eqb}
 use lib.Ieee.{Float, binary32, of_int}
 use Rattle.floats.specs.Operators.{◌⊘◌}
 use Rattle.rows.specs.declared.joint_constraint_builder.Warmstart.{Warmstart}
 use Rattle.multibody.specs.Rules.{Rule, rule, refusal}
 use Rattle.multibody.specs.Model.{Model, most_bodies, with_bodies}
 use Rattle.multibody.specs.Counts.{body_count}
-use Rattle.multibody.specs.Refusals.{finite_warm, model_rules, storage_rule}
+use Rattle.multibody.specs.Refusals.{finite_warm}
 use Rattle.multibody.specs.Calls.{Answer, Outcome, outcome, run, handed_rules}
 use Rattle.multibody.specs.Calls.Call.{build, warm_start, sweep, remove_bias, write_back}
 use Rattle.multibody.specs.Calls.Change.{none}
@@ -194,11 +194,12 @@ granted-frame warm sweeps n m rows {p} e d =
 
 -- where it is refused
 pub refused-promises : {r : FrameAnswer} {o : Outcome plane} (joints : ℕ) (header : Header) (k : ℕ) (bodies : List Float) (words : List ℕ) (numbers rows : List Float) → r ≡ refused_frame header k
-    → outcome (refused k) (model_of header bodies words numbers) rows ≡ o → (outcome (frame_answer joints r) (model_of r.header bodies words numbers) rows ≡ o) × (frame_counts r ≡ sweep_answer_of o.answer)
+    → outcome (refused k) (model_of header bodies words numbers) rows ≡ o → record { rows_after : outcome (frame_answer joints r) (model_of r.header bodies words numbers) rows ≡ o; result_value : frame_counts r ≡ sweep_answer_of o.answer }
 unfolding sweep_answer_of
-refused-promises joints header k bodies words numbers rows e d = (rw e d, rw e (ap (λ (o : Outcome plane). sweep_answer_of o.answer) d))
+refused-promises joints header k bodies words numbers rows e d =
+    record { rows_after = rw e d; result_value = rw e (ap (λ (o : Outcome plane). sweep_answer_of o.answer) d) }
 
 -- where it is granted: its answer and counts are the last sweep's
 pub granted-promises : {o : Outcome plane} {m : Model} {rows : List Float} (joints : ℕ) (last : SweepAnswer) → Filled joints last → outcome (sweep_answer joints last) m rows ≡ o
-    → (outcome (sweep_answer joints last) m rows ≡ o) × (last ≡ sweep_answer_of o.answer)
-granted-promises joints last f e = (e, f ∙ ap (λ (o : Outcome plane). sweep_answer_of o.answer) e)
+    → record { rows_after : outcome (sweep_answer joints last) m rows ≡ o; result_value : last ≡ sweep_answer_of o.answer }
+granted-promises joints last f e = record { rows_after = e; result_value = f ∙ ap (λ (o : Outcome plane). sweep_answer_of o.answer) e }

@@ -1,7 +1,6 @@
 -- Demand 1 for frames: a frame is refused with k exactly if the rule of number k fails and every rule before it holds (`refused-exactly`, `exactly-refused`), and then it leaves model and row storage as they were (`refused-leaves`); its
 -- answer tells that number (`frame-told`). It is granted exactly if every rule holds (`granted-exactly`, `exactly-granted`). The order of the rules is 1 to 6, 12, 7, 8, 9, 16, and 6 of the moves (`frame-order`).
-use Rattle.std.proofs.Common.{◌≡◌, ℕ, ◌≤◌, Bool, true, false, not, eqb, ◌≢◌, List, [], ◌∷◌, ◌++◌, map, sym, refl, ap, ◌∙◌, arith, ne_eqb, eqb-true}
-use mathlib.Core.Bool.{false≢true}
+use Rattle.std.proofs.Common.{◌≡◌, ℕ, ◌≤◌, true, not, eqb, ◌≢◌, List, [], ◌∷◌, map, sym, refl, ap, ◌∙◌, arith, ne_eqb, eqb-true}
 use borrow.Author.Tests.{eqb-false}
 use lib.Ieee.{Float, lt}
 use Rattle.floats.specs.Operators.{bits}
@@ -17,8 +16,7 @@ use Rattle.multibody.specs.Calls.Change.{none}
 use Rattle.multibody.specs.Calls.Answer.{refused}
 use Rattle.multibody.proofs.Tests.{by_cases}
 use Rattle.multibody.proofs.RuleLaws.{both, Numbered, Hold, First, numbered-append, all_hold, hold-granted, refused-first, first-refused, hold-front, hold-last, at-most}
-use Rattle.multibody.proofs.RefusalLaws.{RulesHold, first-numbered, rules-hold, arguments-finite, room_of}
-use Rattle.multibody.proofs.RefusedExactly.{is_refusal}
+use Rattle.multibody.proofs.RefusalLaws.{first-numbered, rules-hold, arguments-finite, room_of}
 use Rattle.model.specs.Planar.{plane, planar}
 use Rattle.model.proofs.PlanarLaws.{planar-laws}
 use Rattle.frames.specs.Frames.{with_dt, moment, substep_of, is_step, substeps_rule, own_rules, finite_frame, all_substeps, frame_rules, granted_frame, run_frame}

@@ -1,6 +1,6 @@
 -- Two studies that move: what two related studies share, each call of a frame and each move keeps. So a frame that is granted in both leaves them related, and what
 -- it counts for a joint of the set's is the same (`frame-related`).
-use Rattle.std.proofs.Common.{◌≡◌, ℕ, zero, suc, ◌+◌, ◌-◌, ◌<◌, ◌≤◌, Bool, true, false, cond, not, ◌&&◌, List, sym, refl, ap, ◌∙◌, arith}
+use Rattle.std.proofs.Common.{◌≡◌, ℕ, zero, suc, ◌+◌, ◌-◌, ◌<◌, Bool, true, not, List, sym, refl, ap, ◌∙◌, arith}
 use mathlib.Core.Bool.{false≢true}
 use mathlib.Core.List.{Memᴰ}
 use lib.Ieee.{Float, lt}

@@ -1,6 +1,6 @@
 -- Within a frame no call is refused: where rules 1 to 7 and 12 hold of the model with the substep for its timestep, the row storage has room, the warm coefficient is finite
 -- and the rounds are few, each call of each substep is granted, and so is the write-back. So what a granted frame answers is a sweep's counts (`frame-answers`).
-use Rattle.std.proofs.Common.{◌≡◌, ℕ, zero, suc, ◌+◌, ◌-◌, ◌≤◌, Bool, true, false, cond, not, ◌⊎◌, List, [], ◌∷◌, ◌++◌, sym, refl, ap, ◌∙◌, inl, inr, arith, le-ltb}
+use Rattle.std.proofs.Common.{◌≡◌, ℕ, zero, suc, ◌+◌, ◌-◌, ◌≤◌, Bool, true, false, not, ◌⊎◌, List, [], ◌∷◌, sym, refl, ap, ◌∙◌, inl, inr, le-ltb}
 use mathlib.Core.Bool.{false≢true}
 use lib.Ieee.{Float, lt}
 use Rattle.floats.specs.Operators.{bits}
@@ -8,7 +8,7 @@ use Rattle.floats.specs.Scalar.{is_finite}
 use Rattle.rows.specs.declared.joint_constraint_builder.Warmstart.{Warmstart}
 use Rattle.rows.specs.declared.joint_constraint_builder.Warmstart.TheVariants.{Cold, Warm}
 use Rattle.multibody.specs.Rules.{refusal}
-use Rattle.multibody.specs.Model.{Model, with_bodies}
+use Rattle.multibody.specs.Model.{Model}
 use Rattle.multibody.specs.Counts.{row_capacity, total_rows, Room}
 use Rattle.multibody.specs.Refusals.{most_rounds, finite_params, finite_warm, reads_rows, storage_rule}
 use Rattle.multibody.specs.Calls.{Call, Answer, Outcome, call_table, granted_of, run, rules_of, first_rules, own_rules, handed_rules, refusal_of}

@@ -1,5 +1,5 @@
 -- The loop over the bodies: before each turn, the bodies that are left move to what all of them move to.
-use Rattle.std.proofs.Common.{◌≡◌, ℕ, suc, ◌+◌, ◌-◌, ◌*◌, ◌<◌, ◌≤◌, true, false, List, length, refl, ap, ◌∙◌, arith}
+use Rattle.std.proofs.Common.{◌≡◌, ℕ, suc, ◌+◌, ◌-◌, ◌<◌, ◌≤◌, true, false, List, length, ◌∙◌, arith}
 use lib.Ieee.{Float}
 use Rattle.floats.specs.declared.pose.Pose.{Pose}
 use Rattle.multibody.specs.Counts.{body_count}
@@ -8,7 +8,7 @@ use Rattle.model.specs.Planar.{plane}
 use Rattle.model.specs.SingleRecords.{put_pose_if_there}
 use Rattle.model.proofs.SingleRecordsLaws.{put-pose-there}
 use Rattle.model.specs.Refusals.{finite_pose}
-use Rattle.frames.specs.Moving.{new_pose, Moved, moved, move_from}
+use Rattle.frames.specs.Moving.{new_pose, moved, move_from}
 
 module _ (h : Float) (i n : ℕ) (b : List Float) where
   pub no_move : n ≤ i → move_from h i (n - i) b ≡ moved b true

@@ -1,10 +1,10 @@
 -- What a move that stays finite does to each body (`MovedAs`): its pose becomes the new one, and nothing else of it changes. So rules 1 to 7 and 12 hold after it where they held before (`moved-rules`).
-use Rattle.std.proofs.Common.{◌≡◌, ℕ, zero, suc, ◌+◌, ◌<◌, ◌≤◌, Bool, true, false, cond, eqb, ◌≢◌, List, length, sym, refl, ap, ◌∙◌, arith, eqb-true}
+use Rattle.std.proofs.Common.{◌≡◌, ℕ, zero, suc, ◌+◌, ◌<◌, ◌≤◌, Bool, true, false, cond, eqb, List, length, refl, ap, ◌∙◌, arith, eqb-true}
 use mathlib.Core.Bool.{false≢true}
 use borrow.Author.Tests.{eqb-false}
 use lib.Ieee.{Float}
 use Rattle.rows.specs.declared.joint_constraint_builder.SolverPose.{SolverPose}
-use Rattle.multibody.specs.Model.{Model, most_bodies, world, with_bodies}
+use Rattle.multibody.specs.Model.{Model, most_bodies, with_bodies}
 use Rattle.multibody.specs.Counts.{body_count, joint_count}
 use Rattle.multibody.specs.Refusals.{finite_body, finite_joint}
 use Rattle.multibody.proofs.Tests.{by_cases}

@@ -1,6 +1,6 @@
 -- Two studies that differ and move, and meet every premise of demand 3 (`compared`): body 0 is the set, and moves; body 1 stands elsewhere in each. The list is a frame of two substeps, granted in both (`granted`), in which body 0 moves by its velocity times dt (`moves`). All of it is
 -- computed.
-use Rattle.std.proofs.Common.{◌≡◌, ℕ, zero, suc, ◌<◌, Bool, true, false, ltb, ◌≢◌, List, [], ◌∷◌, ◌++◌, pos, sym, refl, ap, ◌∙◌, true≢false, arith, lit≤, ltb-true}
+use Rattle.std.proofs.Common.{◌≡◌, ℕ, zero, suc, ◌<◌, Bool, true, false, ltb, List, [], ◌∷◌, ◌++◌, pos, sym, refl, ◌∙◌, arith, lit≤, ltb-true}
 use lib.Ieee.{Float, fin, lt, eq, is_nan, of_bits, of_int, add, sub, mul, div, round}
 use Rattle.floats.specs.Scalar.{is_finite}
 use Rattle.floats.specs.Vector.{add_of, mul_of, gdot_of, length_of}
@@ -8,7 +8,6 @@ use Rattle.floats.specs.Sqrt.{sqrt_of}
 use Rattle.floats.specs.Bits.{units_of}
 use Rattle.rows.specs.declared.integration_parameters.IntegrationParameters.{IntegrationParameters}
 use Rattle.rows.specs.declared.joint_constraint_builder.Warmstart.TheVariants.{Cold}
-use Rattle.rows.specs.declared.joint_velocity_constraint.WritebackId.{WritebackId}
 use Rattle.multibody.specs.Rules.{refusal, all}
 use Rattle.multibody.specs.Model.{Model, model}
 use Rattle.multibody.specs.Counts.{body_count, joint_count, row_capacity, rows_before, store_firsts}
@@ -17,7 +16,7 @@ use Rattle.multibody.specs.Refusals.{present_or_world, bodies_present, bodies_ap
 use Rattle.multibody.specs.Calls.{rules_of, granted_of, run, each_joint, rounds, sweep_round}
 use Rattle.multibody.specs.Calls.Call.{load}
 use Rattle.multibody.specs.Traces.{Study, AtEach}
-use Rattle.multibody.specs.Studies.{machine, Loaded, Enough, GrantedAlike, Closed, OfSet, Agree, Names, Compared, SameNumbers, Noninterference}
+use Rattle.multibody.specs.Studies.{machine, Loaded, Enough, GrantedAlike, Agree, Names, Compared, SameNumbers, Noninterference}
 use Rattle.multibody.proofs.CallLaws.{run-granted}
 use Rattle.multibody.proofs.Premises.{Turn, recorded, recorded-returns}
 use Rattle.model.specs.Store.{solver_pose_at, vel_at, put_pose}
@@ -25,8 +24,8 @@ use Rattle.model.specs.Refusals.{masks_fit, finite_pose}
 use Rattle.model.specs.Planar.{plane, planar}
 use Rattle.frames.specs.Moving.{moved_rotation, moved_pose, new_pose, move_from}
 use Rattle.frames.specs.Frames.{is_step, substeps_rule, before_move, move_of, after_move, substep, substeps, steps_of, all_substeps, frame_rules, granted_frame, run_frame}
-use Rattle.frames.specs.Studies.{MovingCall, moving_calls}
-use Rattle.frames.specs.Studies.MovingCall.{plain, frame}
+use Rattle.frames.specs.Studies.{moving_calls}
+use Rattle.frames.specs.Studies.MovingCall.{frame}
 use Rattle.frames.proofs.FrameRefused.{frame-told}
 use Rattle.frames.proofs.MovingStudies.{moving-two-studies}
 

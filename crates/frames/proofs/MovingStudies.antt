@@ -1,20 +1,20 @@
 -- Demand 3 for lists that mix the model's calls with frames (`moving-two-studies`): two studies can be compared in them (`moving-comparable`). A frame that is granted in both keeps what they share; one that is refused in both is refused with the
 -- same number and leaves all as it was. That each frame is granted in both or in neither is a premise.
-use Rattle.std.proofs.Common.{◌≡◌, ℕ, Bool, true, false, not, eqb, ◌≢◌, List, [], ◌∷◌, ◌++◌, sym, refl, ap, ◌∙◌, append_assoc, eqb-true}
+use Rattle.std.proofs.Common.{◌≡◌, ℕ, Bool, true, false, eqb, ◌≢◌, List, [], ◌∷◌, sym, refl, ap, ◌∙◌, append_assoc, eqb-true}
 use borrow.Author.Tests.{eqb-false}
 use lib.Ieee.{Float}
 use Rattle.rows.specs.declared.joint_constraint_builder.Warmstart.{Warmstart}
 use Rattle.rows.specs.declared.joint_velocity_constraint.WritebackId.{WritebackId}
-use Rattle.multibody.specs.Rules.{Rule, rule, refusal}
+use Rattle.multibody.specs.Rules.{rule, refusal}
 use Rattle.multibody.specs.Model.{Model}
-use Rattle.multibody.specs.Counts.{body_count, joint_count, Room}
+use Rattle.multibody.specs.Counts.{body_count, Room}
 use Rattle.multibody.specs.Refusals.{finite_warm, model_rules, storage_rule, sweep_rule}
-use Rattle.multibody.specs.Calls.{Outcome, outcome, handed_rules, refusal_of}
+use Rattle.multibody.specs.Calls.{handed_rules}
 use Rattle.multibody.specs.Calls.Call.{write_back}
 use Rattle.multibody.specs.Calls.Change.{none}
 use Rattle.multibody.specs.Calls.Answer.{refused}
 use Rattle.multibody.specs.Traces.{Study}
-use Rattle.multibody.specs.Studies.{SameNumbers, OfSet, count_of, without_total, Calls, model_calls, machine, Loaded, TwoStudies}
+use Rattle.multibody.specs.Studies.{SameNumbers, model_calls, machine, Loaded, TwoStudies}
 use Rattle.multibody.proofs.Tests.{by_cases}
 use Rattle.multibody.proofs.RuleLaws.{rule-holds, rule-fails, no-rules, granted-append}
 use Rattle.multibody.proofs.RefusalLaws.{RulesHold, storage-numbered, rules-arguments}
@@ -23,10 +23,10 @@ use Rattle.multibody.proofs.CallTurns.{Related}
 use Rattle.multibody.proofs.TwoStudies.{Asks, Tells, Comparable, model-comparable, two-studies}
 use Rattle.model.specs.Planar.{plane, planar}
 use Rattle.model.proofs.PlanarLaws.{planar-laws}
-use Rattle.frames.specs.Frames.{with_dt, moment, substep_of, is_step, substeps_rule, own_rules, finite_frame, all_substeps, frame_rules, granted_frame, run_frame}
-use Rattle.frames.specs.Studies.{MovingCall, moving_calls, moving_entry, run_moving}
+use Rattle.frames.specs.Frames.{with_dt, moment, substep_of, substeps_rule, own_rules, finite_frame, all_substeps, frame_rules, granted_frame, run_frame}
+use Rattle.frames.specs.Studies.{MovingCall, moving_calls, run_moving}
 use Rattle.frames.specs.Studies.MovingCall.{plain, frame}
-use Rattle.frames.proofs.BackLaws.{Kept, steps-kept}
+use Rattle.frames.proofs.BackLaws.{steps-kept}
 use Rattle.frames.proofs.InnerLaws.{front-holds}
 use Rattle.frames.proofs.FrameRefused.{frame-told, run-granted, run-refused, stays-finite, step, answers}
 use Rattle.frames.proofs.FrameStudies.{frame-related}

@@ -5,7 +5,6 @@ use Rattle.std.specs.Float.Ieee.{of_int, lt}
 use Rattle.floats.specs.Operators.{◌⊘◌, bits}
 use Rattle.floats.specs.Scalar.{is_finite}
 use Rattle.rows.specs.RowIds.{filled}
-use Rattle.rows.specs.declared.integration_parameters.IntegrationParameters.{IntegrationParameters}
 use Rattle.rows.specs.declared.joint_constraint_builder.Warmstart.{Warmstart}
 use Rattle.multibody.specs.Rules.{Rule, rule, refusal, at_most}
 use Rattle.multibody.specs.Model.{Model, model, with_bodies}

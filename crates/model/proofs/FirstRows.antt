@@ -1,18 +1,17 @@
 -- A joint's first row as it is stored (document 02, R-10). It is none of its joint's contents: of words that differ in first rows alone, every definition reads the same (`alone-reworded` and those after it). Where a first row
 -- is stored, the words differ in that alone (`put_alone`).
-use Prim.Native.Nat.{ℕ, ◌+◌, ◌*◌, ◌<◌}
+use Prim.Native.Nat.{ℕ, ◌+◌, ◌*◌}
 use mathlib.Core.Path.{◌≡◌, ap}
 use mathlib.Core.Bool.{true}
 use mathlib.Core.List.{List, [], ◌∷◌}
 use native.Mathlib.Omega.{arith}
-use lib.ListN.{length, set, length-set}
+use lib.ListN.{length-set}
 use lib.Seq.{get_or-set_other}
 use lib.Ieee.{Float}
-use Rattle.multibody.specs.Rules.{rule, all}
+use Rattle.multibody.specs.Rules.{rule}
 use Rattle.multibody.proofs.RuleLaws.{all-cong}
 use Rattle.multibody.proofs.Laws.{Reworded}
 use Rattle.model.specs.Layout.{words_width, masks_place, first_row_place}
-use Rattle.model.specs.Records.{word}
 use Rattle.model.specs.Store.{put_first, joint_at, center_at, masks_at, enabled_at, enabled_of, body1_at, body2_at}
 use Rattle.model.specs.Refusals.{masks_fit, joint_asks, center_fits}
 use Rattle.model.specs.Planar.{planar}

@@ -1,24 +1,22 @@
 -- No call of the planar model tells two models apart that differ in first rows alone (document 02, R-10): `first-rows-unread`. By what multibody shows of any kind, with what is to be shown of this one: new masks and stored first
 -- rows leave words that differ in first rows alone so.
-use Prim.Native.Nat.{ℕ, zero, suc, ◌+◌, ◌*◌, ◌≤◌, ◌<◌}
-use mathlib.Core.Path.{◌≡◌, refl, sym, ◌∙◌}
+use Prim.Native.Nat.{ℕ, zero, suc, ◌+◌, ◌*◌}
+use mathlib.Core.Path.{◌≡◌, sym, ◌∙◌}
 use mathlib.Core.List.{List}
 use native.Mathlib.Omega.{arith}
 use borrow.Author.Tests.{eqb-true, eqb-false, ltb-true, ltb-false}
 use lib.Dec.{eqb, ltb}
 use lib.ListN.{length, set, get_or, length-set}
 use lib.Seq.{get_or-set_same, get_or-set_other, set_out}
-use lib.Ieee.{Float}
 use Rattle.rows.specs.declared.generic_joint.Masks.{Masks}
-use Rattle.multibody.specs.Model.{Model, with_words}
+use Rattle.multibody.specs.Model.{with_words}
 use Rattle.multibody.specs.Counts.{rows_before, store_firsts}
-use Rattle.multibody.specs.Calls.{Call, run}
 use Rattle.multibody.proofs.Rewording.{SameWords, same_count}
 use Rattle.multibody.proofs.FirstRowsUnread.{Unread, unread}
 use Rattle.model.specs.Layout.{words_width, masks_place}
 use Rattle.model.specs.Store.{put_first, put_masks}
-use Rattle.model.specs.Planar.{plane, planar}
-use Rattle.model.specs.FirstRows.{FirstRowsAlone, SameButFirstRows, FirstRowsUnread}
+use Rattle.model.specs.Planar.{plane}
+use Rattle.model.specs.FirstRows.{FirstRowsAlone, FirstRowsUnread}
 use Rattle.multibody.proofs.Tests.{by_cases}
 use Rattle.model.proofs.FirstRows.{alone-reworded, masks_at-alone, mask_rules-alone, joint_at-alone, put_alone}
 use Rattle.model.proofs.PlanarLaws.{planar-laws}

@@ -2,9 +2,9 @@
 -- (`compared`, `granted`). The premise that it is granted in both or in neither is needed: row storage of five rows holds the total of either study, five and four, but of their new totals, six and five,
 -- only the one (`room`, `one-alone`).
 use Prim.Native.Nat.{ℕ}
-use mathlib.Core.Path.{◌≡◌, refl, sym, ◌∙◌}
+use mathlib.Core.Path.{◌≡◌, refl, ◌∙◌}
 use mathlib.Core.Logic.{⊎_elim}
-use mathlib.Core.Bool.{Bool, false≢true}
+use mathlib.Core.Bool.{false≢true}
 use mathlib.Core.List.{List, [], ◌∷◌}
 use lib.Dec.{lit≤}
 use lib.ListN.{replicate}

@@ -1,12 +1,11 @@
 -- First rows stored for all joints (document 02, R-10): each is the sum of the earlier joints' row counts (`first_rows`), after a granted load (`loaded-first`) and after a granted change of masks (`masked-first`).
 use Prim.Native.Nat.{ℕ, zero, suc, ◌+◌, ◌*◌, ◌<◌, ◌≤◌}
 use mathlib.Core.Path.{◌≡◌, refl, sym, ◌∙◌}
-use mathlib.Core.Bool.{Bool, true, false}
 use mathlib.Core.List.{List}
 use native.Mathlib.Omega.{arith}
 use borrow.Author.Tests.{eqb-true, eqb-false}
 use lib.Dec.{eqb}
-use lib.ListN.{length, set, get_or, length-set}
+use lib.ListN.{length}
 use lib.Seq.{get_or-set_same, get_or-set_other}
 use lib.Ieee.{Float}
 use Rattle.rows.specs.declared.generic_joint.Masks.{Masks}
@@ -15,7 +14,7 @@ use Rattle.multibody.specs.Counts.{joint_count, rows_before, store_firsts}
 use Rattle.multibody.specs.Calls.{granted_of}
 use Rattle.multibody.specs.Calls.Call.{load, set_masks}
 use Rattle.multibody.proofs.Rewording.{same_count, first-rows-kept, firsts_same, rows-kept}
-use Rattle.model.specs.Layout.{words_width, first_row_place}
+use Rattle.model.specs.Layout.{words_width}
 use Rattle.model.specs.Store.{first_at, put_first, put_masks}
 use Rattle.model.specs.Planar.{plane, planar}
 use Rattle.multibody.proofs.Tests.{by_cases}

@@ -13,7 +13,7 @@ use lib.Ieee.{Float, fin, fits, add, sub, mul, div, neg, lt, le, eq, ne, is_nan,
 use Rattle.floats.specs.Bits.{units_of}
 use Rattle.floats.specs.Scalar.{is_finite, clamp_of}
 use Rattle.floats.specs.Value.{magnitude_of}
-use Rattle.floats.specs.Vector.{X, Y, add_of, sub_of, mul_of, gdot_of, gcross_matrix_of, component_mul_of, transform_vector_of}
+use Rattle.floats.specs.Vector.{Axis, X, Y, add_of, sub_of, mul_of, gdot_of, gcross_matrix_of, component_mul_of, transform_vector_of}
 use Rattle.floats.specs.Rotation.{column_of, inverse_of, product_of, rotate_of, to_mat_of}
 use Rattle.floats.specs.Pose.{pose_product_of}
 use Rattle.floats.specs.Utils.{simd_inv_of}
@@ -97,6 +97,11 @@ loaded : Loaded planar_calls s
 unfolding granted_of store_firsts put_first body_count joint_count rows_before row_count joint_ids row_masks_at enabled_at masks_at has_axis row_ids
 loaded = record { handed_over = m; by_load = sym (run-granted load m storage load-holds) }
 
+-- what holds along both axes
+along-both : (P : Axis → Type 0) → P X → P Y → (i : Axis) → P i
+along-both P x y X = x
+along-both P x y Y = y
+
 -- the bodies that the rows name are 0 and 1
 two-bodies : (P : ℕ → Type 0) → P 0 → P 1 → (b : ℕ) → among b (0 ∷ 1 ∷ []) ≡ true → P b
 unfolding among
@@ -112,22 +117,22 @@ unfolding after_calls run rules_of granted_of refusal all model_rules_with new_m
 meets = (
   refl,
   (
-    two-bodies _ (record { range = lit≤ tt; mass = λ i. elim i [ X ↦ refl | Y ↦ refl ] }) (record { range = lit≤ tt; mass = λ i. elim i [ X ↦ refl | Y ↦ refl ] }),
+    two-bodies _ (record { range = lit≤ tt; mass = along-both _ refl refl }) (record { range = lit≤ tt; mass = along-both _ refl refl }),
     (
-      two-bodies _ (λ i. elim i [ X ↦ refl | Y ↦ refl ]) (λ i. elim i [ X ↦ refl | Y ↦ refl ]),
+      two-bodies _ (along-both _ refl refl) (along-both _ refl refl),
       (
         record {
-          finite1 = λ i. elim i [ X ↦ refl | Y ↦ refl ];
-          finite2 = λ i. elim i [ X ↦ refl | Y ↦ refl ];
-          normal1 = λ i. elim i [ X ↦ inr (lit≤ tt) | Y ↦ inl refl ];
-          normal2 = λ i. elim i [ X ↦ inr (lit≤ tt) | Y ↦ inl refl ];
+          finite1 = along-both _ refl refl;
+          finite2 = along-both _ refl refl;
+          normal1 = along-both _ (inr (lit≤ tt)) (inl refl);
+          normal2 = along-both _ (inr (lit≤ tt)) (inl refl);
         },
         (
           record {
-            finite1 = λ i. elim i [ X ↦ refl | Y ↦ refl ];
-            finite2 = λ i. elim i [ X ↦ refl | Y ↦ refl ];
-            normal1 = λ i. elim i [ X ↦ inl refl | Y ↦ inl refl ];
-            normal2 = λ i. elim i [ X ↦ inl refl | Y ↦ inl refl ];
+            finite1 = along-both _ refl refl;
+            finite2 = along-both _ refl refl;
+            normal1 = along-both _ (inl refl) (inl refl);
+            normal2 = along-both _ (inl refl) (inl refl);
           },
           tt,
         ),

@@ -26,7 +26,7 @@ use Rattle.multibody.specs.Calls.Call.{sweep}
 use Rattle.multibody.specs.Traces.{after_calls}
 use Rattle.multibody.specs.Studies.{Calls}
 use Rattle.multibody.specs.SweepSteps.{RowStep, round_steps, sweep_steps, EachStep, among, named_bodies}
-use Rattle.multibody.proofs.SweepSteps.{EveryStep, every-repeated, Covered, named-covers}
+use Rattle.multibody.proofs.SweepSteps.{every-repeated, Covered, named-covers}
 use Rattle.multibody.proofs.RowsCarry.{Carries, HasMasses, CallsKeep, granted-room, model-keeps, study-carried, sweep-carried}
 use Rattle.multibody.proofs.SweepSums as AnySweep
 use Rattle.multibody.proofs.SweepSums.{StepDrifts, each-with, granted-rules, granted-built}

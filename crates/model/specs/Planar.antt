@@ -11,7 +11,6 @@ use Rattle.rows.specs.declared.joint_velocity_constraint.SolverVel.{SolverVel}
 use Rattle.rows.specs.declared.joint_velocity_constraint.JointConstraint.{JointConstraint}
 use Rattle.motor_table.specs.Tables.{table_refusal, read_table}
 use Rattle.multibody.specs.Rules.{Rule, rule, all}
-use Rattle.multibody.specs.Model.{Model}
 use Rattle.multibody.specs.Store.{Store}
 use Rattle.multibody.specs.System.{System}
 use Rattle.multibody.specs.Counts.{joint_count}

@@ -1,7 +1,7 @@
 -- Every record of RFC 4180's rules is read, with its fields and what follows it.
-use Rattle.std.proofs.Common.{◌≡◌, ℕ, Bool, true, false, List, [], ◌∷◌, ◌++◌, sym, refl, ap, ◌∙◌, append_assoc, append-nil}
+use Rattle.std.proofs.Common.{◌≡◌, ℕ, true, List, [], ◌∷◌, ◌++◌, refl, ap, ◌∙◌, append_assoc, append-nil}
 use Rattle.texts.specs.Ascii.{COMMA, CR, DQUOTE, LF}
-use Rattle.motor_table.specs.Rfc4180.{is_textdata, move_at, may_end, Parsed, with_byte, with_field, record_from, first_record}
+use Rattle.motor_table.specs.Rfc4180.{is_textdata, move_at, may_end, with_byte, with_field, record_from, first_record}
 use Rattle.motor_table.specs.Rfc4180.Parsed.{fields}
 use Rattle.motor_table.specs.Grammar.{Unquoted, Quoted, Field, Record, Follows}
 use Rattle.motor_table.proofs.RoundTrip.{with_bytes, bytes-first, followed, no-quote, bare-move, start_move}

@@ -1,7 +1,7 @@
 -- Nothing else is read: what `first_record` reads is a record by RFC 4180's rules, followed by CRLF or the end.
 use Rattle.std.proofs.Common.{◌≡◌, ℕ, Bool, true, false, cond, ◌||◌, eqb, List, [], ◌∷◌, ◌++◌, sym, refl, ap, ◌∙◌, subst, append_assoc, arith, eqb-true}
 use Rattle.texts.specs.Ascii.{COMMA, CR, DQUOTE, LF}
-use Rattle.motor_table.specs.Rfc4180.{is_textdata, separator_move, non_escaped_move, escaped_move, move_at, may_end, Parsed, with_byte, with_field, record_from, first_record}
+use Rattle.motor_table.specs.Rfc4180.{is_textdata, separator_move, move_at, may_end, Parsed, with_byte, with_field, record_from, first_record}
 use Rattle.motor_table.specs.Rfc4180.Parsed.{fields, broken}
 use Rattle.motor_table.specs.Grammar.{Unquoted, Quoted, Field, Record, Follows}
 use Rattle.motor_table.proofs.RoundTrip.{followed}

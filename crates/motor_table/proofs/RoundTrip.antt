@@ -1,18 +1,17 @@
 -- Reading what was written returns the records: the text of a table reads as the table is granted, refusals included (`reads-back`),
 -- and so the text that the writer leaves for words that it grants reads as its records (`written-reads-back`).
-use Rattle.std.proofs.Common.{◌≡◌, ℕ, zero, suc, ◌+◌, ◌-◌, ◌*◌, ◌/◌, ◌%◌, ◌^◌, ◌<◌, ◌≤◌, Bool, true, false, cond, ◌&&◌, ◌||◌, eqb, ltb, leb, List, [], ◌∷◌, ◌++◌, length, get_or, sym, refl, ap, ◌∙◌, append_assoc, append-nil, mod-lt, zero-add, zero-mul, arith, ltb-false, ltb-true, le-ltb, lt-ltb, ne_eqb, le-leb}
+use Rattle.std.proofs.Common.{◌≡◌, ℕ, zero, suc, ◌+◌, ◌-◌, ◌*◌, ◌/◌, ◌%◌, ◌^◌, ◌<◌, ◌≤◌, Bool, true, false, cond, ◌&&◌, eqb, ltb, leb, List, [], ◌∷◌, ◌++◌, length, get_or, sym, refl, ap, ◌∙◌, append_assoc, append-nil, mod-lt, arith, ltb-false, ltb-true, lt-ltb, ne_eqb, le-leb}
 use mathlib.Core.Option.{Option, none, some}
-use borrow.Author.Tests.{lt-leb}
 use Rattle.texts.specs.Ascii.{COMMA, CR, LF, DQUOTE, MINUS}
 use Rattle.texts.specs.Digits.{is_digit, digit, decimal_onto, decimal}
 use Rattle.texts.proofs.DigitsLaws.{tenth}
 use Rattle.motor_table.specs.Rfc4180.{is_textdata, move_at, Parsed, with_byte, with_field, record_from, first_record}
 use Rattle.motor_table.specs.Rfc4180.Parsed.{fields, broken}
-use Rattle.motor_table.specs.WholeNumber.{largest_size, is_sign, number_of, digits_after, sized, unsigned, whole_number}
+use Rattle.motor_table.specs.WholeNumber.{largest_size, is_sign, digits_after, sized, unsigned, whole_number}
 use Rattle.motor_table.specs.Records.{entry_of, three_numbers, is_present}
 use Rattle.motor_table.specs.Tables.{Table, most_records, after, checked, unless_empty, read_from, read_table}
-use Rattle.motor_table.specs.Tables.Table.{granted, refused}
-use Rattle.motor_table.specs.Text.{number_text, field_text, last_field_text, record_text, text_of, word_number, entry_at, entries_from, records_in, entries_of, is_sized, granting, table_of}
+use Rattle.motor_table.specs.Tables.Table.{refused}
+use Rattle.motor_table.specs.Text.{number_text, record_text, text_of, word_number, entry_at, entries_from, records_in, entries_of, is_sized, granting, table_of}
 use Rattle.motor_table.proofs.Textdata.{after-comma}
 use Rattle.motor_table.proofs.NumberLaws.{is_digit_lem, digit-no-sign}
 use Rattle.motor_table.proofs.TextLaws.{record-length}

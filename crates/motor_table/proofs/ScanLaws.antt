@@ -13,7 +13,6 @@ use Rattle.motor_table.specs.declared.rfc4180.Place.{Place}
 use Rattle.motor_table.specs.declared.rfc4180.Move.{Move}
 use Rattle.motor_table.specs.declared.whole_number.Number.{Number}
 use Rattle.motor_table.specs.declared.whole_number.Field.{Field}
-use Rattle.motor_table.specs.declared.record.Entry.{Entry}
 use Rattle.motor_table.specs.declared.record.Fields.{Fields}
 use Rattle.motor_table.specs.declared.record.Scan.{Scan}
 use Rattle.motor_table.specs.declared.record.Step.{Step}

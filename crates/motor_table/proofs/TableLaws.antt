@@ -1,6 +1,6 @@
 -- A table record by record, for a walk over a slice: where a record starts at position `at` of s, what the table from there on is, by
 -- what `read_at` says of that record. `record-rest` is the law of positions: what follows the record is what stands at the next position.
-use Rattle.std.proofs.Common.{◌≡◌, ℕ, zero, suc, ◌+◌, ◌-◌, ◌<◌, ◌≤◌, Bool, true, false, cond, ltb, List, [], ◌∷◌, length, get_or, drop, sym, refl, ap, ◌∙◌, subst, add-zero, add-one, arith, length-drop, drop_of_length-le, drop-cons, drop-drop, lt-ltb}
+use Rattle.std.proofs.Common.{◌≡◌, ℕ, zero, suc, ◌+◌, ◌-◌, ◌<◌, ◌≤◌, Bool, true, false, cond, ltb, List, [], ◌∷◌, length, drop, sym, refl, ap, ◌∙◌, add-zero, arith, length-drop, drop_of_length-le, drop-drop, lt-ltb}
 use mathlib.Core.Option.{Option, none, some}
 use Rattle.motor_table.specs.Rfc4180.{Parsed, move_at, may_end, with_byte, with_field, record_from, first_record}
 use Rattle.motor_table.specs.Rfc4180.Parsed.{fields, broken}

@@ -1,7 +1,7 @@
 -- The refusal along a walk over the records; and what a writer answers and leaves by it.
-use Rattle.std.proofs.Common.{◌≡◌, ℕ, zero, suc, ◌+◌, ◌-◌, ◌*◌, ◌<◌, ◌≤◌, Bool, true, false, cond, List, [], ◌∷◌, ◌++◌, length, sym, refl, ap, ◌∙◌, zero-add, arith, length-append}
+use Rattle.std.proofs.Common.{◌≡◌, ℕ, zero, suc, ◌+◌, ◌-◌, ◌*◌, ◌<◌, ◌≤◌, Bool, true, false, cond, List, [], ◌∷◌, length, sym, refl, ap, ◌∙◌, zero-add, arith, length-append}
 use Rattle.texts.specs.Written.{written}
-use Rattle.texts.specs.Sink.{largest_place, placed, Wrote}
+use Rattle.texts.specs.Sink.{placed, Wrote}
 use Rattle.texts.proofs.SinkLaws.{placed-whole}
 use Rattle.motor_table.specs.Records.{is_present}
 use Rattle.motor_table.specs.Tables.{Table, most_records, after}

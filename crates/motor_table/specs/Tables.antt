@@ -1,8 +1,8 @@
 -- Reading a table (request R-6). The first faulty record decides. A record is faulty with 13 where it breaks the grammar or is
 -- the 4097th, else with 14 where it is not three whole numbers, else with 15 where its joint or axis is absent.
-use Rattle.std.specs.Prelude.{ℕ, zero, suc, ◌+◌, Bool, cond, List, [], ◌∷◌, length}
+use Rattle.std.specs.Prelude.{ℕ, zero, suc, ◌+◌, cond, List, [], ◌∷◌, length}
 use Rattle.std.proofs.Math.Option.{Option, none, some}
-use Rattle.motor_table.specs.Rfc4180.{Parsed, first_record}
+use Rattle.motor_table.specs.Rfc4180.{first_record}
 use Rattle.motor_table.specs.Rfc4180.Parsed.{fields, broken}
 use Rattle.motor_table.specs.Records.{three_numbers, is_present}
 use Rattle.motor_table.specs.declared.record.Entry.{Entry}

@@ -1,5 +1,5 @@
 -- The target velocity of a record: its number of thousandths as binary32, divided once by 1000.
-use Rattle.std.specs.Prelude.{ℕ, Bool, cond, ℤ, pos, Float}
+use Rattle.std.specs.Prelude.{cond, pos, Float}
 use Rattle.std.specs.Float.{binary32}
 use Rattle.std.specs.Float.Ieee.{neg, of_int}
 use Rattle.floats.specs.Operators.{◌⊘◌, bits}

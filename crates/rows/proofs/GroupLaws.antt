@@ -9,7 +9,8 @@ use native.Mathlib.Omega.{arith}
 use mathlib.Core.Bool.{true}
 use mathlib.Core.List.{List, [], ◌∷◌, ◌++◌, map, append-nil, append_assoc, map-append, map-map}
 use lib.ListN.{length, get_or, set, take, drop, replicate, length-append, length-map, drop_of_length-le}
-use lib.Seq.{take_all}
+use lib.Seq.{take_all, take_at, drop_at, drop-drop, length-take-le}
+use borrow.Rule.Slice.PartMut.{put_mid}
 use lib.Ieee.{Float}
 use Rattle.rows.specs.declared.joint_velocity_constraint.WritebackId.{WritebackId}
 use Rattle.rows.specs.declared.joint_velocity_constraint.WritebackId.TheVariants.{Dof}
@@ -86,6 +87,18 @@ module _ (group : Group) where
       every-orthogonalise P (head_of (im_sum_of c)) is_lock (reduce_of group (im_sum_of c)) (heads (im_sum_of c)) (reduces (im_sum_of c)) (c ∷ cs) e
 
   -- ---- two groups
+
+  -- Two parts of one array in turn: `one` is what the first n rows have become, `two` what the rows after them, up to before len, have.
+  pub two_groups : (n len : ℕ) (cs one two : List Row) → n ≤ len → len ≤ length cs → one ≡ finalize_of group (take n cs)
+      → two ≡ finalize_of group (take (len - n) (drop n (one ++ drop n cs))) → put_mid n (len - n) (one ++ drop n cs) two ≡ finalize_groups group n len cs
+  unfolding finalize_groups
+  two_groups n len cs one two h l e f =
+      let long : length one ≡ n = ap length e ∙ length-finalize_of (take n cs) ∙ length-take-le n cs (omega arith) in
+      let before : take n (one ++ drop n cs) ≡ one = take_at one (drop n cs) n long in
+      let after : drop n (one ++ drop n cs) ≡ drop n cs = drop_at one (drop n cs) n long in
+      let two_is : two ≡ finalize_of group (take (len - n) (drop n cs)) = rw after at f in
+      let same : n + (len - n) ≡ len = omega arith in
+      rw (before, after, two_is, e, drop-drop, same)
 
   -- the rows that f makes of two lists
   pub length-groups : {A : Type 0} (f : A → Row) (l r : List A) → length (finalize_of group (map f l) ++ finalize_of group (map f r)) ≡ length (l ++ r)

@@ -7,13 +7,13 @@ use mathlib.Core.Path.{◌≡◌, refl, ◌∙◌}
 use mathlib.Core.Bool.{Bool, true, false, ◌&&◌, ◌||◌}
 use native.Mathlib.Omega.{arith}
 use borrow.Author.Tests.{ltb-true, eqb-true, le-ltb, ne_eqb}
-use lib.Dec.{ltb, eqb}
+use lib.Dec.{eqb}
 use lib.Ieee.{Float, nan, inf, fin, of_bits, neg, mul, round, up, down, lt, eq, le, below, level}
 use Rattle.floats.specs.Operators.{bits}
 use Rattle.floats.specs.Constants.{one, max_float}
 use Rattle.rows.specs.GenericJoint.{max_impulse_of, motor_params_of}
 use Rattle.rows.specs.Helper.{linear_axis_of}
-use Rattle.rows.specs.Makers.{TwoBodies, ErpCfm, RowTerms, assemble_of, limit_bounds_of, limit_bias_of, limit_linear_of, limit_linear_coupled_of, recentered_angle_of, limit_angular_of, motor_bounds_of, motor_row_of}
+use Rattle.rows.specs.Makers.{TwoBodies, ErpCfm, RowTerms, assemble_of, limit_bounds_of, limit_linear_of, limit_linear_coupled_of, recentered_angle_of, limit_angular_of, motor_bounds_of, motor_row_of}
 use Rattle.rows.proofs.MakerShapes.{limit-linear-is}
 use Rattle.rows.specs.Finalize.{is_lock}
 use Rattle.rows.specs.declared.integration_parameters.IntegrationParameters.{IntegrationParameters}

@@ -21,7 +21,6 @@ use Rattle.rows.specs.declared.joint_constraint_helper.JointConstraintHelper.{Jo
 use Rattle.rows.specs.declared.joint_constraint_helper.RowAxis.{RowAxis}
 use Rattle.rows.specs.declared.joint_constraint_helper.LimitEnds.{LimitEnds}
 use Rattle.rows.specs.declared.joint_constraint_helper.MotorLimits.{MotorLimits}
-use Rattle.rows.specs.declared.joint_velocity_constraint.JointConstraint.{JointConstraint}
 
 -- ---- uncoupled
 

@@ -10,11 +10,16 @@ use Rattle.floats.specs.Operators.{bits}
 use Rattle.floats.specs.Scalar.{clamp_of, is_finite}
 use Rattle.floats.specs.Bits.{units_of}
 use Rattle.floats.specs.Value.{magnitude_of, exact_value_of, spacing_of}
-use Rattle.floats.specs.Vector.{X, Y, add_of, sub_of, mul_of, gdot_of, component_mul_of}
+use Rattle.floats.specs.Vector.{Axis, X, Y, add_of, sub_of, mul_of, gdot_of, component_mul_of}
 use Rattle.rows.specs.Step.{wanted_impulse_of, applied_of}
 use Rattle.rows.specs.Momentum.{inverse_mass, momentum_sum, momentum_spacing, PowersOfTwo, InRange, impulse_change_of}
 use Rattle.rows.specs.declared.joint_velocity_constraint.JointConstraint.{JointConstraint}
 use Rattle.rows.specs.declared.joint_velocity_constraint.SolverVel.{SolverVel}
+
+-- what holds along both axes
+along-both : (P : Axis → Type 0) → P X → P Y → (i : Axis) → P i
+along-both P x y X = x
+along-both P x y Y = y
 
 -- 2^20, 1 and 2^-20
 masses : (inverse_mass 0 ≡ bits 0x4980_0000) × (inverse_mass 20 ≡ bits 0x3F80_0000) × (inverse_mass 40 ≡ bits 0x3580_0000)
@@ -58,15 +63,20 @@ halves = row (inverse_mass 20) (inverse_mass 21) (bits 0)
 
 halves-masses : PowersOfTwo halves 20 21
 unfolding halves row
-halves-masses = record { range1 = lit≤ tt; range2 = lit≤ tt; mass1 = λ i. elim i [ X ↦ refl | Y ↦ refl ]; mass2 = λ i. elim i [ X ↦ refl | Y ↦ refl ] }
+halves-masses = record {
+  range1 = lit≤ tt;
+  range2 = lit≤ tt;
+  mass1 = along-both _ refl refl;
+  mass2 = along-both _ refl refl;
+}
 
 halves-values : InRange halves (along-x (bits 0x3F80_0000)) (along-x (bits 0)) (bits 0x3380_0000)
 unfolding halves row along-x applied_of add_of sub_of mul_of component_mul_of is_finite magnitude_of units_of of_bits add sub mul neg
 halves-values = record {
-  finite1 = λ i. elim i [ X ↦ refl | Y ↦ refl ];
-  finite2 = λ i. elim i [ X ↦ refl | Y ↦ refl ];
-  normal1 = λ i. elim i [ X ↦ inr (lit≤ tt) | Y ↦ inl refl ];
-  normal2 = λ i. elim i [ X ↦ inr (lit≤ tt) | Y ↦ inl refl ];
+  finite1 = along-both _ refl refl;
+  finite2 = along-both _ refl refl;
+  normal1 = along-both _ (inr (lit≤ tt)) (inl refl);
+  normal2 = along-both _ (inr (lit≤ tt)) (inl refl);
 }
 
 halves-drift : (change halves (along-x (bits 0x3F80_0000)) (along-x (bits 0)) (bits 0x3380_0000) 20 21 ≡ 2 ^ 146)
@@ -81,7 +91,12 @@ alike = row (inverse_mass 20) (inverse_mass 20) (bits 0x3380_0000)
 
 alike-masses : PowersOfTwo alike 20 20
 unfolding alike row
-alike-masses = record { range1 = lit≤ tt; range2 = lit≤ tt; mass1 = λ i. elim i [ X ↦ refl | Y ↦ refl ]; mass2 = λ i. elim i [ X ↦ refl | Y ↦ refl ] }
+alike-masses = record {
+  range1 = lit≤ tt;
+  range2 = lit≤ tt;
+  mass1 = along-both _ refl refl;
+  mass2 = along-both _ refl refl;
+}
 
 alike-impulse : impulse_change_of alike (along-x (bits 0x3F80_0000)) (along-x (bits 0x3F80_0000)) ≡ bits 0x3380_0000
 unfolding alike row along-x wanted_impulse_of clamp_of gdot_of sub_of of_bits add sub mul neg lt
@@ -90,10 +105,10 @@ alike-impulse = refl
 alike-values : InRange alike (along-x (bits 0x3F80_0000)) (along-x (bits 0x3F80_0000)) (impulse_change_of alike (along-x (bits 0x3F80_0000)) (along-x (bits 0x3F80_0000)))
 unfolding alike row along-x applied_of wanted_impulse_of clamp_of gdot_of add_of sub_of mul_of component_mul_of is_finite magnitude_of units_of of_bits add sub mul neg lt
 alike-values = record {
-  finite1 = λ i. elim i [ X ↦ refl | Y ↦ refl ];
-  finite2 = λ i. elim i [ X ↦ refl | Y ↦ refl ];
-  normal1 = λ i. elim i [ X ↦ inr (lit≤ tt) | Y ↦ inl refl ];
-  normal2 = λ i. elim i [ X ↦ inr (lit≤ tt) | Y ↦ inl refl ];
+  finite1 = along-both _ refl refl;
+  finite2 = along-both _ refl refl;
+  normal1 = along-both _ (inr (lit≤ tt)) (inl refl);
+  normal2 = along-both _ (inr (lit≤ tt)) (inl refl);
 }
 
 alike-drift : (change alike (along-x (bits 0x3F80_0000)) (along-x (bits 0x3F80_0000)) (bits 0x3380_0000) 20 20 ≡ 2 ^ 146)

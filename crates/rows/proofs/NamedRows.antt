@@ -8,7 +8,7 @@ use mathlib.Core.Path.{◌≡◌, refl, sym, ap, ◌∙◌}
 use mathlib.Core.Logic.{◌⊎◌, inl, inr}
 use mathlib.Core.Bool.{Bool, true, false, not, cond, ◌&&◌}
 use mathlib.Core.List.Memᴰ
-use mathlib.Core.List.{List, [], ◌∷◌, ◌++◌, map, map-append, Memᴰ}
+use mathlib.Core.List.{List, [], ◌∷◌, map, map-append, Memᴰ}
 use native.Mathlib.Omega.{arith}
 use borrow.Author.Tests.{eqb-true}
 use lib.Dec.{eqb}
@@ -18,13 +18,12 @@ use Rattle.rows.specs.declared.generic_joint.Masks.{Masks}
 use Rattle.rows.specs.declared.joint_constraint_builder.SolverPose.{SolverPose}
 use Rattle.rows.specs.declared.joint_constraint_builder.ImpulseJoint.{ImpulseJoint}
 use Rattle.rows.specs.declared.joint_constraint_builder.Warmstart.{Warmstart}
-use Rattle.rows.specs.declared.joint_velocity_constraint.JointConstraint.{JointConstraint}
 use Rattle.rows.specs.declared.joint_velocity_constraint.RowContext.{RowContext}
 use Rattle.rows.specs.declared.joint_velocity_constraint.WritebackId.{WritebackId}
 use Rattle.rows.specs.declared.joint_velocity_constraint.WritebackId.TheVariants.{Dof, Limit, Motor}
 use Rattle.rows.specs.GenericJoint.{limits_at, motor_at}
 use Rattle.rows.specs.Row.{with_impulse}
-use Rattle.rows.specs.RowIds.{is_locked, is_motor, is_limit, is_coupled, keep, in_order, axes, first_coupled, shares_linear, group_one, group_two, lock_ids, limit_ids, row_ids}
+use Rattle.rows.specs.RowIds.{is_locked, is_motor, is_limit, is_coupled, keep, in_order, first_coupled, shares_linear, group_one, group_two, lock_ids, limit_ids, row_ids}
 use Rattle.rows.specs.Update.{context_of, motor_limits_of, row_of, update_of}
 use Rattle.rows.specs.Builder.{joint_context_of, seed_of, builder_update_of}
 use Rattle.rows.specs.Named.{GivesRow, SameNamed}
@@ -84,7 +83,15 @@ module _ (x y : RowContext) (s : SameShared x y) (e : (i : ℕ) → limits_at x.
       let d : List ℕ = keep (is_locked k) (in_order nl na) in
       let u : List ℕ = keep (λ i. is_limit k i && not (is_coupled k i)) (in_order nl na) in
       let c : List ℕ = keep (is_limit k) (first_coupled nl k) in
-      rw (map-append, map-append, map-append, map-append, locks d, limits u, limits c)
+      rw (
+        map-append (row_of x) (lock_ids nl na k) (limit_ids nl na k),
+        map-append (row_of y) (lock_ids nl na k) (limit_ids nl na k),
+        map-append (row_of x) (map Limit u) (map Limit c),
+        map-append (row_of y) (map Limit u) (map Limit c),
+        locks d,
+        limits u,
+        limits c,
+      )
 
 -- ---- a motor's limit is named where it is read
 

@@ -1,14 +1,13 @@
 -- The load call accepts every model that a seed draws, given storage for 48 rows (`accepted`). Rule by rule: at most eight bodies and eight joints; masks below 8; a first body below the number of bodies,
 -- and as second another one or the world; every number finite; centres by cosine and sine; dt = 1/64; and at most six rows a joint.
-use Rattle.std.proofs.Common.{◌≡◌, ℕ, zero, suc, ◌+◌, ◌-◌, ◌*◌, ◌/◌, ◌%◌, ◌<◌, ◌≤◌, Bool, true, false, cond, not, ◌||◌, eqb, ltb, ◌≢◌, List, [], ◌∷◌, ◌++◌, length, get_or, sym, refl, ap, ◌∙◌, mod-lt, arith, le-ltb, lt-ltb, ne_eqb, eqb-true}
+use Rattle.std.proofs.Common.{◌≡◌, ℕ, ◌+◌, ◌-◌, ◌*◌, ◌/◌, ◌%◌, ◌<◌, ◌≤◌, Bool, true, false, cond, not, ◌||◌, eqb, ltb, ◌≢◌, List, [], ◌∷◌, get_or, sym, refl, ap, ◌∙◌, mod-lt, arith, le-ltb, lt-ltb, ne_eqb}
 use borrow.Author.Tests.{eqb-false}
 use lib.Ieee.{Float, nan, lt, of_bits}
-use Rattle.floats.specs.Operators.{bits}
 use Rattle.floats.specs.Scalar.{is_finite}
-use Rattle.multibody.specs.Rules.{refusal, all, at_most}
+use Rattle.multibody.specs.Rules.{refusal, at_most}
 use Rattle.multibody.specs.Model.{Model, most_bodies, most_joints}
 use Rattle.multibody.specs.Counts.{body_count, joint_count, row_capacity, total_rows}
-use Rattle.multibody.specs.Refusals.{present_or_world, bodies_present, bodies_apart, finite_params, finite_body, finite_joint, model_rules, storage_rule}
+use Rattle.multibody.specs.Refusals.{present_or_world, bodies_present, bodies_apart, finite_params, finite_body, finite_joint, storage_rule}
 use Rattle.multibody.specs.Calls.{rules_of, first_rules, own_rules, granted_of, run}
 use Rattle.multibody.specs.Calls.Call.{load}
 use Rattle.multibody.specs.Calls.Answer.{granted}
@@ -25,7 +24,7 @@ use Rattle.multibody.proofs.CountLaws.{rows_before-le}
 use Rattle.multibody.proofs.CallLaws.{run-granted}
 use Rattle.model.proofs.PlanarLaws.{planar-laws}
 use Rattle.seeded.specs.Draws.{draw}
-use Rattle.seeded.specs.Seeded.{tabulate, bodies_of, joints_of, mask_of, first_of, second_of, further, body_number, joint_number, joint_word, body_place, word_place, number_place, seeded_model}
+use Rattle.seeded.specs.Seeded.{bodies_of, joints_of, mask_of, first_of, second_of, further, body_number, joint_number, joint_word, body_place, word_place, number_place, seeded_model}
 use Rattle.seeded.proofs.PlaceLaws.{few_bodies, few_joints}
 use Rattle.seeded.proofs.NumberLaws.{number-finite}
 use Rattle.seeded.proofs.Front.{length-tabulate, get_d_tabulate}

@@ -1,5 +1,5 @@
 -- The state after a turn of the loop that draws, and what it draws in the end. And the state after k draws, in one step.
-use Rattle.std.proofs.Common.{◌≡◌, ℕ, zero, suc, ◌+◌, ◌*◌, ◌%◌, ◌^◌, ◌<◌, ◌≤◌, sym, refl, ap, ◌∙◌, add-one, arith}
+use Rattle.std.proofs.Common.{◌≡◌, ℕ, zero, suc, ◌+◌, ◌*◌, ◌%◌, ◌^◌, ◌<◌, ◌≤◌, refl, ap, ◌∙◌, add-one, arith}
 use Rattle.seeded.specs.Draws.{next_of, mixed_of, state_after, draw}
 
 pub state-none : (seed : ℕ) → seed ≡ state_after seed 0

@@ -1,5 +1,5 @@
 -- Lists by place. A tabulated list has its entries in their places; and a loop that stores f p at place p, from 0 on, leaves the front of the slice tabulated.
-use Rattle.std.proofs.Common.{◌≡◌, ℕ, zero, suc, ◌+◌, ◌<◌, ◌≤◌, List, [], ◌∷◌, ◌++◌, length, get_or, drop, set, sym, refl, ap, ◌∙◌, zero-add, add-one, arith}
+use Rattle.std.proofs.Common.{◌≡◌, ℕ, zero, suc, ◌+◌, ◌<◌, ◌≤◌, List, [], ◌∷◌, ◌++◌, length, get_or, drop, set, refl, ap, ◌∙◌, zero-add, add-one, arith}
 use Rattle.seeded.specs.Seeded.{tabulate}
 use Rattle.seeded.specs.Left.{front}
 

@@ -1,6 +1,6 @@
 -- Every number that is drawn is finite, computed over all 2001 of them.
 use Rattle.std.proofs.Common.{◌≡◌, ℕ, ◌%◌, true, refl, arith}
-use lib.Ieee.{Float, neg, div, of_int, of_bits, round, units, odd}
+use lib.Ieee.{neg, div, of_int, of_bits, round, units, odd}
 use Rattle.floats.specs.Scalar.{is_finite}
 use Rattle.multibody.specs.Rules.{all}
 use Rattle.multibody.proofs.RuleLaws.{all-below}

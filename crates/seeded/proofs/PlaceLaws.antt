@@ -1,5 +1,5 @@
 -- How many bodies and joints there can be, and where a joint's second body is the world: in terms of what the program holds at hand.
-use Rattle.std.proofs.Common.{◌≡◌, ℕ, ◌+◌, ◌*◌, ◌%◌, ◌≤◌, true, false, eqb, sym, ◌∙◌, arith, eq-eqb, ne_eqb}
+use Rattle.std.proofs.Common.{◌≡◌, ℕ, ◌+◌, ◌*◌, ◌%◌, ◌≤◌, arith, eq-eqb, ne_eqb}
 use Rattle.model.specs.Store.{world}
 use Rattle.seeded.specs.Draws.{draw}
 use Rattle.seeded.specs.Seeded.{bodies_of, joints_of, first_of, second_of}

@@ -1,6 +1,6 @@
 -- For four seeds what is drawn first, as one table: the first six draws; the numbers of bodies and joints; joint 0's masks and bodies; the settings; what the rows read of body 0; and joint 0's first
 -- motor, whose fields are named here. The theorem is that every case of the table holds (proofs/Cases.antt).
-use Rattle.std.specs.Prelude.{◌≡◌, ℕ, List, [], ◌∷◌, map, Float}
+use Rattle.std.specs.Prelude.{◌≡◌, ℕ, List, [], ◌∷◌, map}
 use Rattle.floats.specs.Operators.{bits}
 use Rattle.floats.specs.Constants.{one}
 use Rattle.rows.specs.declared.integration_parameters.IntegrationParameters.{IntegrationParameters}

@@ -1,8 +1,7 @@
 -- Document 02, R-11: the model that a seed draws. Draws are taken by number, and lists are given by place, so that each word and each number of the model is one line.
-use Rattle.std.specs.Prelude.{ℕ, zero, suc, ◌+◌, ◌-◌, ◌*◌, ◌/◌, ◌%◌, Bool, false, cond, ◌||◌, List, [], ◌∷◌, ◌==◌, nat_lt, Float}
+use Rattle.std.specs.Prelude.{ℕ, zero, suc, ◌+◌, ◌-◌, ◌*◌, ◌/◌, ◌%◌, false, cond, ◌||◌, List, [], ◌∷◌, ◌==◌, nat_lt, Float}
 use Rattle.floats.specs.Operators.{bits}
 use Rattle.floats.specs.Constants.{one}
-use Rattle.rows.specs.declared.integration_parameters.IntegrationParameters.{IntegrationParameters}
 use Rattle.multibody.specs.Model.{Model}
 use Rattle.model.specs.Layout.{body_width, words_width, numbers_width}
 use Rattle.model.specs.Store.{world}

@@ -7,12 +7,10 @@ use Rattle.rows.specs.declared.generic_joint.Masks.{Masks}
 use Rattle.rows.specs.declared.integration_parameters.IntegrationParameters.{IntegrationParameters}
 use Rattle.rows.specs.declared.joint_constraint_builder.Warmstart.{Warmstart}
 use Rattle.rows.specs.declared.joint_constraint_builder.Warmstart.TheVariants.{Cold, Warm}
-use Rattle.rows.specs.declared.row_ids.RowId.{RowId}
 use Rattle.rows.specs.declared.joint_velocity_constraint.WritebackId.{WritebackId}
 use Rattle.rows.specs.declared.joint_velocity_constraint.WritebackId.TheVariants.{Dof, Limit, Motor}
 use Rattle.spatial_rows.specs.Finalize.{finalize_groups}
 use Rattle.spatial_rows.specs.RowIds.{row_ids_array}
-use Rattle.spatial_rows.specs.declared.row_ids.RowIds.{RowIds}
 use Rattle.spatial_rows.specs.declared.joint_velocity_constraint.Rows.{Rows}
 use Rattle.spatial_rows.specs.declared.joint_velocity_constraint.Solved.{Solved}
 use Rattle.spatial_comparison.specs.declared.joint.Stepped.{Stepped}

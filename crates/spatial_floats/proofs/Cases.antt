@@ -4,7 +4,7 @@ use lib.Ieee.{Float, of_bits, add, sub, mul, neg}
 use Rattle.floats.specs.Operators.{bits}
 use Rattle.floats.specs.Constants.{half, one, two}
 use Rattle.floats.specs.Sign.{sign_bit}
-use Rattle.spatial_floats.specs.Vector.{mul_of, gdot_of}
+use Rattle.spatial_floats.specs.Vector.{mul_of}
 use Rattle.spatial_floats.specs.Matrix.{scaled_of, gcross_matrix_of, transpose_of}
 use Rattle.spatial_floats.specs.Rotation.{product_of, inverse_of, dot_of, pure_of, xyz_of, sandwich_of, rotate_of, to_mat_of, diff_conj12_of, diff_conj12_tr_of}
 use Rattle.spatial_floats.specs.Sign.{sign_of}

@@ -1,5 +1,5 @@
 -- The masks that a spatial joint is read with. Where rules 3 and 17 hold they are the joint's own (`masks-as-they-are`); restricting them once more leaves them as they are, of any words (`row_masks_at-spatial`).
-use Prim.Native.Nat.{ℕ, ◌≤◌, ◌<◌}
+use Prim.Native.Nat.{ℕ, ◌≤◌}
 use mathlib.Core.Path.{◌≡◌, refl}
 use mathlib.Core.Bool.{Bool, true, false, cond, ◌&&◌}
 use mathlib.Core.List.{List}

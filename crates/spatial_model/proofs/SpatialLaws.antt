@@ -1,7 +1,7 @@
 -- The spatial model has the laws of a multibody system (`spatial-laws`), and so demand 1 (`spatial-refused-exactly`) and demand 3 (`spatial-two-studies`).
 use Prim.Native.Nat.{ℕ, zero, suc, ◌≤◌}
 use mathlib.Core.Path.{◌≡◌, refl, sym, ap, ◌∙◌}
-use mathlib.Core.Bool.{true, false, true≢false}
+use mathlib.Core.Bool.{false, true≢false}
 use mathlib.Core.List.{List}
 use native.Mathlib.Omega.{arith}
 use borrow.Author.Tests.{lt-ltb}

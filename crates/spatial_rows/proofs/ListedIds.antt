@@ -1,5 +1,5 @@
 -- The loop of `row_ids` in space, as the crate rows has it for any number of slots: before the first turn (`listed_start`), and the array that is returned (`listed-array`). Assumes nothing.
-use Prim.Native.Nat.{ℕ, ◌≤◌}
+use Prim.Native.Nat.{ℕ}
 use native.Mathlib.Omega.{arith}
 use mathlib.Core.Path.{◌≡◌, refl}
 use mathlib.Core.List.{List, []}

@@ -8,7 +8,7 @@ use mathlib.Core.Bool.{Bool, true, false, not, ◌&&◌}
 use mathlib.Core.List.Memᴰ
 use mathlib.Core.List.{List, [], ◌∷◌, map, map-append, Memᴰ}
 use lib.Ieee.{Float}
-use Rattle.rows.specs.RowIds.{is_locked, is_limit, is_coupled, keep, in_order, first_coupled, group_one, group_two, row_ids}
+use Rattle.rows.specs.RowIds.{is_locked, is_limit, is_coupled, keep, in_order, first_coupled, group_one, group_two, lock_ids, limit_ids, row_ids}
 use Rattle.rows.specs.declared.generic_joint.Masks.{Masks}
 use Rattle.rows.specs.declared.integration_parameters.IntegrationParameters.{IntegrationParameters}
 use Rattle.rows.specs.declared.joint_constraint_builder.Warmstart.{Warmstart}
@@ -76,7 +76,15 @@ module _ (x y : RowContext) (s : SameShared x y) (e : (i : ℕ) → limits_at x.
       let d : List ℕ = keep (is_locked k) (in_order nl na) in
       let u : List ℕ = keep (λ i. is_limit k i && not (is_coupled k i)) (in_order nl na) in
       let c : List ℕ = keep (is_limit k) (first_coupled nl k) in
-      rw (map-append, map-append, map-append, map-append, locks d, limits u, limits c)
+      rw (
+        map-append (row_of x) (lock_ids nl na k) (limit_ids nl na k),
+        map-append (row_of y) (lock_ids nl na k) (limit_ids nl na k),
+        map-append (row_of x) (map Limit u) (map Limit c),
+        map-append (row_of y) (map Limit u) (map Limit c),
+        locks d,
+        limits u,
+        limits c,
+      )
 
 -- ---- the rows of two joints that agree on what they name
 

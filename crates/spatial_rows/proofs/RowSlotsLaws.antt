@@ -1,15 +1,15 @@
 -- The twelve slots of a joint in space: their ids are `row_ids 3 3` of its masks (`slot-ids`), as many as bits are set (`slots-count`), and those of the three lowest are its motors
 -- (`motors-are`). Assumes nothing.
-use Prim.Native.Nat.{ℕ, zero, suc, ◌+◌, ◌-◌, ◌*◌, ◌/◌, ◌%◌, ◌^◌, ◌<◌}
+use Prim.Native.Nat.{ℕ, ◌-◌, ◌/◌, ◌%◌, ◌^◌, ◌<◌}
 use native.Mathlib.Omega.{arith}
 use mathlib.Core.Path.{◌≡◌, refl, ap, ap₂, sym, ◌∙◌}
-use mathlib.Core.Bool.{Bool, true, false, not, cond, ◌&&◌, ◌||◌}
+use mathlib.Core.Bool.{Bool, true, false, not, cond, ◌&&◌}
 use mathlib.Core.List.{List, [], ◌∷◌, ◌++◌, map, append_assoc, append-nil}
 use lib.Bits.{bit_and}
 use lib.Count.{ones}
 use lib.Dec.{T, eqb, eqb→eq}
 use lib.ListN.{length, take, length-map}
-use Rattle.rows.specs.RowIds.{has_axis, is_locked, is_motor, is_limit, is_coupled, keep, some, group_one, limit_ids, row_ids, in_order}
+use Rattle.rows.specs.RowIds.{has_axis, is_locked, is_motor, is_limit, keep, group_one, limit_ids, row_ids, in_order}
 use Rattle.rows.specs.RowSlots.{bits_of}
 use Rattle.rows.specs.declared.generic_joint.Masks.{Masks}
 use Rattle.rows.specs.declared.joint_velocity_constraint.WritebackId.{WritebackId}

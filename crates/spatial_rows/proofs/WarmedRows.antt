@@ -1,6 +1,6 @@
 -- The rows that the builder's `update` makes in space, as the crate rows has it of any kind of row: what its loop builds (`building`), before the first turn (`start-start`), and what the
 -- code returns (`started-rows`). Assumes nothing.
-use Prim.Native.Nat.{ℕ, ◌≤◌}
+use Prim.Native.Nat.{ℕ}
 use native.Mathlib.Omega.{arith}
 use mathlib.Core.Path.{◌≡◌, refl, ap, sym, ◌∙◌}
 use mathlib.Core.List.{List, ◌++◌, map}

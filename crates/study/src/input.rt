@@ -1,4 +1,4 @@
-// Files read to their end. Also how a file is opened by its name, and the program's arguments.
+// Files, opened by name and read to their end; the program's arguments.
 ghost use Rattle.std.specs.Prelude.{◌≡◌, ◌≤◌, IfOk, length, take};
 
 use crate::out::{Console, EINVAL, ENAMETOOLONG, fail};

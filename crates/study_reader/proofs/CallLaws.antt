@@ -12,11 +12,11 @@ use Rattle.floats.specs.declared.rotation_ops.Rotation.{Rotation}
 use Rattle.decimals.specs.declared.number.Reading.{Reading}
 use Rattle.decimals.specs.declared.number.Reading.TheVariants.{Number, TooManyDigits, NotANumber}
 use Rattle.texts.specs.Ascii.{ascii}
-use Rattle.study_reader.specs.Words.{next_word, is_empty, is_word, whole_of}
+use Rattle.study_reader.specs.Words.{next_word, is_empty, is_word}
 use Rattle.study_reader.specs.Numbers.{number_in, number_fault, value_of}
 use Rattle.study_reader.specs.Names.{ABSENT}
 use Rattle.study_reader.specs.Keywords.{call_keyword}
-use Rattle.study_reader.specs.Calls.{bare_call, wrong, with_word, with_number, with_pose, with_rotation, with_warm, first, second, of_number, of_whole, of_named, read_whole, rotation_of, read_rotation, pose_of, read_pose, read_substep, build_of, read_sweeps, frame_of, mask_step, mask_steps, read_most, settle_of, arguments, read_call}
+use Rattle.study_reader.specs.Calls.{bare_call, wrong, with_word, with_number, with_pose, with_rotation, with_warm, first, second, of_number, of_whole, of_named, rotation_of, read_rotation, pose_of, read_substep, build_of, read_sweeps, frame_of, mask_step, mask_steps, read_most, settle_of, arguments, read_call}
 use Rattle.study_reader.specs.declared.words.Word.{Word}
 use Rattle.study_reader.specs.declared.words.Whole.{Whole}
 use Rattle.study_reader.specs.declared.calls.Line.{Line}

@@ -1,7 +1,7 @@
 -- Texts and what they read as, computed over the definitions.
 use mathlib.Core.Path.{◌≡◌, refl}
-use mathlib.Core.Bool.{true, false}
-use mathlib.Core.List.{List, [], ◌∷◌}
+use mathlib.Core.Bool.{true}
+use mathlib.Core.List.{[], ◌∷◌}
 use Prim.Native.Nat.{ℕ}
 use Rattle.texts.specs.Digits.{is_digit}
 use Rattle.motor_table.specs.WholeNumber.{digits_after}

@@ -1,7 +1,7 @@
 -- The laws of specs/LineLaws.antt: what lines of masks, of an angle or a mass, and of `place` read as.
 use Prim.Native.Nat.{ℕ, zero, suc, ◌+◌, ◌-◌, ◌≤◌, ◌<◌}
 use mathlib.Core.Path.{◌≡◌, refl, sym, ap, ◌∙◌}
-use mathlib.Core.Bool.{Bool, true, false, cond}
+use mathlib.Core.Bool.{true, false, cond}
 use mathlib.Core.List.{List, [], ◌∷◌, ◌++◌, map}
 use native.Mathlib.Omega.{arith}
 use borrow.Author.Tests.{eq-eqb, ne_eqb, lt-leb, leb-true}
@@ -14,16 +14,16 @@ use Rattle.texts.specs.Ascii.{ascii}
 use Rattle.motor_table.specs.WholeNumber.{digits_after}
 use Rattle.floats.specs.SinCos.{rotation_from_angle_of}
 use Rattle.decimals.specs.Words.{reading_of}
-use Rattle.decimals.specs.declared.number.Reading.TheVariants.{Number, NotANumber}
-use Rattle.model.specs.Layout.{masks_place, center_choice_place, pose_place, frame1_place, frame2_place}
+use Rattle.decimals.specs.declared.number.Reading.TheVariants.{Number}
+use Rattle.model.specs.Layout.{masks_place, center_choice_place}
 use Rattle.study_reader.specs.Words.{same_bytes, next_word, is_empty, bytes_of, next_line, whole_number, whole_up_to}
 use Rattle.study_reader.specs.Numbers.{number_in, number_fault, value_of}
 use Rattle.study_reader.specs.Storage.{body_base, joint_base, words_base}
-use Rattle.study_reader.specs.Names.{ABSENT, find_body}
+use Rattle.study_reader.specs.Names.{ABSENT}
 use Rattle.study_reader.specs.Keywords.{meaning, axis_words, item_words, body_words, mask_words, joint_words, call_words, read_words, body_item, joint_item, calls_item, mass_keyword, inertia_keyword, inverse_mass_keyword, angle_keyword, frame1_angle_keyword, frame2_angle_keyword, lock_keyword, limit_keyword, motor_keyword, couple_keyword, motor_model_keyword, settings_keyword, place_keyword}
 use Rattle.study_reader.specs.Draft.{Draft, draft, reached, item_base, Default, default, puts}
 use Rattle.study_reader.specs.Calls.{bare_call, with_word, with_number, with_pose, with_rotation, bit_of, of_number, of_named, rotation_of, pose_of, place_of, arguments, read_call}
-use Rattle.study_reader.specs.Items.{or_fault, whole, no_center, given_by, given_line, axes_from, named_mask, mask_of, mask_line, word_line, kind_fault, kind_of, item_line, call_line, line_of}
+use Rattle.study_reader.specs.Items.{or_fault, whole, no_center, given_by, given_line, axes_from, named_mask, mask_line, word_line, kind_fault, kind_of, item_line, call_line, line_of}
 use Rattle.study_reader.specs.Study.{second, numbers_with, center_with, word_with, applied, line_read}
 use Rattle.study_reader.specs.LineLaws.{HasWords, Next, Leaves, Axis, x, y, angle, axis_name, axis_mask, union, GivesMask, MaskLines, GivesNumbers, NumberLines, Placed, NamesBody, PlaceLines}
 use Rattle.study_reader.specs.declared.words.Word.{Word}

@@ -1,5 +1,5 @@
 -- Places in the text: where a word starts and ends, and what the line of a call names, is in the text or at its end.
-use Prim.Native.Nat.{ℕ, zero, suc, ◌+◌, ◌-◌, ◌≤◌, ◌<◌}
+use Prim.Native.Nat.{ℕ, zero, suc, ◌≤◌, ◌<◌}
 use mathlib.Core.Path.{◌≡◌, refl, sym}
 use mathlib.Core.Bool.{Bool, true, false, cond, not}
 use mathlib.Core.List.{List, [], ◌∷◌}
@@ -11,12 +11,12 @@ use lib.ListN.{length, drop, get_or, length-drop}
 use Rattle.decimals.specs.declared.number.Reading.{Reading}
 use Rattle.decimals.specs.declared.number.Reading.TheVariants.{Number, TooManyDigits, NotANumber}
 use Rattle.texts.specs.Ascii.{ascii, LF}
-use Rattle.study_reader.specs.Words.{is_blank, ends_word, run_of, line_count, after_blanks, next_word, is_empty, QUOTE, is_quote, next_line, is_word, whole_of}
+use Rattle.study_reader.specs.Words.{is_blank, ends_word, run_of, line_count, after_blanks, next_word, is_empty, QUOTE, is_quote, next_line, is_word}
 use Rattle.study_reader.specs.Numbers.{number_in}
-use Rattle.study_reader.specs.Names.{ABSENT, find_body, find_joint}
+use Rattle.study_reader.specs.Names.{ABSENT}
 use Rattle.study_reader.specs.Faults.{fault_file_name, fault_nested, fault_no_repeat}
 use Rattle.study_reader.specs.Keywords.{read_rows_keyword, read_velocity_keyword, set_targets_keyword, repeat_keyword, end_keyword, table_keyword, masks_keyword, frame_keyword, settle_keyword, place_keyword, build_keyword, sweep_keyword}
-use Rattle.study_reader.specs.Calls.{no_mask, bare_call, wrong, with_word, with_number, with_place, with_pose, with_rotation, with_warm, with_sweeps, first, second, of_number, of_whole, of_named, read_body, read_substep, rotation_of, pose_of, place_of, substep_of, build_of, read_substeps, substeps_of, after_rounds, read_sweeps, sweeps_of, frame_of, csv_of, read_most, most_of, settle_of, quoted_of, file_of, read_repeat, read_end, with_mask, with_axes, mask_named, bits_of, of_bits, mask_word, mask_step, mask_steps, other_arguments, arguments, read_call}
+use Rattle.study_reader.specs.Calls.{no_mask, bare_call, wrong, with_place, with_pose, with_warm, with_sweeps, first, of_number, of_whole, of_named, read_substep, rotation_of, pose_of, place_of, substep_of, build_of, read_substeps, substeps_of, after_rounds, read_sweeps, sweeps_of, frame_of, csv_of, read_most, most_of, settle_of, quoted_of, file_of, read_repeat, read_end, mask_named, bits_of, of_bits, mask_word, mask_step, mask_steps, other_arguments, arguments, read_call}
 use Rattle.study_reader.specs.declared.words.Word.{Word}
 use Rattle.study_reader.specs.declared.words.Whole.{Whole}
 use Rattle.study_reader.specs.declared.calls.Line.{Line}

@@ -9,7 +9,7 @@ use borrow.Author.Tests.{eq-eqb, ne_eqb, lt-leb, eqb-true, eqb-false, ltb-true, 
 use lib.Bits.{bit_or}
 use lib.Dec.{eqb, ltb, leb}
 use lib.Ieee.{Float}
-use lib.ListN.{length, get_or, set, length-set}
+use lib.ListN.{length, set, length-set}
 use lib.Seq.{get_or-set_same, get_or-set_other}
 use Rattle.texts.specs.Ascii.{ascii}
 use Rattle.study_reader.specs.Words.{next_word, is_empty, is_word, whole_of}
@@ -19,10 +19,10 @@ use Rattle.study_reader.specs.Storage.{most_items, joint_base}
 use Rattle.study_reader.specs.Names.{ABSENT, find_end}
 use Rattle.study_reader.specs.Keywords.{axis_of, field_of, no_item, calls_item, item_keyword, call_keyword, lock_keyword, motor_model_keyword, enabled_keyword, center_keyword, settings_keyword, body_keyword, repeat_keyword}
 use Rattle.study_reader.specs.Calls.{bit_of, read_call}
-use Rattle.study_reader.specs.Draft.{Draft, draft, start, faulty, item_base, Default, puts, settings_defaults}
+use Rattle.study_reader.specs.Draft.{Draft, draft, start, faulty, item_base, puts, settings_defaults}
 use Rattle.study_reader.specs.Items.{by_pair, no_center, name_fault, kind_fault, kind_of, or_fault, whole, second_number, numbers_from, given_line, field_numbers, axes_from, named_mask, mask_of, mask_line, model_line, word_line, body_line, ends_line, joint_line, field_line, open_line, item_line, call_line, line_of}
 use Rattle.study_reader.specs.Study.{second, numbers_with, open_body, open_joint, applied, line_read, lines_read, ended, is_left_out, center_joint, center_joints, read_study}
-use Rattle.study_reader.specs.Laws.{BlankLine, FirstFault, WholeText, Inside, AllInside, Defaults, default_at, Replaced}
+use Rattle.study_reader.specs.Laws.{BlankLine, FirstFault, WholeText, AllInside, Defaults, default_at, Replaced}
 use Rattle.study_reader.specs.declared.words.Word.{Word}
 use Rattle.study_reader.specs.declared.words.Whole.{Whole}
 use Rattle.study_reader.specs.declared.words.Whole.TheVariants.{Number, No}

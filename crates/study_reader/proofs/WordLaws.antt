@@ -2,19 +2,19 @@
 use mathlib.Core.Path.{◌≡◌, refl, sym, ap, ◌∙◌}
 use mathlib.Core.Bool.{Bool, true, false, cond, not, ◌&&◌, ◌||◌}
 use mathlib.Core.List.{List, [], ◌∷◌}
-use mathlib.Core.Option.{Option, none, some}
+use mathlib.Core.Option.{none}
 use Prim.Native.Nat.{ℕ, zero, suc, ◌+◌, ◌-◌, ◌*◌, ◌≤◌, ◌<◌}
 use native.Mathlib.Nat.{sub-zero}
 use native.Mathlib.Numerals.{add-one}
 use native.Mathlib.Omega.{arith}
-use borrow.Author.Tests.{eq-eqb, ne_eqb, le-leb, lt-leb, not-false}
+use borrow.Author.Tests.{eq-eqb, ne_eqb, le-leb, lt-leb}
 use lib.Dec.{eqb, leb}
 use lib.ListN.{length, drop, take, get_or, drop_of_length-le, length-drop}
 use lib.Seq.{drop-cons, take_all, take-nil}
 use Rattle.texts.specs.Digits.{is_digit}
 use Rattle.motor_table.specs.WholeNumber.{digits_after}
 use Rattle.texts.specs.Ascii.{LF}
-use Rattle.study_reader.specs.Words.{has, same_bytes, is_blank, ends_word, run_of, line_count, bytes_of, feeds_in, column_after, whole_up_to, whole_number}
+use Rattle.study_reader.specs.Words.{has, same_bytes, run_of, line_count, bytes_of, feeds_in, column_after, whole_up_to, whole_number}
 use Rattle.study_reader.specs.declared.words.Word.{Word}
 use Rattle.study_reader.specs.declared.words.Whole.{Whole}
 

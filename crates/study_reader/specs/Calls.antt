@@ -3,7 +3,6 @@ use Rattle.std.specs.Prelude.{Bool, true, false, cond, List, ℕ, zero, suc, ◌
 use Rattle.std.specs.Int.Bits.{bit_or}
 use Rattle.floats.specs.Operators.{bits}
 use Rattle.floats.specs.SinCos.{rotation_from_angle_of}
-use Rattle.floats.specs.declared.rotation_ops.Rotation.{Rotation}
 use Rattle.decimals.specs.declared.number.Reading.{Reading}
 use Rattle.decimals.specs.declared.number.Reading.TheVariants.{Number, TooManyDigits, NotANumber}
 use Rattle.texts.specs.Ascii.{ascii}

@@ -1,5 +1,5 @@
 -- What an item is of which no line says anything: the Rust's defaults, by the Rust's names, as a model's records decode them. Proved in proofs/DefaultLaws.antt.
-use Rattle.std.specs.Prelude.{ℕ, ◌≡◌, Bool, true, false, List, [], ◌∷◌, Float}
+use Rattle.std.specs.Prelude.{ℕ, ◌≡◌, false, [], ◌∷◌, Float}
 use Rattle.std.specs.Float.{binary32}
 use Rattle.std.specs.Float.Ieee.{neg, round}
 use Rattle.floats.specs.Constants.{max_float}

@@ -3,7 +3,7 @@ use Rattle.std.specs.Prelude.{Bool, true, false, cond, List, [], ◌∷◌, ◌+
 use Rattle.floats.specs.Operators.{bits}
 use Rattle.model.specs.Layout.{pose_place, frame1_place, frame2_place, limits_place, limits_width, motors_place, motor_width, softness_place, center_place}
 use Rattle.study_reader.specs.Storage.{dt_place, length_unit_place, max_corrective_velocity_place, body_base, joint_base}
-use Rattle.study_reader.specs.Keywords.{no_item, settings_item, body_item, joint_item, calls_item, repeat_keyword, end_keyword}
+use Rattle.study_reader.specs.Keywords.{no_item, body_item, joint_item, calls_item, repeat_keyword, end_keyword}
 use Rattle.study_reader.specs.declared.draft.State.{State}
 
 -- The state of the reading, with the storage as Storage.antt lays it out.

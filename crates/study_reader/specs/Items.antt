@@ -1,6 +1,6 @@
 -- What one line of a study says (docs/STUDY.md): a number or a word of the item that is open, an item, a call; or its first fault. A line with a fault says
 -- nothing else.
-use Rattle.std.specs.Prelude.{Bool, true, false, cond, ◌||◌, List, [], ◌∷◌, ℕ, zero, suc, ◌+◌, ◌*◌, ◌-◌, eqb, ltb, leb, Float}
+use Rattle.std.specs.Prelude.{cond, List, ℕ, zero, suc, ◌+◌, ◌*◌, ◌-◌, eqb, ltb, leb, Float}
 use Rattle.std.specs.Int.Bits.{bit_or}
 use Rattle.floats.specs.Operators.{bits}
 use Rattle.floats.specs.Utils.{inv_of}

@@ -4,7 +4,6 @@ use Rattle.std.specs.Prelude.{ℕ, ◌+◌, ◌≤◌, ◌<◌, ◌≡◌, true,
 use Rattle.std.specs.Int.Bits.{bit_or}
 use Rattle.floats.specs.Utils.{inv_of}
 use Rattle.floats.specs.SinCos.{rotation_from_angle_of}
-use Rattle.floats.specs.declared.rotation_ops.Rotation.{Rotation}
 use Rattle.decimals.specs.Words.{reading_of}
 use Rattle.decimals.specs.declared.number.Reading.TheVariants.{Number}
 use Rattle.texts.specs.Ascii.{ascii}

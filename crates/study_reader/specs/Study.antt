@@ -1,6 +1,6 @@
 -- The study that a text describes: what each line says is written, line after line, up to the first fault; a `repeat` that is open at the end is a fault; and a centre
 -- that is left out is the middle of the angular limit.
-use Rattle.std.specs.Prelude.{Bool, true, false, cond, not, ◌&&◌, List, ℕ, zero, suc, ◌+◌, ◌*◌, eqb, ltb, leb, Float, length, get_or, set, drop, replicate}
+use Rattle.std.specs.Prelude.{Bool, cond, not, ◌&&◌, List, ℕ, zero, suc, ◌+◌, ◌*◌, eqb, ltb, leb, Float, length, get_or, set, drop, replicate}
 use Rattle.std.specs.Float.{nan}
 use Rattle.std.specs.Float.Ieee.{lt}
 use Rattle.floats.specs.Operators.{bits, ◌⊕◌, ◌⊖◌, ◌⊗◌}

@@ -1,8 +1,8 @@
 -- One call of a study, by the contract of the model's call or of the frame.
-use Prim.Native.Nat.{ℕ, zero, suc, ◌+◌, ◌-◌, ◌≤◌, ◌<◌}
+use Prim.Native.Nat.{ℕ, suc, ◌+◌, ◌-◌, ◌≤◌, ◌<◌}
 use mathlib.Core.Path.{◌≡◌, refl, sym, ap, ◌∙◌}
 use mathlib.Core.Logic.{◌≢◌}
-use mathlib.Core.Bool.{Bool, true, false}
+use mathlib.Core.Bool.{Bool, true}
 use mathlib.Core.List.{List}
 use native.Mathlib.Omega.{arith}
 use borrow.Author.Tests.{eq-eqb, ne_eqb}
@@ -22,7 +22,7 @@ use Rattle.model.specs.declared.calls.VelocityAnswer.{VelocityAnswer}
 use Rattle.frames.specs.Studies.{MovingCall, run_moving}
 use Rattle.study_run.specs.Motors.{kept}
 use Rattle.study_run.specs.declared.motors.Motors.{Motors}
-use Rattle.study_run.specs.Study.{Study, study, Ran, ran, reply_of, rows_reply, velocity_reply, refusal_in}
+use Rattle.study_run.specs.Study.{Study, study, ran, reply_of, rows_reply, velocity_reply, refusal_in}
 use Rattle.study_run.specs.ModelCalls.{motors_after, run_model_call}
 use Rattle.study_run.specs.Runs.{first_refused, table_reply}
 use Rattle.study_run.specs.declared.runs.Reply.{Reply}

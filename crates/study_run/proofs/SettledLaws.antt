@@ -1,6 +1,6 @@
 -- Whether rows are settled, as the loops over rows, joints and rounds find it.
-use Prim.Native.Nat.{ℕ, zero, suc, ◌+◌, ◌-◌, ◌≤◌, ◌<◌}
-use mathlib.Core.Path.{◌≡◌, refl, sym, ap, ◌∙◌}
+use Prim.Native.Nat.{ℕ, suc, ◌+◌, ◌-◌, ◌≤◌, ◌<◌}
+use mathlib.Core.Path.{◌≡◌}
 use mathlib.Core.Bool.{Bool, true, false}
 use mathlib.Core.List.{List}
 use native.Mathlib.Numerals.{add-one}
@@ -11,16 +11,16 @@ use lib.Seq.{drop-cons, get_or-take}
 use Rattle.rows.specs.Reaction.{rows_in}
 use Rattle.rows.specs.declared.joint_velocity_constraint.JointConstraint.{JointConstraint}
 use Rattle.multibody.specs.Model.{Model}
-use Rattle.multibody.specs.Calls.{Outcome, outcome, run}
+use Rattle.multibody.specs.Calls.{outcome, run}
 use Rattle.multibody.specs.Calls.Call.{sweep, read_rows}
-use Rattle.model.specs.Planar.{plane, planar}
+use Rattle.model.specs.Planar.{planar}
 use Rattle.model.specs.Answers.{rows_answer}
 use Rattle.model.specs.declared.calls.Plain.{Plain}
 use Rattle.model.specs.declared.calls.RowsAnswer.{RowsAnswer}
 use Rattle.frames.specs.Studies.{plain}
 use Rattle.study_run.specs.Study.{Study}
 use Rattle.study_run.specs.ModelCalls.{run_model_call}
-use Rattle.study_run.specs.Settled.{row_settled, rows_settled, answer_settled, joint_settled, joints_settled, Rounds, rounds, rounds_from}
+use Rattle.study_run.specs.Settled.{row_settled, rows_settled, answer_settled, joint_settled, joints_settled, rounds, rounds_from}
 
 -- ---- the rows of a joint
 

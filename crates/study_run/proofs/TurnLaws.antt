@@ -13,7 +13,7 @@ use Rattle.study_run.specs.Acts.{act_at}
 use Rattle.study_run.specs.Unrolled.{acts_from, acts_on, times, first, others, joined, levels, unrolled, closed}
 use Rattle.study_run.specs.Study.{Study, Ran, is_refused}
 use Rattle.study_run.specs.Runs.{run_call, with_table, runs}
-use Rattle.study_run.specs.Places.{place, moved, repeating, is_end, skip_from, after_repeat, after_end, place_after}
+use Rattle.study_run.specs.Places.{place, is_end, skip_from, after_repeat, after_end, place_after}
 use Rattle.study_run.specs.Turns.{Turn, turn_as, acted_on, turn_of, said, ended, turns, ends_within}
 use Rattle.study_run.specs.Laws.{TurnsRun, Ends, EveryStudyEnds}
 use Rattle.study_run.specs.declared.acts.StudyCall.{StudyCall}

@@ -1,12 +1,11 @@
 -- What a line of calls asks for. `Act` and `StudyCall` are the program's enums: a call, `repeat` with its turns, `end`, or none of them.
-use Rattle.std.specs.Prelude.{Bool, true, false, cond, List, ℕ, eqb}
+use Rattle.std.specs.Prelude.{cond, List, ℕ, eqb}
 use Rattle.floats.specs.declared.pose.Pose.{Pose}
 use Rattle.rows.specs.declared.joint_constraint_builder.Warmstart.{Warmstart}
 use Rattle.study_reader.specs.Words.{next_word, is_empty}
 use Rattle.study_reader.specs.Keywords.{load_keyword, place_keyword, build_keyword, warm_start_keyword, sweep_keyword, remove_bias_keyword, write_back_keyword, read_rows_keyword, read_velocity_keyword, set_targets_keyword, repeat_keyword, end_keyword, table_keyword, settle_keyword, masks_keyword, frame_keyword, call_keyword}
 use Rattle.study_reader.specs.Calls.{read_call}
 use Rattle.study_reader.specs.declared.calls.Line.{Line}
-use Rattle.study_run.specs.declared.acts.StudyCall.{StudyCall}
 use Rattle.study_run.specs.declared.acts.StudyCall.TheVariants.{Load, Place, Build, WarmStart, Sweep, RemoveBias, WriteBack, SetMasks, Frame, Settle, SetTargets, ReadRows, ReadVelocity, Table}
 use Rattle.study_run.specs.declared.acts.Act.{Act}
 use Rattle.study_run.specs.declared.acts.Act.TheVariants.{Nothing, Repeat, End, Call}

@@ -1,9 +1,7 @@
 -- A call of the model or a frame, on a study.
-use Rattle.std.specs.Prelude.{ℕ, List}
-use Rattle.rows.specs.declared.joint_constraint_builder.Warmstart.{Warmstart}
-use Rattle.multibody.specs.Calls.{Call, Answer}
+use Rattle.multibody.specs.Calls.{Answer}
 use Rattle.multibody.specs.Calls.Call.{load, place, build, warm_start, sweep, remove_bias, write_back, read_rows, read_velocity, set_masks, further}
-use Rattle.model.specs.Planar.{plane, planar}
+use Rattle.model.specs.Planar.{plane}
 use Rattle.model.specs.Answers.{sweep_answer_of}
 use Rattle.frames.specs.Studies.{MovingCall, plain, frame, run_moving}
 use Rattle.study_run.specs.Motors.{forgotten, kept}

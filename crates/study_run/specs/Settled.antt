@@ -1,5 +1,5 @@
 -- Sweeps, round by round, until the rows are settled: no row's residual, what one more step would change of its impulse, is above a tolerance in size.
-use Rattle.std.specs.Prelude.{ℕ, zero, suc, ◌+◌, Bool, true, false, cond, ◌&&◌, List, [], ◌∷◌, Float}
+use Rattle.std.specs.Prelude.{ℕ, zero, suc, ◌+◌, Bool, true, cond, ◌&&◌, List, [], ◌∷◌, Float}
 use Rattle.std.specs.Float.Ieee.{lt, le, neg}
 use Rattle.floats.specs.Operators.{bits}
 use Rattle.rows.specs.declared.joint_velocity_constraint.JointConstraint.{JointConstraint}

@@ -5,7 +5,6 @@ use Rattle.multibody.specs.Calls.{Answer}
 use Rattle.multibody.specs.Calls.Answer.{granted, total, rows_read, velocity_read, swept, refused}
 use Rattle.model.specs.Planar.{plane}
 use Rattle.model.specs.Model.{model_of}
-use Rattle.model.specs.declared.calls.LoadAnswer.{LoadAnswer}
 use Rattle.model.specs.declared.header.Header.{Header}
 use Rattle.study_run.specs.declared.motors.Motors.{Motors}
 use Rattle.study_run.specs.declared.runs.Reply.{Reply}

@@ -12,7 +12,6 @@ use Rattle.rows.specs.declared.joint_velocity_constraint.RowContext.{RowContext}
 use Rattle.rows.specs.declared.joint_velocity_constraint.WritebackId.{WritebackId}
 use Rattle.rows.specs.declared.joint_velocity_constraint.WritebackId.TheVariants.{Dof, Limit, Motor}
 use Rattle.study_text.specs.Definitions.{Definition, lock_angular, lock_linear, limit_angular, limit_linear, limit_linear_coupled, motor_angular, motor_linear, motor_linear_coupled, definition_of}
-use Rattle.study_text.specs.Rules.{motor_rule, dof_rule, limit_rule}
 use Rattle.study_text.specs.Made.{made_by, Cited}
 use Rattle.study_text.specs.declared.rules.Rule.TheVariants.{Motor2, Motor0, Motor1, MotorF, Dof2, Dof0, Dof1, Limit2, Limit0, Limit1, LimitF}
 

@@ -1,7 +1,7 @@
 -- What the words of a line say.
 use mathlib.Core.Path.{◌≡◌, refl}
 use mathlib.Core.Bool.{Bool, true, false, cond}
-use lib.Ieee.{Float, eq}
+use lib.Ieee.{eq}
 use Rattle.study_text.specs.Says.{Indexed, Stands, Stood}
 use Rattle.study_text.specs.Says.Stands.{low, high, shut, inside}
 use Rattle.study_text.specs.declared.rules.Rule.TheVariants.{Motor2, Motor0, Motor1, MotorF, Dof2, Dof0, Dof1, Limit2, Limit0, Limit1, LimitF}

@@ -1,5 +1,5 @@
 -- The rule that a line cites is the one that its row was made by.
-use Rattle.std.specs.Prelude.{ℕ, ◌≡◌, List, ◌++◌, map}
+use Rattle.std.specs.Prelude.{◌≡◌, ◌++◌, map}
 use Rattle.rows.specs.RowIds.{group_one, group_two}
 use Rattle.rows.specs.Finalize.{finalize_of}
 use Rattle.rows.specs.Update.{update_of}

@@ -1,5 +1,5 @@
 -- What the words of a line say: theorems of proofs/SaysLaws.antt.
-use Rattle.std.specs.Prelude.{ℕ, ◌≡◌, true, false, List, [], ◌∷◌, Float, take, drop}
+use Rattle.std.specs.Prelude.{◌≡◌, true, false, [], ◌∷◌, Float, take, drop}
 use Rattle.std.specs.Float.Ieee.{eq}
 use Rattle.study_text.specs.Rules.{index_of}
 use Rattle.study_text.specs.Words.{bound_of}

@@ -135,7 +135,8 @@ puts-length base (d ∷ ds) l = puts-length base ds (set l (base + d.place) d.va
 pub puts-past : {m : Model} {top : ℕ} {numbers : List Float} {origins : List ℕ} (base : ℕ) (ds : List Default) → top ≤ base → NumbersAgree m top numbers origins → NumbersAgree m top (puts base ds numbers) origins
 unfolding puts
 puts-past base [] r h = h
-puts-past base (d ∷ ds) r h = puts-past base ds r (record { values = below-past h.values (base + d.place) d.value (omega arith); given = h.given })
+puts-past {numbers = numbers} base (d ∷ ds) r h =
+    puts-past {numbers = set numbers (base + d.place) d.value} base ds r (record { values = below-past h.values (base + d.place) d.value (omega arith); given = h.given })
 
 module _ {m : Model} {top : ℕ} {numbers : List Float} {origins : List ℕ} (h : NumbersAgree m top numbers origins) (st : State) (k : ℕ) (here : item_base st + k ≡ top) (x : Float) (ex : x ≡ model_number m top) (a : ℕ) (pa : 0 < a) where
   pub one-stored : (center : ℕ) → top < numbers_size → NumbersAgree m (top + 1) (numbers_with st (given1 k x a center) numbers) (origins_with st (given1 k x a center) origins)

@@ -1,6 +1,6 @@
 -- Texts as bytes. A text in quotes has a byte a character.
 use Rattle.std.specs.Prelude.{ℕ, List, [] as none, ◌∷◌ as ◌then◌}
-use Prim.Native.Char.{Char, code}
+use Prim.Native.Char.{code}
 use Prim.Native.String.{String, [], ◌∷◌}
 
 abbrev pub ascii : String → List ℕ

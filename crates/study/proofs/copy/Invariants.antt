@@ -1,5 +1,5 @@
 -- `copy` ends.
-use Rattle.std.proofs.Common.{◌-◌, ◌≡◌, ◌≤◌, length}
+use Rattle.std.proofs.Common.{◌≡◌, ◌-◌, ◌≤◌, length}
 use Rattle.study.proofs.copy.Given as goal
 
 abbrev pub invariant-loop-i : goal.invariant-loop-i

@@ -1,5 +1,5 @@
 -- `show` ends.
-use Rattle.std.proofs.Common.{◌-◌, ◌≡◌, length}
+use Rattle.std.proofs.Common.{◌≡◌, ◌-◌, length}
 use Rattle.study.proofs.place.show.Given as goal
 
 abbrev pub invariant-loop-i : goal.invariant-loop-i

@@ -1,5 +1,5 @@
 -- `underline` ends.
-use Rattle.std.proofs.Common.{◌-◌, ◌≡◌, length}
+use Rattle.std.proofs.Common.{◌≡◌, ◌-◌, length}
 use Rattle.study.proofs.place.underline.Given as goal
 
 abbrev pub invariant-loop-i : goal.invariant-loop-i

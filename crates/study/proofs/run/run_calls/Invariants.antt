@@ -1,5 +1,5 @@
 -- `run_calls` ends.
-use Rattle.std.proofs.Common.{◌-◌, ◌≡◌, length}
+use Rattle.std.proofs.Common.{◌≡◌, ◌-◌, length}
 use Rattle.study.proofs.run.run_calls.Given as goal
 
 abbrev pub invariant-loop-calls : goal.invariant-loop-calls

@@ -1,5 +1,5 @@
 -- `put_bytes` ends.
-use Rattle.std.proofs.Common.{◌-◌, ◌≡◌, length}
+use Rattle.std.proofs.Common.{◌≡◌, ◌-◌, length}
 use Rattle.study.proofs.targets.put_bytes.Given as goal
 
 abbrev pub invariant-loop-i : goal.invariant-loop-i

@@ -1,0 +1,5 @@
+-- `header` meets its contract, by what the flag is.
+use Rattle.capi.proofs.calls.header.Goals as goal
+
+pub returns : goal.returns
+returns c = cc

@@ -1,0 +1,8 @@
+-- `put_answer` meets its contract: the answer's kind decides the specification's.
+use Rattle.capi.proofs.SeedExportsLaws.{answer-told, settings-told}
+use Rattle.capi.proofs.seeds.put_answer.Goals as goal
+
+pub returns-in-Seeded : goal.returns-in-Seeded
+returns-in-Seeded c =
+    let e = c.in-Seeded.is in
+    record { value = answer-told e; settings_after = settings-told _ e c.put_three.ensures }

@@ -1,0 +1,10 @@
+-- `write_catalogue` meets its contract: a first run tells the length.
+use mathlib.Core.Path.{sym, ◌∙◌}
+use Rattle.texts.proofs.SinkLaws.{wrote-there, wrote_nothing}
+use Rattle.catalogue.proofs.text.write_catalogue.Goals as goal
+
+pub returns-then-has_room : goal.returns-then-has_room
+returns-then-has_room c = wrote-there c.put_catalogue-len.ensures _ (sym c.has_room.ensures ∙ c.if-has_room.true) c.put_catalogue.ensures
+
+pub returns : goal.returns
+returns c = wrote_nothing c.put_catalogue-len.ensures _ (sym c.has_room.ensures ∙ c.if-has_room.false) c.length_to.ensures

@@ -1,0 +1,12 @@
+-- `katydidzinc_angular_limit` meets its contract. The test decides the specification's; past it, what is written follows from what the callees ensure.
+use borrow.Author.Tests.{le-leb, lt-leb}
+use Rattle.comparison.specs.JointExports.{angular_limit}
+use Rattle.comparison.proofs.joint.katydidzinc_angular_limit.Goals as goal
+
+pub returns-then-out-lt3 : goal.returns-then-out-lt3
+unfolding angular_limit
+returns-then-out-lt3 c = simp (lt-leb _ _ c.if-out-lt3.true)
+
+pub returns : goal.returns
+unfolding angular_limit
+returns c = simp (le-leb _ _ c.if-out-lt3.false) (cc)

@@ -1,0 +1,16 @@
+-- `exponent_part` meets its contract, byte by byte.
+use mathlib.Core.Path.{◌∙◌}
+use Rattle.decimals.proofs.WordLaws.{letter, capital, no-letter, part_end}
+use Rattle.decimals.proofs.number.exponent_part.Goals as goal
+
+pub returns-then-b-eq101 : goal.returns-then-b-eq101
+returns-then-b-eq101 c = c.exponent_sign.ensures ∙ letter _ _ _ _ _ c.if-at-word.true c.if-b-eq101.true
+
+pub returns-then-b-eq69 : goal.returns-then-b-eq69
+returns-then-b-eq69 c = c.exponent_sign-then-b-eq69.ensures ∙ capital _ _ _ _ _ c.if-at-word.true c.if-b-eq101.false c.if-b-eq69.true
+
+pub returns-then-at-word : goal.returns-then-at-word
+returns-then-at-word c = no-letter _ _ _ _ _ c.if-at-word.true c.if-b-eq101.false c.if-b-eq69.false
+
+pub returns : goal.returns
+returns c = c.decimal.ensures ∙ part_end _ _ _ _ _ c.if-at-word.false

@@ -1,0 +1,5 @@
+-- `start` meets its contract.
+use Rattle.motor_table.proofs.record.start.Goals as goal
+
+pub returns : goal.returns
+returns c = simp (c.none-ended.ensures, c.empty-field.ensures)

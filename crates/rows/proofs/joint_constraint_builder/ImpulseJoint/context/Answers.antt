@@ -1,0 +1,16 @@
+-- `context` is put together from what its callees promise.
+use Rattle.rows.specs.Builder.{joint_context_of}
+use Rattle.rows.proofs.joint_constraint_builder.ImpulseJoint.context.Goals as goal
+
+pub returns : goal.returns
+unfolding joint_context_of
+returns c =
+    simp (
+      c.new.ensures,
+      c.solver_body-2.ensures,
+      c.solver_body.ensures,
+      c.mul-frame2.ensures,
+      c.mul-frame1.ensures,
+      c.new-ang_limit.ensures,
+      c.limits_at-limits.ensures,
+    )

@@ -1,0 +1,35 @@
+-- `seed` meets its contract, by the three kinds of ids. Past the last axis 0 / 0 is what the definition reads, a NaN; that there are three impulses
+-- is what owning `self` tells of its second field.
+use Prim.Native.Nat.{◌≤◌}
+use mathlib.Core.Path.{◌≡◌, refl, sym, ◌∙◌}
+use native.Mathlib.Omega.{arith}
+use lib.ListN.{length, get_or-eq_default}
+use lib.Ieee.{nan, binary32, of_bits, div}
+use Rattle.rows.specs.Builder.{seed_of}
+use Rattle.rows.proofs.joint_constraint_builder.ImpulseJoint.seed.Goals as goal
+
+-- past the last axis
+no_number : div binary32 (of_bits binary32 0) (of_bits binary32 0) ≡ nan
+unfolding div of_bits
+no_number = refl
+
+pub returns-then-axis-lt3 : goal.returns-then-axis-lt3
+unfolding seed_of
+returns-then-axis-lt3 c = simp c.in-Dof.is
+
+pub returns-else-axis-lt3 : goal.returns-else-axis-lt3
+unfolding seed_of
+returns-else-axis-lt3 c =
+    let a = c.args in
+    let i = c.in-Dof.axis in
+    let three = c.well_formed.0.1.1.1.0.1.0.1 in
+    let h : length a.self.impulses ≤ i = omega (arith, three) in
+    simp c.in-Dof.is (no_number ∙ sym (get_or-eq_default a.self.impulses nan h))
+
+pub returns-in-Limit : goal.returns-in-Limit
+unfolding seed_of
+returns-in-Limit c = simp (c.in-Limit.is, c.limits_at.ensures)
+
+pub returns-in-Motor : goal.returns-in-Motor
+unfolding seed_of
+returns-in-Motor c = simp (c.in-Motor.is, c.motor_at.ensures)

@@ -1,0 +1,9 @@
+-- `residual` is put together from what its callees promise.
+use Rattle.floats.proofs.ScalarLaws.{clamped-value}
+use Rattle.rows.specs.Step.{residual_of}
+use Rattle.rows.proofs.joint_velocity_constraint.JointConstraint.residual.Goals as goal
+
+pub returns : goal.returns
+unfolding residual_of
+returns c =
+    simp (c.clamp-clamped.ensures, clamped-value, c.wanted_impulse-wanted.ensures)

@@ -1,0 +1,7 @@
+-- `warmstart_generic` is put together from what its callee promises.
+use Rattle.rows.specs.Step.{warmstart_of}
+use Rattle.rows.proofs.joint_velocity_constraint.JointConstraint.warmstart_generic.Goals as goal
+
+pub returns : goal.returns
+unfolding warmstart_of
+returns c = cc

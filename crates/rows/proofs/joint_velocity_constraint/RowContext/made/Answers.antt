@@ -1,0 +1,25 @@
+use mathlib.Core.Path.{◌≡◌}
+use native.Mathlib.Omega.{arith}
+use Rattle.rows.proofs.Filled.{push-mapped}
+use Rattle.rows.specs.Update.{blank_row, row_of, made_rows}
+use borrow.Author.Rules.{rules}
+use Rattle.rows.proofs.joint_velocity_constraint.RowContext.made.Goals as goal
+
+pub loop-k-init : goal.loop-k-init
+loop-k-init c = (search rules, search rules, rw c.blank_row-blank.ensures)
+
+pub loop-k-preserved : goal.loop-k-preserved
+loop-k-preserved c =
+    let a = c.args in
+    let l = c.loop-k in
+    let six = c.well_formed.1.0.1.1.0.1.0.1 in (
+      search rules,
+      search rules,
+      push-mapped (λ i. row_of a.self i.id) blank_row 6 a.ids.ids l.k _ l.rows c.row.result (search rules) (omega (arith, six)) l.invariant.2 c.row.ensures,
+    )
+
+pub returns : goal.returns
+unfolding made_rows
+returns c =
+    let e : c.loop-k.k ≡ c.args.count = omega arith in
+    rw (c.loop-k.invariant.2, e)

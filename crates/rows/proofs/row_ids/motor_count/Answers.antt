@@ -1,0 +1,7 @@
+-- `motor_count` meets its contract: the motors' slots are the four lowest.
+use mathlib.Core.Path.{◌∙◌}
+use Rattle.rows.proofs.RowSlotsLaws.{motors-are}
+use Rattle.rows.proofs.row_ids.motor_count.Goals as goal
+
+pub returns : goal.returns
+returns c = c.motors_of.ensures ∙ motors-are _ c.row_slots.ensures

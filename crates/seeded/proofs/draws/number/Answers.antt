@@ -1,0 +1,11 @@
+use Rattle.std.proofs.Common.{le-ltb, lt-ltb}
+use Rattle.seeded.specs.Draws.{eighths, number_of}
+use Rattle.seeded.proofs.draws.number.Goals as goal
+
+pub returns-then-k-lt1000 : goal.returns-then-k-lt1000
+unfolding number_of eighths
+returns-then-k-lt1000 c = simp (c.nearest_u32_to_f32.ensures, lt-ltb _ _ c.if-k-lt1000.true)
+
+pub returns : goal.returns
+unfolding number_of eighths
+returns c = simp (c.nearest_u32_to_f32-2.ensures, le-ltb _ _ c.if-k-lt1000.false)

@@ -1,0 +1,8 @@
+-- `katydidzinc_space_write_back` meets its contract: what its call promises, of the header that was made, read part by part.
+use Rattle.capi.proofs.CallExportsLaws.{number-told, numbers-left}
+use Rattle.spatial_capi.proofs.calls.katydidzinc_space_write_back.Goals as goal
+
+pub returns : goal.returns
+returns c =
+    let told = rw c.header-h.ensures at c.write_back.ensures in
+    record { value = number-told _ c.plain_number.ensures told; numbers_after = numbers-left told }

@@ -1,0 +1,12 @@
+-- `put_if` meets its contract: the test decides the specification's.
+use borrow.Author.Tests.{le-ltb, lt-ltb}
+use Rattle.spatial_capi.specs.Stored.{put_if}
+use Rattle.spatial_capi.proofs.stored.put_if.Goals as goal
+
+pub returns-then-k-n : goal.returns-then-k-n
+unfolding put_if
+returns-then-k-n c = simp (lt-ltb _ _ c.if-k-n.true) (cc)
+
+pub returns-else-k-n : goal.returns-else-k-n
+unfolding put_if
+returns-else-k-n c = simp (le-ltb _ _ c.if-k-n.false)

@@ -1,0 +1,7 @@
+-- `diff_conj1_2_tr` is put together from what its callees promise.
+use Rattle.spatial_floats.specs.Rotation.{diff_conj12_tr_of}
+use Rattle.spatial_floats.proofs.rotation_ops.Rotation.diff_conj1_2_tr.Goals as goal
+
+pub returns : goal.returns
+unfolding diff_conj12_tr_of
+returns c = cc

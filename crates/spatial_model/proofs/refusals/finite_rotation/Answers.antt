@@ -1,0 +1,26 @@
+-- `finite_rotation` meets its contract: each test is tried where those before it hold.
+use mathlib.Core.Bool.{not}
+use mathlib.Core.Path.{ap}
+use Rattle.multibody.proofs.RuleLaws.{holds, fails}
+use Rattle.spatial_model.specs.Refusals.{finite_rotation}
+use Rattle.spatial_model.proofs.refusals.finite_rotation.Goals as goal
+
+pub returns-then-not-is_finite : goal.returns-then-not-is_finite
+unfolding finite_rotation
+returns-then-not-is_finite c =
+    rw (fails c.is_finite.ensures (ap not c.if-not-is_finite.true))
+
+pub returns-then-not-is_finite-2 : goal.returns-then-not-is_finite-2
+unfolding finite_rotation
+returns-then-not-is_finite-2 c =
+    rw (holds c.is_finite.ensures (ap not c.if-not-is_finite.false), fails c.is_finite-2.ensures (ap not c.if-not-is_finite-2.true))
+
+pub returns-then-not-is_finite-3 : goal.returns-then-not-is_finite-3
+unfolding finite_rotation
+returns-then-not-is_finite-3 c =
+    rw (holds c.is_finite.ensures (ap not c.if-not-is_finite.false), holds c.is_finite-2.ensures (ap not c.if-not-is_finite-2.false), fails c.is_finite-3.ensures (ap not c.if-not-is_finite-3.true))
+
+pub returns : goal.returns
+unfolding finite_rotation
+returns c =
+    rw (holds c.is_finite.ensures (ap not c.if-not-is_finite.false), holds c.is_finite-2.ensures (ap not c.if-not-is_finite-2.false), holds c.is_finite-3.ensures (ap not c.if-not-is_finite-3.false)) c.is_finite-4.ensures

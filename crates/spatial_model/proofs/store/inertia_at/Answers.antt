@@ -1,0 +1,4 @@
+use Rattle.spatial_model.proofs.store.inertia_at.Goals as goal
+
+pub returns : goal.returns
+returns c = rw c.six_at-a.ensures

@@ -1,0 +1,34 @@
+use Prim.Native.Nat.{◌<◌}
+use native.Mathlib.Omega.{arith}
+use borrow.Author.Tests.{le-ltb, lt-ltb}
+use Rattle.spatial_model.specs.Layout.{numbers_width}
+use Rattle.spatial_model.specs.Store.{seed_index, put_seed}
+use Rattle.spatial_model.proofs.StoreLaws.{seed-index-below}
+use Rattle.spatial_model.proofs.store.put_seed.Goals as goal
+use Rattle.spatial_model.proofs.store.put_seed.Goals.{After-seed_index}
+
+-- the seed's number is one of the joint's
+below : (c : After-seed_index) → seed_index c.args.id < numbers_width
+below c =
+    seed-index-below c.args.id (rw (c.axis.ensures, c.seed_axes.ensures) at c.if-axis-seed_axes.true)
+
+pub seed_index-requires : goal.seed_index-requires
+seed_index-requires c = rw (c.axis.ensures, c.seed_axes.ensures) at c.if-axis-seed_axes.true
+
+pub overflow_add-a : goal.overflow_add-a
+overflow_add-a c = omega (arith, below c)
+
+pub offset_bounds-numbers-a : goal.offset_bounds-numbers-a
+offset_bounds-numbers-a c = omega (arith, below c)
+
+pub bounds-numbers-a : goal.bounds-numbers-a
+bounds-numbers-a c = omega (arith, below c)
+
+pub returns-then-axis-seed_axes : goal.returns-then-axis-seed_axes
+unfolding put_seed
+returns-then-axis-seed_axes c =
+    simp (lt-ltb _ _ (rw (c.axis.ensures, c.seed_axes.ensures) at c.if-axis-seed_axes.true), c.seed_index.ensures)
+
+pub returns-else-axis-seed_axes : goal.returns-else-axis-seed_axes
+unfolding put_seed
+returns-else-axis-seed_axes c = simp (le-ltb _ _ (rw (c.axis.ensures, c.seed_axes.ensures) at c.if-axis-seed_axes.false))

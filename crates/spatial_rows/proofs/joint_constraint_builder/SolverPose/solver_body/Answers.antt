@@ -1,0 +1,8 @@
+-- `solver_body` computes what its definition says.
+use mathlib.Core.Path.{refl}
+use Rattle.spatial_rows.specs.Builder.{solver_body_of}
+use Rattle.spatial_rows.proofs.joint_constraint_builder.SolverPose.solver_body.Goals as goal
+
+pub returns : goal.returns
+unfolding solver_body_of
+returns c = refl

@@ -1,0 +1,21 @@
+-- `read_body` meets its contract.
+use mathlib.Core.Path.{ap, ◌∙◌}
+use Rattle.study_reader.specs.Faults.{fault_no_body}
+use Rattle.study_reader.specs.Names.{find_body}
+use Rattle.study_reader.specs.Calls.{with_number, of_named}
+use Rattle.study_reader.specs.declared.words.Word.{Word}
+use Rattle.study_reader.specs.declared.calls.Line.{Line}
+use Rattle.study_reader.proofs.CallLaws.{at_first, name-is, name-not}
+use Rattle.study_reader.proofs.calls.read_body.Goals as goal
+
+pub returns-then-i : goal.returns-then-i
+returns-then-i c =
+    let s3 = c.before.before.before in
+    let a = s3.args in
+    c.wrong.ensures ∙ name-not a.l s3.next_word-w.result fault_no_body _ c.if-i.true ∙ ap (of_named a.l _ fault_no_body) c.find_body-i.ensures ∙ at_first a.text.now a.l (λ (u : Word). of_named a.l u fault_no_body (find_body a.text.now a.names.now a.bodies u)) _ s3.next_word-w.ensures
+
+pub returns : goal.returns
+returns c =
+    let s3 = c.before.before.before in
+    let a = s3.args in
+    c.with_number.ensures ∙ ap (λ (m : Line). with_number m s3.find_body-i.result) c.with_word.ensures ∙ name-is a.l s3.next_word-w.result fault_no_body _ c.if-i.false ∙ ap (of_named a.l _ fault_no_body) s3.find_body-i.ensures ∙ at_first a.text.now a.l (λ (u : Word). of_named a.l u fault_no_body (find_body a.text.now a.names.now a.bodies u)) _ s3.next_word-w.ensures

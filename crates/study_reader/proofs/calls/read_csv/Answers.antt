@@ -1,0 +1,28 @@
+-- `read_csv` meets its contract.
+use mathlib.Core.Path.{sym, ap, ◌∙◌}
+use Rattle.study_reader.specs.Calls.{with_csv, csv_of}
+use Rattle.study_reader.proofs.CallLaws.{at_first, true-is, false-is}
+use Rattle.study_reader.proofs.calls.read_csv.Goals as goal
+
+pub returns-then-is_empty : goal.returns-then-is_empty
+unfolding csv_of
+returns-then-is_empty c =
+    let a = c.args in
+    true-is _ _ _ (sym c.is_empty.ensures ∙ c.if-is_empty.true) ∙ at_first a.text.now a.l (csv_of a.text.now a.l) c.next_word-w.result c.next_word-w.ensures
+
+pub returns-then-is : goal.returns-then-is
+unfolding csv_of
+returns-then-is c =
+    let s3 = c.before.before.before in
+    let s5 = s3.before.before in
+    let s7 = s5.before.before in
+    let a = s7.args in
+    c.with_csv.ensures ∙ ap with_csv c.with_word.ensures ∙ true-is _ _ _ (sym s3.is.ensures ∙ c.if-is.true) ∙ false-is _ _ _ (sym s5.is_empty.ensures ∙ s5.if-is_empty.false) ∙ at_first a.text.now a.l (csv_of a.text.now a.l) s7.next_word-w.result s7.next_word-w.ensures
+
+pub returns : goal.returns
+unfolding csv_of
+returns c =
+    let s4 = c.before.before.before.before in
+    let s6 = s4.before.before in
+    let a = s6.args in
+    c.wrong.ensures ∙ false-is _ _ _ (sym c.is.ensures ∙ c.if-is.false) ∙ false-is _ _ _ (sym s4.is_empty.ensures ∙ s4.if-is_empty.false) ∙ at_first a.text.now a.l (csv_of a.text.now a.l) s6.next_word-w.result s6.next_word-w.ensures

@@ -1,0 +1,7 @@
+-- `set` meets its contract.
+use mathlib.Core.Path.{sym}
+use lib.Seq.{set_out}
+use Rattle.study_reader.proofs.storage.set.Goals as goal
+
+pub returns-else-at-s : goal.returns-else-at-s
+returns-else-at-s c = sym (set_out c.args.s.now c.args.at c.args.x c.if-at-s.false)

@@ -1,0 +1,24 @@
+use mathlib.Core.Path.{refl, sym, ◌∙◌}
+use mathlib.Core.Bool.{not}
+use Prim.Native.Nat.{ℕ}
+use Rattle.study_reader.specs.Words.{ends_word}
+use Rattle.study_reader.proofs.WordLaws.{run_more, run-stop, run_end, open-test, shut-test}
+use Rattle.study_reader.proofs.words.after_bytes.Goals as goal
+
+pub loop-at-init : goal.loop-at-init
+loop-at-init c = refl
+
+pub returns-then-ends_word : goal.returns-then-ends_word
+returns-then-ends_word c =
+    let s3 = c.before.before.before in
+    let s6 = s3 in
+    run-stop (λ (b : ℕ). not (ends_word b)) s6.args.text.now s3.loop-at.at s3.loop-at-test.true (shut-test _ (sym c.ends_word.ensures ∙ c.if-ends_word.true)) ∙ s3.loop-at.invariant
+
+pub loop-at-preserved : goal.loop-at-preserved
+loop-at-preserved c =
+    let s3 = c.before.before.before in
+    let s6 = s3 in
+    run_more (λ (b : ℕ). not (ends_word b)) s6.args.text.now s3.loop-at.at s3.loop-at-test.true (open-test _ (sym c.ends_word.ensures ∙ c.if-ends_word.false)) ∙ s3.loop-at.invariant
+
+pub returns : goal.returns
+returns c = run_end (λ (b : ℕ). not (ends_word b)) c.args.text.now c.loop-at.at c.loop-at-test.false ∙ c.loop-at.invariant

@@ -1,0 +1,8 @@
+-- `put_joint_word` meets its contract.
+use Rattle.study_writer.specs.Text.{joint_word}
+use Rattle.texts.proofs.SinkLaws.{appended_then}
+use Rattle.study_writer.proofs.lines.put_joint_word.Goals as goal
+
+pub returns : goal.returns
+unfolding joint_word
+returns c = (appended_then c.put_text-a.ensures c.put_decimal.ensures)

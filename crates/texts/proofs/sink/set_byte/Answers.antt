@@ -1,0 +1,7 @@
+-- `set_byte` meets its contract.
+use mathlib.Core.Path.{sym}
+use lib.Seq.{set_out}
+use Rattle.texts.proofs.sink.set_byte.Goals as goal
+
+pub returns-else-at-out : goal.returns-else-at-out
+returns-else-at-out c = sym (set_out c.args.out.now c.args.at c.args.b c.if-at-out.false)
