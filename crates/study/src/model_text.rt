@@ -1,6 +1,4 @@
 // The model that a study describes, in one spelling: the text of a study with no call.
-ghost use Rattle.std.specs.Prelude.{◌≡◌, length};
-
 use crate::out::{Console, err, out_part};
 use model::header::Header;
 use study_writer::study::write_study;
@@ -16,13 +14,6 @@ fn put_model(
     write_study(text, header, bodies, words, numbers)
 }
 
-// 524288 zeros, as many as the longest text has bytes or more.
-fn space() -> [u8; 524288]
-    ensures { 524288 ≡ length result }
-{
-    [0; 524288]
-}
-
 pub fn print_model(
     con: &Console,
     header: Header,
@@ -30,7 +21,7 @@ pub fn print_model(
     words: &[u32],
     numbers: &[f32],
 ) -> u32 {
-    let mut text = space();
+    let mut text = [0u8; 524288];
     let n = put_model(&mut text, header, bodies, words, numbers);
     if n == 0 {
         err(

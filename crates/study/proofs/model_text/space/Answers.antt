@@ -1,6 +1,0 @@
-use Rattle.std.proofs.Common.{ℕ, sym}
-use Rattle.std.proofs.lemmas.List.{length-replicate}
-use Rattle.study.proofs.model_text.space.Goals as goal
-
-pub returns : goal.returns
-returns c = sym {0} (length-replicate {0} {A = ℕ} 524288 0)
