@@ -18,7 +18,7 @@ import tempfile
 
 import katydidzinc as kz
 
-PROGRAM = os.path.abspath(os.environ.get("STUDY_PROGRAM", pathlib.Path(__file__).resolve().parent.parent / "target" / "bin" / "study"))
+PROGRAM = os.path.abspath(os.environ.get("STUDY_PROGRAM", pathlib.Path(__file__).resolve().parent.parent / "crates" / "study" / "out" / "study"))
 # so many studies are run by one process of the program
 TOGETHER = 100
 SETTINGS = (("dt", 0.03), ("length_unit", 2.0), ("normalized_max_corrective_velocity", 10.0))
