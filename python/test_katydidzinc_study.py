@@ -16,7 +16,7 @@ ROOT = pathlib.Path(__file__).resolve().parent.parent
 HEADER = ROOT / "include" / "katydidzinc_study.h"
 STUDIES = sorted((ROOT / "examples" / "studies").glob("*.study"))
 KNEE = ROOT / "examples" / "studies" / "knee.study"
-PROGRAM = ROOT / "target" / "bin" / "study"
+PROGRAM = ROOT / "crates" / "study" / "out" / "study"
 
 
 def held(study):
