@@ -12,8 +12,9 @@ use lib.Ieee.{Float, inf, fin, binary32, of_bits, neg, div}
 use Rattle.decimals.specs.Rounding.{decimal_of}
 use Rattle.decimals.specs.Words.{digits_count, digits_value, after_digits, decimal_read, exponent_digits, exponent_sign, exponent_part, point_digits, no_point}
 use Rattle.decimals.specs.Capped.{cap}
-use Rattle.decimals.specs.declared.number.Reading.{Reading}
-use Rattle.decimals.specs.declared.number.Reading.TheVariants.{Number, TooManyDigits, NotANumber}
+use Rattle.decimals.specs.Words.{Reading}
+use Rattle.std.proofs.Common.{Ok, Err}
+use Rattle.decimals.specs.declared.number.NumberFault.TheVariants.{TooManyDigits, NotANumber}
 use Rattle.decimals.proofs.PatternLaws.{side}
 use Rattle.decimals.proofs.CapLaws.{cap-small, cap-large, cap-digits}
 use Rattle.decimals.proofs.DecimalLaws.{negated, far-down, far-up}
@@ -23,7 +24,7 @@ pub float_zero : of_bits binary32 0 ≡ fin false 0 (pos 0)
 unfolding of_bits
 float_zero = refl
 
-pub float-infinity : div binary32 (of_bits binary32 0x3f800000) (of_bits binary32 0) ≡ inf false
+pub float-infinity : of_bits binary32 0x7f800000 ≡ inf false
 unfolding div of_bits
 float-infinity = refl
 
@@ -33,21 +34,21 @@ signed_is true w a b = negated w a b
 signed_is false w a b = refl
 
 module _ (s : Bool) (w f e : ℕ) where
-  pub read-many : (down : Bool) → 10 ^ 19 ≤ w → TooManyDigits ≡ decimal_read s w f down e
+  pub read-many : (down : Bool) → 10 ^ 19 ≤ w → (Err TooManyDigits) ≡ decimal_read s w f down e
   unfolding decimal_read
   read-many down h =
-      sym (ap (λ (t : Bool). cond t (Number (cond down (decimal_of s w 0 (f + e)) (decimal_of s w e f))) TooManyDigits) (le-ltb w (10 ^ 19) h))
+      sym (ap (λ (t : Bool). cond t (Ok (cond down (decimal_of s w 0 (f + e)) (decimal_of s w e f))) (Err TooManyDigits)) (le-ltb w (10 ^ 19) h))
 
-  number_is : (down : Bool) → w < 10 ^ 19 → Number (cond down (decimal_of s w 0 (f + e)) (decimal_of s w e f)) ≡ decimal_read s w f down e
+  number_is : (down : Bool) → w < 10 ^ 19 → Ok (cond down (decimal_of s w 0 (f + e)) (decimal_of s w e f)) ≡ decimal_read s w f down e
   unfolding decimal_read
   number_is down h =
-      sym (ap (λ (t : Bool). cond t (Number (cond down (decimal_of s w 0 (f + e)) (decimal_of s w e f))) TooManyDigits) (lt-ltb w (10 ^ 19) h))
+      sym (ap (λ (t : Bool). cond t (Ok (cond down (decimal_of s w 0 (f + e)) (decimal_of s w e f))) (Err TooManyDigits)) (lt-ltb w (10 ^ 19) h))
 
-  pub read_down : (x : Float) → w < 10 ^ 19 → x ≡ decimal_of false w 0 (f + e) → Number (cond s (neg x) x) ≡ decimal_read s w f true e
-  read_down x h p = ap (λ (y : Float). Number (cond s (neg y) y)) p ∙ ap Number (signed_is s w 0 (f + e)) ∙ number_is true h
+  pub read_down : (x : Float) → w < 10 ^ 19 → x ≡ decimal_of false w 0 (f + e) → Ok (cond s (neg x) x) ≡ decimal_read s w f true e
+  read_down x h p = ap (λ (y : Float). Ok (cond s (neg y) y)) p ∙ ap Ok (signed_is s w 0 (f + e)) ∙ number_is true h
 
-  pub read_up : (x : Float) → w < 10 ^ 19 → x ≡ decimal_of false w e f → Number (cond s (neg x) x) ≡ decimal_read s w f false e
-  read_up x h p = ap (λ (y : Float). Number (cond s (neg y) y)) p ∙ ap Number (signed_is s w e f) ∙ number_is false h
+  pub read_up : (x : Float) → w < 10 ^ 19 → x ≡ decimal_of false w e f → Ok (cond s (neg x) x) ≡ decimal_read s w f false e
+  read_up x h p = ap (λ (y : Float). Ok (cond s (neg y) y)) p ∙ ap Ok (signed_is s w e f) ∙ number_is false h
 
 -- ---- digits and exponents that are counted up to 10^19
 pub read-cap : (s : Bool) (w f : ℕ) (down : Bool) (e : ℕ) → decimal_read s (cap w) f down e ≡ decimal_read s w f down e
@@ -66,9 +67,9 @@ exponent-cap s w f down e room =
   where
     far : w < 10 ^ 19 → 10 ^ 19 ≤ e → (down : Bool) → decimal_read s w f down (cap e) ≡ decimal_read s w f down e
     far h g true =
-        sym (number_is s w f (cap e) true h) ∙ ap Number (far-down s w (f + cap e) (f + e) h (omega (arith, cap-large e g)) (omega arith)) ∙ number_is s w f e true h
+        sym (number_is s w f (cap e) true h) ∙ ap Ok (far-down s w (f + cap e) (f + e) h (omega (arith, cap-large e g)) (omega arith)) ∙ number_is s w f e true h
     far h g false =
-        sym (number_is s w f (cap e) false h) ∙ ap Number (far-up s w (cap e) e f (omega (arith, cap-large e g)) (omega arith)) ∙ number_is s w f e false h
+        sym (number_is s w f (cap e) false h) ∙ ap Ok (far-up s w (cap e) e f (omega (arith, cap-large e g)) (omega arith)) ∙ number_is s w f e false h
 
 digits-cap : (s : Bool) (w f : ℕ) (down : Bool) (bs : List ℕ) → exponent_digits s (cap w) f down bs ≡ exponent_digits s w f down bs
 unfolding exponent_digits
@@ -87,7 +88,7 @@ part-cap s w f (b ∷ bs) = simp sign-cap
 pub point-cap : (s : Bool) (n w : ℕ) (bs : List ℕ) → point_digits s n (cap w) bs ≡ point_digits s n w bs
 unfolding point_digits
 point-cap s n w bs =
-    ap (λ (r : Reading). cond (eqb (n + digits_count bs) 0) NotANumber r)
+    ap (λ (r : Reading). cond (eqb (n + digits_count bs) 0) (Err NotANumber) r)
     (sym (part-cap s (digits_value (cap w) bs) (digits_count bs) (after_digits bs))
     ∙ ap (λ (x : ℕ). exponent_part s x (digits_count bs) (after_digits bs)) (cap-digits w bs)
     ∙ part-cap s (digits_value w bs) (digits_count bs) (after_digits bs))

@@ -26,8 +26,9 @@ use Rattle.decimals.specs.Rounding.{decimal_of}
 use Rattle.decimals.specs.Words.{digits_count, digits_value, after_digits, decimal_read, exponent_digits, exponent_sign, exponent_part, point_digits, no_point, point_part, decimal_word, hex_value, bits_after, bits_word, is_hex, is_inf, unsigned, reading_of}
 use Rattle.decimals.specs.Text.{bits_text}
 use Rattle.decimals.specs.Spelled.{fewer, tenths, places_from, places_of, nine_of, nine_text, signed_text, nine_digits, reads_as, spelled_text, spelled}
-use Rattle.decimals.specs.declared.number.Reading.{Reading}
-use Rattle.decimals.specs.declared.number.Reading.TheVariants.{Number, TooManyDigits, NotANumber}
+use Rattle.decimals.specs.Words.{Reading}
+use Rattle.std.proofs.Common.{Ok, Err}
+use Rattle.decimals.specs.declared.number.NumberFault.TheVariants.{TooManyDigits, NotANumber}
 use Rattle.decimals.specs.declared.spelled.Nine.{Nine}
 use Rattle.decimals.specs.declared.spelled.Spelling.{Spelling}
 use Rattle.decimals.proofs.TextLaws.{number-read-back}
@@ -188,9 +189,9 @@ digits-finite {x} {s} p = ap (λ (n : ℕ). spelled (signed_text s (nine_text (n
 
 -- the format holds every number that a word spells
 data Held : Reading → Type 0 where
-  number : {y : Float} → T (fits binary32 y) → Held (Number y)
-  many : Held TooManyDigits
-  none : Held NotANumber
+  number : {y : Float} → T (fits binary32 y) → Held (Ok y)
+  many : Held (Err TooManyDigits)
+  none : Held (Err NotANumber)
 
 either : (b : Bool) {r s : Reading} → Held r → Held s → Held (cond b r s)
 either true h g = h
@@ -242,11 +243,11 @@ reading-held (b ∷ bs) =
     (either (eqb b MINUS) (unsigned-held true bs) (either (is_hex (b ∷ bs)) (either (eqb (length (b ∷ bs)) 10) (after-held 0 (drop 2 (b ∷ bs))) none) (unsigned-held false (b ∷ bs))))
 
 module _ (x : Float) where
-  same : T (fits binary32 x) → (r : Reading) → Held r → reads_as x r ≡ true → r ≡ Number x
+  same : T (fits binary32 x) → (r : Reading) → Held r → reads_as x r ≡ true → r ≡ Ok x
   unfolding reads_as
-  same held (Number y) (number h) e = ap Number (sym (of_bits-to_bits binary32 y h) ∙ ap (of_bits binary32) (eqb-true (to_bits binary32 y) (to_bits binary32 x) e) ∙ of_bits-to_bits binary32 x held)
-  same held TooManyDigits h e = absurd (subst T (sym e) tt)
-  same held NotANumber h e = absurd (subst T (sym e) tt)
+  same held (Ok y) (number h) e = ap Ok (sym (of_bits-to_bits binary32 y h) ∙ ap (of_bits binary32) (eqb-true (to_bits binary32 y) (to_bits binary32 x) e) ∙ of_bits-to_bits binary32 x held)
+  same held (Err TooManyDigits) h e = absurd (subst T (sym e) tt)
+  same held (Err NotANumber) h e = absurd (subst T (sym e) tt)
 
   pub the-nine : reads_as x (reading_of (nine_digits x)) ≡ true → nine_digits x ≡ spelled_text x
   unfolding spelled_text
@@ -256,11 +257,11 @@ module _ (x : Float) where
   unfolding spelled_text
   the-bits e = sym (ap (λ (b : Bool). cond b (nine_digits x) (bits_text (to_bits binary32 x))) e)
 
-  pub spelled-read-back : T (fits binary32 x) → reading_of (spelled_text x) ≡ Number x
+  pub spelled-read-back : T (fits binary32 x) → reading_of (spelled_text x) ≡ Ok x
   unfolding spelled_text
   spelled-read-back held = go (reads_as x (reading_of (nine_digits x))) refl
     where
-      go : (b : Bool) → reads_as x (reading_of (nine_digits x)) ≡ b → reading_of (cond b (nine_digits x) (bits_text (to_bits binary32 x))) ≡ Number x
+      go : (b : Bool) → reads_as x (reading_of (nine_digits x)) ≡ b → reading_of (cond b (nine_digits x) (bits_text (to_bits binary32 x))) ≡ Ok x
       go true e = same held (reading_of (nine_digits x)) (reading-held (nine_digits x)) e
       go false e = number-read-back x held
 

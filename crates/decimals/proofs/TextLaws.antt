@@ -15,8 +15,9 @@ use Rattle.texts.proofs.HexLaws.{digit_low, digit-capital}
 use Rattle.decimals.specs.Words.{hex_value, bits_after, is_hex, bits_word, reading_of}
 use Rattle.decimals.specs.Text.{bits_text}
 use Rattle.decimals.specs.Exports.{reading_number}
-use Rattle.decimals.specs.declared.number.Reading.{Reading}
-use Rattle.decimals.specs.declared.number.Reading.TheVariants.{Number, TooManyDigits, NotANumber}
+use Rattle.decimals.specs.Words.{Reading}
+use Rattle.std.proofs.Common.{Ok, Err}
+use Rattle.decimals.specs.declared.number.NumberFault.TheVariants.{TooManyDigits, NotANumber}
 use Rattle.decimals.proofs.PatternLaws.{side}
 use Rattle.decimals.proofs.WordLaws.{hex-decimal, hex-upper}
 
@@ -31,8 +32,8 @@ digit-back d h =
 read-digit : (v d n : ℕ) (bs : List ℕ) → d < 16 → v * 16 + d ≡ n → bits_after v (hex_digit true d ∷ bs) ≡ bits_after n bs
 unfolding bits_after
 read-digit v d n bs h e =
-    ap (λ (x : ℕ). cond (ltb x 16) (bits_after (v * 16 + x) bs) NotANumber) (digit-back d h)
-    ∙ ap (λ (t : Bool). cond t (bits_after (v * 16 + d) bs) NotANumber) (lt-ltb d 16 h)
+    ap (λ (x : ℕ). cond (ltb x 16) (bits_after (v * 16 + x) bs) (Err NotANumber)) (digit-back d h)
+    ∙ ap (λ (t : Bool). cond t (bits_after (v * 16 + d) bs) (Err NotANumber)) (lt-ltb d 16 h)
     ∙ ap (λ (x : ℕ). bits_after x bs) e
 
 module _ (b : ℕ) where
@@ -58,7 +59,7 @@ module _ (b : ℕ) where
   abbrev t7 : List ℕ
   t7 = hex_digit true (b / 0x1000000 % 16) ∷ t6
 
-  pub bits-read-back : b < 2 ^ 32 → reading_of (bits_text b) ≡ Number (of_bits binary32 b)
+  pub bits-read-back : b < 2 ^ 32 → reading_of (bits_text b) ≡ Ok (of_bits binary32 b)
   unfolding reading_of bits_text hex_word is_hex bits_word bits_after
   bits-read-back h =
       read-digit 0 (b / 0x10000000) (b / 0x10000000) t7 (omega arith) (omega arith)
@@ -70,22 +71,22 @@ module _ (b : ℕ) where
       ∙ read-digit (b / 0x100) (b / 0x10 % 16) (b / 0x10) t1 (omega arith) (omega arith)
       ∙ read-digit (b / 0x10) (b % 16) b [] (omega arith) (omega arith)
 
-pub number-read-back : (x : Float) → T (fits binary32 x) → reading_of (bits_text (to_bits binary32 x)) ≡ Number x
-number-read-back x h = bits-read-back (to_bits binary32 x) (to_bits-lt binary32 x h) ∙ ap Number (of_bits-to_bits binary32 x h)
+pub number-read-back : (x : Float) → T (fits binary32 x) → reading_of (bits_text (to_bits binary32 x)) ≡ Ok x
+number-read-back x h = bits-read-back (to_bits binary32 x) (to_bits-lt binary32 x h) ∙ ap Ok (of_bits-to_bits binary32 x h)
 
 -- ---- the exports
 pub text-past : (b i : ℕ) → 10 ≤ i → 0 ≡ get_or (bits_text b) i 0
 unfolding bits_text hex_word
 text-past b i h = sym (get_or-eq_default (bits_text b) 0 {n = i} h)
 
-pub export-number : (r : Reading) (x : Float) → r ≡ Number x → to_bits binary32 x ≡ reading_number r
+pub export-number : (r : Reading) (x : Float) → r ≡ Ok x → to_bits binary32 x ≡ reading_number r
 unfolding reading_number
 export-number r x e = sym (ap reading_number e)
 
-pub export-digits : (r : Reading) → r ≡ TooManyDigits → 4294967296 ≡ reading_number r
+pub export-digits : (r : Reading) → r ≡ (Err TooManyDigits) → 4294967296 ≡ reading_number r
 unfolding reading_number
 export-digits r e = sym (ap reading_number e)
 
-pub export-none : (r : Reading) → r ≡ NotANumber → 4294967297 ≡ reading_number r
+pub export-none : (r : Reading) → r ≡ (Err NotANumber) → 4294967297 ≡ reading_number r
 unfolding reading_number
 export-none r e = sym (ap reading_number e)

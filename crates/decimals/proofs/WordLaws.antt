@@ -14,7 +14,8 @@ use lib.Ieee.{Float, inf, binary32, of_bits, neg}
 use Rattle.texts.specs.Ascii.{PLUS, MINUS, POINT}
 use Rattle.texts.specs.Digits.{is_digit}
 use Rattle.decimals.specs.Words.{digits_count, digits_value, after_digits, decimal_read, exponent_digits, exponent_sign, exponent_part, point_digits, no_point, point_part, decimal_word, hex_value, bits_after, is_hex, bits_word, is_inf, unsigned, reading_of}
-use Rattle.decimals.specs.declared.number.Reading.TheVariants.{Number, NotANumber}
+use Rattle.std.proofs.Common.{Ok, Err}
+use Rattle.decimals.specs.declared.number.NumberFault.TheVariants.{NotANumber}
 
 pub at_byte : (t : List ℕ) (at : ℕ) → at < length t → drop at t ≡ get_or t at 0 ∷ drop (at + 1) t
 at_byte t at h = drop-cons t at 0 h ∙ ap (λ (k : ℕ). get_or t at 0 ∷ drop k t) (sym (add-one at))
@@ -34,11 +35,11 @@ count-inside t at h = omega (arith, count-le (drop at t), length-drop at t)
 
 -- ---- the exponent's digits
 module _ (s : Bool) (w f : ℕ) (down : Bool) (t : List ℕ) (at end : ℕ) (inside : at ≤ length t) (e : end ≡ at + digits_count (drop at t)) where
-  pub digits-none : end ≡ at → NotANumber ≡ exponent_digits s w f down (drop at t)
+  pub digits-none : end ≡ at → (Err NotANumber) ≡ exponent_digits s w f down (drop at t)
   unfolding exponent_digits
   digits-none z = simp (eq-eqb (digits_count (drop at t)) 0 (omega arith))
 
-  pub digits_more : (end ≡ at → ⊥) → end < length t → NotANumber ≡ exponent_digits s w f down (drop at t)
+  pub digits_more : (end ≡ at → ⊥) → end < length t → (Err NotANumber) ≡ exponent_digits s w f down (drop at t)
   unfolding exponent_digits
   digits_more z h =
       simp (ne_eqb (digits_count (drop at t)) 0 (λ q. z (omega arith)), lt-ltb (digits_count (drop at t)) (length (drop at t)) (omega (arith, length-drop at t)))
@@ -72,11 +73,11 @@ module _ (s : Bool) (w f : ℕ) (t : List ℕ) (at : ℕ) (below : at < length t
   unfolding exponent_part
   capital n h = sym (ap (exponent_part s w f) (at_byte t at below) ∙ simp (ne_eqb (get_or t at 0) 0x65 n, eq-eqb (get_or t at 0) 0x45 h))
 
-  pub no-letter : (get_or t at 0 ≡ 0x65 → ⊥) → (get_or t at 0 ≡ 0x45 → ⊥) → NotANumber ≡ exponent_part s w f (drop at t)
+  pub no-letter : (get_or t at 0 ≡ 0x65 → ⊥) → (get_or t at 0 ≡ 0x45 → ⊥) → (Err NotANumber) ≡ exponent_part s w f (drop at t)
   unfolding exponent_part
   no-letter n m = sym (ap (exponent_part s w f) (at_byte t at below) ∙ simp (ne_eqb (get_or t at 0) 0x65 n, ne_eqb (get_or t at 0) 0x45 m))
 
-pub sign-end : (s : Bool) (w f : ℕ) (t : List ℕ) (at : ℕ) → length t ≤ at → NotANumber ≡ exponent_sign s w f (drop at t)
+pub sign-end : (s : Bool) (w f : ℕ) (t : List ℕ) (at : ℕ) → length t ≤ at → (Err NotANumber) ≡ exponent_sign s w f (drop at t)
 unfolding exponent_sign
 sign-end s w f t at h = sym (ap (exponent_sign s w f) (drop_of_length-le t h))
 
@@ -92,7 +93,7 @@ module _ (s : Bool) (n w : ℕ) (t : List ℕ) (at end : ℕ) (e : end ≡ at + 
   pub count-is : end - at ≡ digits_count (drop at t)
   count-is = omega arith
 
-  pub point-none : n + (end - at) ≡ 0 → NotANumber ≡ point_digits s n w (drop at t)
+  pub point-none : n + (end - at) ≡ 0 → (Err NotANumber) ≡ point_digits s n w (drop at t)
   unfolding point_digits
   point-none z = simp (eq-eqb (n + digits_count (drop at t)) 0 (omega arith))
 
@@ -103,7 +104,7 @@ module _ (s : Bool) (n w : ℕ) (t : List ℕ) (at end : ℕ) (e : end ≡ at + 
       ∙ ap (exponent_part s (digits_value w (drop at t)) (digits_count (drop at t))) after-digits
       ∙ simp (ne_eqb (n + digits_count (drop at t)) 0 (λ q. z (omega arith)))
 
-pub nothing-before : (s : Bool) (n w : ℕ) (bs : List ℕ) → n ≡ 0 → NotANumber ≡ no_point s n w bs
+pub nothing-before : (s : Bool) (n w : ℕ) (bs : List ℕ) → n ≡ 0 → (Err NotANumber) ≡ no_point s n w bs
 unfolding no_point
 nothing-before s n w bs z = simp (eq-eqb n 0 z)
 
@@ -142,11 +143,11 @@ module _ (t : List ℕ) (i v : ℕ) where
   unfolding bits_after
   bits-digit below h = sym (ap (bits_after v) (at_byte t i below) ∙ simp (lt-ltb (hex_value (get_or t i 0)) 16 h))
 
-  pub bits-fault : i < length t → 16 ≤ hex_value (get_or t i 0) → NotANumber ≡ bits_after v (drop i t)
+  pub bits-fault : i < length t → 16 ≤ hex_value (get_or t i 0) → (Err NotANumber) ≡ bits_after v (drop i t)
   unfolding bits_after
   bits-fault below h = sym (ap (bits_after v) (at_byte t i below) ∙ simp (le-ltb (hex_value (get_or t i 0)) 16 h))
 
-  pub bits-end : length t ≤ i → Number (of_bits binary32 v) ≡ bits_after v (drop i t)
+  pub bits-end : length t ≤ i → Ok (of_bits binary32 v) ≡ bits_after v (drop i t)
   unfolding bits_after
   bits-end h = sym (ap (bits_after v) (drop_of_length-le t h))
 
@@ -208,7 +209,7 @@ module _ (t : List ℕ) where
   unfolding bits_word
   bits-ten h = simp (eq-eqb (length t) 10 h)
 
-  pub bits-other : (length t ≡ 10 → ⊥) → NotANumber ≡ bits_word t
+  pub bits-other : (length t ≡ 10 → ⊥) → (Err NotANumber) ≡ bits_word t
   unfolding bits_word
   bits-other h = simp (ne_eqb (length t) 10 h)
 
@@ -241,16 +242,16 @@ unfolding neg
 infinite true = refl
 infinite false = refl
 
-pub word-inf : (s : Bool) (x : Float) (bs : List ℕ) → x ≡ inf false → is_inf bs ≡ true → Number (cond s (neg x) x) ≡ unsigned s bs
+pub word-inf : (s : Bool) (x : Float) (bs : List ℕ) → x ≡ inf false → is_inf bs ≡ true → Ok (cond s (neg x) x) ≡ unsigned s bs
 unfolding unsigned
-word-inf s x bs e h = ap (λ (y : Float). Number (cond s (neg y) y)) e ∙ ap Number (infinite s) ∙ simp h
+word-inf s x bs e h = ap (λ (y : Float). Ok (cond s (neg y) y)) e ∙ ap Ok (infinite s) ∙ simp h
 
 pub word-decimal : (s : Bool) (bs : List ℕ) → is_inf bs ≡ false → decimal_word s bs ≡ unsigned s bs
 unfolding unsigned
 word-decimal s bs h = simp h
 
 -- ---- a whole word
-pub word-empty : (t : List ℕ) → length t ≡ 0 → NotANumber ≡ reading_of t
+pub word-empty : (t : List ℕ) → length t ≡ 0 → (Err NotANumber) ≡ reading_of t
 unfolding reading_of
 word-empty [] h = refl
 word-empty (b ∷ bs) h = absurd (omega arith)

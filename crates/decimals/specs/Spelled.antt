@@ -1,5 +1,5 @@
 -- A number as a decimal of nine digits, as C's `%.8e` writes it, that reads as the same number.
-use Rattle.std.specs.Prelude.{Bool, true, false, cond, List, [], ◌∷◌, ◌++◌, ◌≡◌, ℕ, zero, suc, ◌-◌, ◌*◌, ◌/◌, ◌%◌, ◌^◌, ◌<◌, ltb, leb, eqb, Float, length, replicate}
+use Rattle.std.specs.Prelude.{Bool, true, false, cond, List, [], ◌∷◌, ◌++◌, ◌≡◌, ℕ, zero, suc, ◌-◌, ◌*◌, ◌/◌, ◌%◌, ◌^◌, ◌<◌, ltb, leb, eqb, Float, length, replicate, Ok, Err}
 use Rattle.std.specs.Float.{nan, inf, fin, binary32}
 use Rattle.std.specs.Float.Ieee.{to_bits}
 use Rattle.std.specs.Float.Ieee.Nearest.{closest}
@@ -7,9 +7,7 @@ use Rattle.texts.specs.Ascii.{ascii, MINUS, PLUS, POINT, SPACE}
 use Rattle.texts.specs.Digits.{digit}
 use Rattle.floats.specs.Bits.{units_of}
 use Rattle.decimals.specs.Text.{bits_text}
-use Rattle.decimals.specs.Words.{reading_of}
-use Rattle.decimals.specs.declared.number.Reading.{Reading}
-use Rattle.decimals.specs.declared.number.Reading.TheVariants.{Number, TooManyDigits, NotANumber}
+use Rattle.decimals.specs.Words.{Reading, reading_of}
 use Rattle.decimals.specs.declared.spelled.Nine.{Nine}
 use Rattle.decimals.specs.declared.spelled.Spelling.{Spelling}
 
@@ -92,9 +90,8 @@ nine_digits (fin s m e) = signed_text s (nine_text (nine_of (units_of m e)))
 
 -- the same number with the same sign
 unfoldable pub reads_as : Float → Reading → Bool
-reads_as x (Number y) = eqb (to_bits binary32 y) (to_bits binary32 x)
-reads_as x TooManyDigits = false
-reads_as x NotANumber = false
+reads_as x (Ok y) = eqb (to_bits binary32 y) (to_bits binary32 x)
+reads_as x (Err fault) = false
 
 -- the nine digits, or the bits where these would not do. That it reads as the number is the theorem of proofs/SpelledLaws.antt.
 unfoldable pub spelled_text : Float → List ℕ

@@ -17,12 +17,10 @@ pub fn times(a: [u32; 14], k: u32) -> [u32; 14]
 {
     let mut r = [0u32; 14];
     let mut carry: u64 = 0;
-    let mut i: usize = 0;
-    while i < 14 {
+    for i in 0..14 {
         let t = a[i] as u64 * k as u64 + carry;
         r[i] = (t % 4294967296) as u32;
         carry = t / 4294967296;
-        i += 1;
     }
     r
 }
@@ -31,9 +29,7 @@ pub fn times(a: [u32; 14], k: u32) -> [u32; 14]
 pub fn at_most(a: [u32; 14], b: [u32; 14]) -> bool
     ensures { result ≡ leb (value a) (value b) }
 {
-    let mut i: usize = 14;
-    while 0 < i {
-        i -= 1;
+    for i in (0..14).rev() {
         if a[i] < b[i] {
             return true;
         }
@@ -50,11 +46,9 @@ pub fn times_power(a: [u32; 14], k: u32, n: u32) -> [u32; 14]
     ensures { value result ≡ value a * k ^ n }
 {
     let mut r = a;
-    let mut i: u32 = 0;
-    while i < n {
+    for _ in 0..n {
         let next = times(r, k);
         r = next;
-        i += 1;
     }
     r
 }

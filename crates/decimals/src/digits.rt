@@ -13,10 +13,7 @@ pub struct Digits {
 fn is_digit(b: u8) -> bool
     ensures { result ≡ is_digit b }
 {
-    if b < 0x30 {
-        return false;
-    }
-    b <= 0x39
+    0x30 <= b && b <= 0x39
 }
 
 // One more digit; from 10^19 on the value grows no more.
@@ -25,9 +22,10 @@ fn grown(v: u64, d: u64) -> u64
     ensures { result ≡ cap (v * 10 + d) }
 {
     if v < 1000000000000000000 {
-        return v * 10 + d;
+        v * 10 + d
+    } else {
+        10000000000000000000
     }
-    10000000000000000000
 }
 
 // The digits from a position on, after digits of the value v.
@@ -37,6 +35,7 @@ pub fn digits_at(word: &[u8], at: usize, v: u64) -> Digits
 {
     let mut value = v;
     let mut i = at;
+    // a `while`: `at` may lie past the word, where it is the digits' end
     while i < word.len() {
         let b = word[i];
         if !is_digit(b) {

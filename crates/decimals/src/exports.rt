@@ -7,7 +7,7 @@ ghost use Rattle.std.specs.Float.Ieee.{of_bits};
 ghost use Rattle.decimals.specs.Spelled.{spelled_text};
 ghost use Rattle.decimals.specs.Exports.{reading_number};
 
-use crate::number::{Reading, read_number};
+use crate::number::{NumberFault, read_number};
 use crate::spelled::spelled;
 use crate::text::bits_text;
 use floats::bits::{from_bits, to_bits};
@@ -17,11 +17,10 @@ use floats::bits::{from_bits, to_bits};
 pub extern "C" fn katydidzinc_decimals_read(word: &[u8]) -> u64
     ensures { result ≡ reading_number (reading_of word.now) }
 {
-    let reading = read_number(word);
-    match reading {
-        Reading::Number(x) => to_bits(x) as u64,
-        Reading::TooManyDigits => 4294967296,
-        Reading::NotANumber => 4294967297,
+    match read_number(word) {
+        Ok(x) => to_bits(x) as u64,
+        Err(NumberFault::TooManyDigits) => 4294967296,
+        Err(NumberFault::NotANumber) => 4294967297,
     }
 }
 

@@ -8,13 +8,15 @@ use crate::digits::digits_at;
 use crate::rounding::{scaled_down, scaled_up};
 use floats::bits::from_bits;
 
-#[derive(Clone, Copy)]
-pub enum Reading {
-    Number(f32),
+// Why a word spells no number.
+#[derive(Clone, Copy, PartialEq, Eq)]
+pub enum NumberFault {
     // a decimal of more than 19 digits, leading zeros aside
     TooManyDigits,
     NotANumber,
 }
+
+pub type Reading = Result<f32, NumberFault>;
 
 // ---- decimals
 
@@ -37,7 +39,7 @@ fn upward(w: u64, n: u64) -> f32
         return 0.0;
     }
     if 38 < n {
-        return 1.0 / 0.0;
+        return f32::INFINITY;
     }
     from_bits(scaled_up(w, n as u32))
 }
@@ -64,13 +66,10 @@ fn with_negative_exponent(w: u64, f: u64, e: u64) -> f32
     downward(w, f + e)
 }
 
-fn signed(negative: bool, x: f32) -> Reading
-    ensures { result ≡ Reading.Number (cond negative (neg x) x) }
+fn signed(negative: bool, x: f32) -> f32
+    ensures { result ≡ cond negative (neg x) x }
 {
-    if negative {
-        return Reading::Number(-x);
-    }
-    Reading::Number(x)
+    if negative { -x } else { x }
 }
 
 fn decimal(negative: bool, w: u64, f: usize, down: bool, e: u64) -> Reading
@@ -78,12 +77,12 @@ fn decimal(negative: bool, w: u64, f: usize, down: bool, e: u64) -> Reading
     ensures { result ≡ decimal_read negative w f down e }
 {
     if 10000000000000000000 <= w {
-        return Reading::TooManyDigits;
+        return Err(NumberFault::TooManyDigits);
     }
     if down {
-        return signed(negative, with_negative_exponent(w, f as u64, e));
+        return Ok(signed(negative, with_negative_exponent(w, f as u64, e)));
     }
-    signed(negative, with_exponent(w, f as u64, e))
+    Ok(signed(negative, with_exponent(w, f as u64, e)))
 }
 
 // The exponent's digits, from a position to the end of the word.
@@ -94,10 +93,10 @@ fn exponent_digits(word: &[u8], at: usize, negative: bool, w: u64, f: usize, dow
     let digits = digits_at(word, at, 0);
     let end = digits.end;
     if end == at {
-        return Reading::NotANumber;
+        return Err(NumberFault::NotANumber);
     }
     if end < word.len() {
-        return Reading::NotANumber;
+        return Err(NumberFault::NotANumber);
     }
     decimal(negative, w, f, down, digits.value)
 }
@@ -116,7 +115,7 @@ fn exponent_sign(word: &[u8], at: usize, negative: bool, w: u64, f: usize) -> Re
         }
         return exponent_digits(word, at, negative, w, f, false);
     }
-    Reading::NotANumber
+    Err(NumberFault::NotANumber)
 }
 
 fn exponent_part(word: &[u8], at: usize, negative: bool, w: u64, f: usize) -> Reading
@@ -125,13 +124,10 @@ fn exponent_part(word: &[u8], at: usize, negative: bool, w: u64, f: usize) -> Re
 {
     if at < word.len() {
         let b = word[at];
-        if b == b'e' {
+        if b == b'e' || b == b'E' {
             return exponent_sign(word, at + 1, negative, w, f);
         }
-        if b == b'E' {
-            return exponent_sign(word, at + 1, negative, w, f);
-        }
-        return Reading::NotANumber;
+        return Err(NumberFault::NotANumber);
     }
     decimal(negative, w, f, false, 0)
 }
@@ -145,7 +141,7 @@ fn point_digits(word: &[u8], at: usize, negative: bool, n: usize, w: u64) -> Rea
     let end = digits.end;
     let f = end - at;
     if n + f == 0 {
-        return Reading::NotANumber;
+        return Err(NumberFault::NotANumber);
     }
     exponent_part(word, end, negative, digits.value, f)
 }
@@ -156,7 +152,7 @@ fn no_point(word: &[u8], at: usize, negative: bool, n: usize, w: u64) -> Reading
     ensures { result ≡ no_point negative n w (drop at word.now) }
 {
     if n == 0 {
-        return Reading::NotANumber;
+        return Err(NumberFault::NotANumber);
     }
     exponent_part(word, at, negative, w, 0)
 }
@@ -210,16 +206,14 @@ fn hex_digits(word: &[u8]) -> Reading
     ensures { result ≡ bits_after 0 (drop 2 word.now) }
 {
     let mut v: u32 = 0;
-    let mut i: usize = 2;
-    while i < word.len() {
+    for i in 2..word.len() {
         let d = hex_value(word[i]);
         if 16 <= d {
-            return Reading::NotANumber;
+            return Err(NumberFault::NotANumber);
         }
         v = v * 16 + d;
-        i += 1;
     }
-    Reading::Number(from_bits(v))
+    Ok(from_bits(v))
 }
 
 fn is_hex(word: &[u8]) -> bool
@@ -240,7 +234,7 @@ fn bits_word(word: &[u8]) -> Reading
     if word.len() == 10 {
         return hex_digits(word);
     }
-    Reading::NotANumber
+    Err(NumberFault::NotANumber)
 }
 
 // ---- words
@@ -266,7 +260,7 @@ fn unsigned(word: &[u8], at: usize, negative: bool) -> Reading
     ensures { result ≡ unsigned negative (drop at word.now) }
 {
     if is_inf(word, at) {
-        return signed(negative, 1.0 / 0.0);
+        return Ok(signed(negative, f32::INFINITY));
     }
     decimal_word(word, at, negative)
 }
@@ -276,7 +270,7 @@ pub fn read_number(word: &[u8]) -> Reading
     ensures { result ≡ reading_of word.now }
 {
     if word.len() == 0 {
-        return Reading::NotANumber;
+        return Err(NumberFault::NotANumber);
     }
     let b = word[0];
     if b == b'+' {

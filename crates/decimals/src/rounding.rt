@@ -16,6 +16,7 @@ fn quotient(n: [u32; 14], d: [u32; 14], most: u32) -> u32
 {
     let mut low: u32 = 0;
     let mut high = most;
+    // a `while`: each turn halves what is between the two
     while low + 1 < high {
         let middle = (low + high) / 2;
         if at_most(times(d, middle), n) {
@@ -61,6 +62,7 @@ fn dropped(n: [u32; 14], den: [u32; 14], guess: u32) -> u32
     ensures { result ≡ size (value n / value den) - 24 }
 {
     let mut k = start(n, den, guess);
+    // a `while`: only the test ends it
     while at_most(shifted(den, k + 24), n) {
         k += 1;
     }

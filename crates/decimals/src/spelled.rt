@@ -8,7 +8,7 @@ ghost use Rattle.decimals.specs.Words.{reading_of};
 ghost use Rattle.decimals.specs.Spelled.{tenths, Leaves, nine_of, digit_at, exponent_sign, exponent_size, nine_text, signed_text, nine_digits, reads_as, spelled_text, spelled};
 
 use crate::big::{at_most, natural, shifted, times, times_power};
-use crate::number::{Reading, read_number};
+use crate::number::read_number;
 use crate::rounding::nearest;
 use crate::text::number_text;
 use floats::bits::{Parts, parts_of, to_bits};
@@ -21,7 +21,7 @@ pub struct Nine {
     pub places: u32,
 }
 
-// A text at the left of 15 bytes.
+// A text at the left of 15 bytes, since the library takes no heap for a String and a slice would need a caller's bytes.
 #[derive(Clone, Copy)]
 pub struct Spelling {
     pub bytes: [u8; 15],
@@ -52,17 +52,14 @@ fn dropped(num: [u32; 14]) -> Divisor
 {
     let twice = times(num, 2);
     let mut den = shifted(natural(1), 96);
-    let mut places: u32 = 0;
-    while places < 83 {
-        if at_most(times(den, 1999999999), twice) {
-            let next = times(den, 10);
-            den = next;
-            places += 1;
-        } else {
+    for places in 0..83 {
+        if !at_most(times(den, 1999999999), twice) {
             return Divisor { den, places };
         }
+        let next = times(den, 10);
+        den = next;
     }
-    Divisor { den, places }
+    Divisor { den, places: 83 }
 }
 
 // The nine digits of a number of d·2^k units of 2^-149.
@@ -78,9 +75,8 @@ fn nine_of(d: u32, k: u32) -> Nine
     }
     let num = tenths(d, k);
     let by = dropped(num);
-    let den = by.den;
     Nine {
-        digits: nearest(num, den, 1000000000),
+        digits: nearest(num, by.den, 1000000000),
         places: by.places,
     }
 }
@@ -98,19 +94,17 @@ fn digit_at(n: u32, p: u32) -> u8
 fn exponent_sign(places: u32) -> u8
     ensures { result ≡ exponent_sign places }
 {
-    if places < 45 {
-        return b'-';
-    }
-    b'+'
+    if places < 45 { b'-' } else { b'+' }
 }
 
 fn exponent_size(places: u32) -> u32
     ensures { result ≡ exponent_size places }
 {
     if places < 45 {
-        return 45 - places;
+        45 - places
+    } else {
+        places - 45
     }
-    places - 45
 }
 
 fn nine_text(nine: Nine) -> [u8; 14]
@@ -182,13 +176,9 @@ fn reads_as(x: f32, text: Spelling) -> bool
     requires { text.len ≤ length text.bytes }
     ensures { result ≡ reads_as x (reading_of (take text.len text.bytes)) }
 {
-    let bytes = text.bytes;
-    let len = text.len;
-    let reading = read_number(&bytes[..len]);
-    match reading {
-        Reading::Number(y) => to_bits(y) == to_bits(x),
-        Reading::TooManyDigits => false,
-        Reading::NotANumber => false,
+    match read_number(&text.bytes[..text.len]) {
+        Ok(y) => to_bits(y) == to_bits(x),
+        Err(_) => false,
     }
 }
 

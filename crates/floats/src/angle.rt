@@ -39,8 +39,10 @@ fn series(w: u64) -> SeriesSum
     let u = w * w / UNIT;
     let mut p = w;
     let mut sum: u64 = 0;
-    let mut k: u64 = 0;
-    while k < TERMS && p != 0 {
+    for k in 0..TERMS {
+        if p == 0 {
+            return SeriesSum { sum, terms: k };
+        }
         let term = p / (2 * k + 1);
         if k % 2 == 0 {
             sum += term;
@@ -48,9 +50,8 @@ fn series(w: u64) -> SeriesSum
             sum -= term;
         }
         p = p * u / UNIT;
-        k += 1;
     }
-    SeriesSum { sum: sum, terms: k }
+    SeriesSum { sum, terms: TERMS }
 }
 
 // The same for any w: there is no sum above 1.
@@ -58,9 +59,10 @@ pub fn series_sum(w: u64) -> SeriesSum
     ensures { result ≡ series_sum_up_to w }
 {
     if w > UNIT {
-        return SeriesSum { sum: 0, terms: 0 };
+        SeriesSum { sum: 0, terms: 0 }
+    } else {
+        series(w)
     }
-    series(w)
 }
 
 // The angle whose tangent is t, both in units.
@@ -69,11 +71,9 @@ fn arc(t: u64) -> u64
     ensures { result ≡ arc t }
 {
     if t < UNIT / 2 {
-        let s = series(t);
-        s.sum
+        series(t).sum
     } else {
-        let s = series((UNIT - t) * UNIT / (UNIT + t));
-        EIGHTH_TURN - s.sum
+        EIGHTH_TURN - series((UNIT - t) * UNIT / (UNIT + t)).sum
     }
 }
 
@@ -83,14 +83,8 @@ fn fold(steep: bool, obtuse: bool, a: u64) -> u64
     requires { a ≤ eighth_turn }
     ensures { result ≡ folded steep obtuse a }
 {
-    let mut b = a;
-    if steep {
-        b = QUARTER_TURN - b;
-    }
-    if obtuse {
-        b = HALF_TURN - b;
-    }
-    b
+    let b = if steep { QUARTER_TURN - a } else { a };
+    if obtuse { HALF_TURN - b } else { b }
 }
 
 // The smaller of two magnitudes over the larger.
@@ -136,13 +130,7 @@ fn near_zero(re: f32, im: f32, t: f32) -> bool
     requires { t ≡ tangent_of re im }
     ensures { result ≡ near_zero re im }
 {
-    if sign::sign_bit(re) {
-        return false;
-    }
-    if sign::abs(im) < sign::abs(re) {
-        return t < NEAR_ZERO;
-    }
-    false
+    !sign::sign_bit(re) && sign::abs(im) < sign::abs(re) && t < NEAR_ZERO
 }
 
 // A magnitude with a sign.

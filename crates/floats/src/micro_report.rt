@@ -4,6 +4,7 @@ ghost use Rattle.floats.specs.MicroReport.{half_even, whole_or_over, micro_repor
 
 use crate::bits::{Parts, parts_of};
 
+// No Result: Over and Nan are reports, not failures.
 #[derive(Clone, Copy)]
 pub enum MicroReport {
     Whole(i32),

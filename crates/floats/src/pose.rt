@@ -16,11 +16,9 @@ impl Pose {
     pub fn mul(self, rhs: Pose) -> Pose
         ensures { result ≡ pose_product_of self rhs }
     {
-        let rotation = self.rotation;
-        let turned = rotation.rotate(rhs.translation);
         Pose {
-            rotation: rotation.mul(rhs.rotation),
-            translation: turned.add(self.translation),
+            rotation: self.rotation.mul(rhs.rotation),
+            translation: self.rotation.rotate(rhs.translation).add(self.translation),
         }
     }
 }

@@ -18,11 +18,10 @@ pub struct Clamped {
     pub side: Side,
 }
 
-// Rattle has no name for it.
 pub fn infinity() -> f32
     ensures { result ≡ inf false }
 {
-    1.0 / 0.0
+    f32::INFINITY
 }
 
 pub fn max(a: f32, b: f32) -> f32

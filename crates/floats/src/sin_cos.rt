@@ -61,27 +61,23 @@ fn nearest(negative: bool, n: u32) -> f32
 fn quarter_pair(negative: bool, q: u64, c: u32, s: u32) -> Rotation
     ensures { result ≡ quarter_pair negative q c s }
 {
-    if q == 0 {
-        return Rotation {
+    match q {
+        0 => Rotation {
             re: nearest(false, c),
             im: nearest(negative, s),
-        };
-    }
-    if q == 1 {
-        return Rotation {
+        },
+        1 => Rotation {
             re: nearest(true, s),
             im: nearest(negative, c),
-        };
-    }
-    if q == 2 {
-        return Rotation {
+        },
+        2 => Rotation {
             re: nearest(true, c),
             im: nearest(!negative, s),
-        };
-    }
-    Rotation {
-        re: nearest(false, s),
-        im: nearest(!negative, c),
+        },
+        _ => Rotation {
+            re: nearest(false, s),
+            im: nearest(!negative, c),
+        },
     }
 }
 
@@ -102,10 +98,8 @@ fn doubled(d: u32, j: u32) -> u64
     ensures { result ≡ d * 2 ^ j % turn }
 {
     let mut w = d as u64;
-    let mut i: u32 = 0;
-    while i < j {
+    for _ in 0..j {
         w = w * 2 % TURN;
-        i += 1;
     }
     w
 }

@@ -14,6 +14,7 @@ fn isqrt(n: u64) -> u64
 {
     let mut low: u64 = 0;
     let mut high: u64 = 33554432;
+    // a `while`: each turn halves what is between the two
     while low + 1 < high {
         let middle = (low + high) / 2;
         if middle * middle <= n {

@@ -64,6 +64,7 @@ impl Vector {
             y: self.y * rhs.y,
         }
     }
+
     // The root of the vector's dot with itself.
     pub fn simd_length(self) -> f32
         ensures { result ≡ length_of self }

@@ -1,6 +1,6 @@
 -- A table that is granted: each of its records has a joint and an axis that are there and numbers that are small enough (`granted-fit`), its records
--- do not depend on the number of joints (`same-records`), and a second walk over its bytes meets these records alone (`next-record`, `not-broken`, `not-other`). A table is granted or refused with 13, 14 or 15 (`refusal-cases`).
-use Rattle.std.proofs.Common.{◌≡◌, ℕ, zero, suc, ◌+◌, ◌-◌, ◌<◌, ◌≤◌, Bool, true, false, cond, not, ◌&&◌, eqb, ltb, leb, ◌≢◌, List, [], ◌∷◌, length, drop, sym, refl, ap, ◌∙◌, subst, arith, ltb-false, ltb-true, eqb-true, leb-true}
+-- do not depend on the number of joints (`same-records`), and a second walk over its bytes meets these records alone (`next-record`, `not-faulty`). A table is granted or refused with 13, 14 or 15 (`refusal-cases`).
+use Rattle.std.proofs.Common.{◌≡◌, ℕ, zero, suc, ◌+◌, ◌-◌, ◌<◌, ◌≤◌, Bool, true, false, cond, not, ◌&&◌, eqb, ltb, leb, ◌≢◌, List, [], ◌∷◌, length, drop, sym, refl, ap, ◌∙◌, subst, arith, ltb-false, ltb-true, eqb-true, leb-true, Result, Ok, Err}
 use mathlib.Core.Bool.{false≢true}
 use mathlib.Core.Option.{Option, none, some}
 use borrow.Author.Tests.{eqb-false}
@@ -14,8 +14,10 @@ use Rattle.motor_table.specs.Tables.Table.{granted, refused}
 use Rattle.motor_table.specs.declared.whole_number.Number.{Number}
 use Rattle.motor_table.specs.declared.record.Entry.{Entry}
 use Rattle.motor_table.specs.declared.record.RecordRead.{RecordRead}
-use Rattle.motor_table.specs.declared.table.TableAnswer.{TableAnswer}
-use Rattle.motor_table.proofs.TableLaws.{turn, table-turn, answer-end, answer-full, answer-next, answer-absent, answer-broken, answer-no-numbers}
+use Rattle.motor_table.specs.Refusals.{refusal_number}
+use Rattle.motor_table.specs.declared.refusal.TableRefusal.{TableRefusal}
+use Rattle.motor_table.specs.declared.refusal.TableRefusal.TheVariants.{Broken, NotThreeNumbers, Absent}
+use Rattle.motor_table.proofs.TableLaws.{turn, table-turn, answer-end, answer-full, answer-next, answer-absent, answer-faulty}
 
 by_cases : {P : Type 0} (t : Bool) → (t ≡ true → P) → (t ≡ false → P) → P
 by_cases true f g = f refl
@@ -28,8 +30,8 @@ both false b e = absurd (false≢true e)
 not_some : {A P : Type 0} (x : A) → ◌≡◌ {A = Option A} none (some x) → P
 not_some x h = let z : true ≡ false = cc in absurd (false≢true (sym z))
 
-not-refused : {P : Type 0} (k n : ℕ) → TableAnswer.Refused k ≡ TableAnswer.Granted n → P
-not-refused k n h = let z : true ≡ false = cc in absurd (false≢true (sym z))
+not-refused : {P : Type 0} (r : TableRefusal) (n : ℕ) → ◌≡◌ {A = Result ℕ TableRefusal} (Err r) (Ok n) → P
+not-refused r n h = let z : true ≡ false = cc in absurd (false≢true (sym z))
 
 -- ---- the numbers of a refusal
 
@@ -39,7 +41,7 @@ module _ (P : ℕ → Type 0) (none-fails : P 0) (breaks : P 13) (no-numbers : P
   after-cases e (granted es) h = h
   after-cases e (refused k) h = h
 
-  present-cases : (b : Bool) (e : Entry) (t : Table) → P (table_refusal t) → P (table_refusal (cond b (after e t) (refused 15)))
+  present-cases : (b : Bool) (e : Entry) (t : Table) → P (table_refusal t) → P (table_refusal (cond b (after e t) (refused Absent)))
   unfolding table_refusal
   present-cases true e t h = after-cases e t h
   present-cases false e t h = absent
@@ -55,14 +57,14 @@ module _ (P : ℕ → Type 0) (none-fails : P 0) (breaks : P 13) (no-numbers : P
   empty-cases (b ∷ bs) t h = h
 
   parsed-cases : (left : ℕ) → ((rest : List ℕ) → P (table_refusal (read_from joints left rest))) → (p : Parsed)
-      → P (table_refusal (elim p [ broken ↦ refused 13 | fields f fs rest ↦ checked joints (three_numbers (f ∷ fs)) (read_from joints left rest) ]))
+      → P (table_refusal (elim p [ broken ↦ refused Broken | fields f fs rest ↦ checked joints (three_numbers (f ∷ fs)) (read_from joints left rest) ]))
   unfolding table_refusal
   parsed-cases left later broken = breaks
   parsed-cases left later (fields f fs rest) = checked-cases (three_numbers (f ∷ fs)) (read_from joints left rest) (later rest)
 
   pub refusal-cases : (left : ℕ) (bs : List ℕ) → P (table_refusal (read_from joints left bs))
   unfolding table_refusal read_from
-  refusal-cases zero bs = empty-cases bs (refused 13) breaks
+  refusal-cases zero bs = empty-cases bs (refused Broken) breaks
   refusal-cases (suc left) bs = empty-cases bs _ (parsed-cases left (λ rest. refusal-cases left rest) (first_record bs))
 
 -- ---- the records of a table that is granted
@@ -121,10 +123,16 @@ three-small (a ∷ b ∷ []) e h = not_some e h
 three-small (a ∷ b ∷ c ∷ []) e h = entry-small (whole_number a) (whole_number b) (whole_number c) e (whole-small c) h
 three-small (a ∷ b ∷ c ∷ d ∷ more) e h = not_some e h
 
--- what is so of a table that is granted, and that no refusal has the number 0
+-- no refusal has the number 0
+numbered : (r : TableRefusal) → refusal_number r ≢ 0
+numbered Broken = omega arith
+numbered NotThreeNumbers = omega arith
+numbered Absent = omega arith
+
+-- what is so of a table that is granted
 abbrev TableFits : ℕ → Table → Type 0
 TableFits joints (granted es) = AllFit joints es
-TableFits joints (refused k) = k ≢ 0
+TableFits joints (refused r) = Unit
 
 module _ (joints : ℕ) where
   after-fits : (e : Entry) (t : Table) → Fits joints e → TableFits joints t → TableFits joints (after e t)
@@ -132,13 +140,13 @@ module _ (joints : ℕ) where
   after-fits e (granted es) f h = (f, h)
   after-fits e (refused k) f h = h
 
-  present-fits : (b : Bool) (e : Entry) (t : Table) → (b ≡ true → Fits joints e) → TableFits joints t → TableFits joints (cond b (after e t) (refused 15))
+  present-fits : (b : Bool) (e : Entry) (t : Table) → (b ≡ true → Fits joints e) → TableFits joints t → TableFits joints (cond b (after e t) (refused Absent))
   present-fits true e t f h = after-fits e t (f refl) h
-  present-fits false e t f h = omega arith
+  present-fits false e t f h = tt
 
   checked-fits : (o : Option Entry) (t : Table) → ((e : Entry) → o ≡ some e → e.thousandths.size ≤ largest_size) → TableFits joints t → TableFits joints (checked joints o t)
   unfolding checked
-  checked-fits none t f h = omega arith
+  checked-fits none t f h = tt
   checked-fits (some e) t f h =
       present-fits (is_present joints e) e t
       (λ p. let q = present-parts joints e p in record { joint = q.0; axis = q.1; thousandths = f e refl }) h
@@ -149,13 +157,13 @@ module _ (joints : ℕ) where
   empty-fits (b ∷ bs) t h = h
 
   parsed-fits : (left : ℕ) → ((rest : List ℕ) → TableFits joints (read_from joints left rest)) → (p : Parsed)
-      → TableFits joints (elim p [ broken ↦ refused 13 | fields f fs rest ↦ checked joints (three_numbers (f ∷ fs)) (read_from joints left rest) ])
-  parsed-fits left later broken = omega arith
+      → TableFits joints (elim p [ broken ↦ refused Broken | fields f fs rest ↦ checked joints (three_numbers (f ∷ fs)) (read_from joints left rest) ])
+  parsed-fits left later broken = tt
   parsed-fits left later (fields f fs rest) = checked-fits (three_numbers (f ∷ fs)) (read_from joints left rest) (three-small (f ∷ fs)) (later rest)
 
   table_fits : (left : ℕ) (bs : List ℕ) → TableFits joints (read_from joints left bs)
   unfolding read_from
-  table_fits zero bs = empty-fits bs (refused 13) (omega arith)
+  table_fits zero bs = empty-fits bs (refused Broken) tt
   table_fits (suc left) bs = empty-fits bs _ (parsed-fits left (λ rest. table_fits left rest) (first_record bs))
 
   -- the table's records, where it has no refusal
@@ -167,22 +175,22 @@ module _ (joints : ℕ) where
   fits-granted : (t : Table) → TableFits joints t → table_refusal t ≡ 0 → Granted t
   unfolding table_refusal
   fits-granted (granted es) f h = record { records = es; holds = refl; fit = f }
-  fits-granted (refused k) f h = absurd (f h)
+  fits-granted (refused r) f h = absurd (numbered r h)
 
   -- by the program's answer
-  answer-number : (t : Table) → TableFits joints t → (n k : ℕ) → table_answer n t ≡ TableAnswer.Refused k → (k ≡ table_refusal t) × (k ≢ 0)
+  answer-number : (t : Table) (n : ℕ) (r : TableRefusal) → table_answer n t ≡ Err r → (refusal_number r ≡ table_refusal t) × (refusal_number r ≢ 0)
   unfolding table_refusal table_answer
-  answer-number (granted es) f n k h = not-refused k (n + length es) (sym h)
-  answer-number (refused r) f n k h = let same : r ≡ k = cc in (sym same, subst (λ (x : ℕ). x ≢ 0) same f)
+  answer-number (granted es) n r h = not-refused r (n + length es) (sym h)
+  answer-number (refused q) n r h = let same : q ≡ r = cc in (ap refusal_number (sym same), numbered r)
 
-  pub answer-refused : (left : ℕ) (bs : List ℕ) (n k : ℕ) → table_answer n (read_from joints left bs) ≡ TableAnswer.Refused k
-      → (k ≡ table_refusal (read_from joints left bs)) × (k ≢ 0)
-  answer-refused left bs n k h = answer-number (read_from joints left bs) (table_fits left bs) n k h
+  pub answer-refused : (left : ℕ) (bs : List ℕ) (n : ℕ) (r : TableRefusal) → table_answer n (read_from joints left bs) ≡ Err r
+      → (refusal_number r ≡ table_refusal (read_from joints left bs)) × (refusal_number r ≢ 0)
+  answer-refused left bs n r h = answer-number (read_from joints left bs) n r h
 
-  pub answer-granted : (t : Table) (n c : ℕ) → table_answer n t ≡ TableAnswer.Granted c → table_refusal t ≡ 0
+  pub answer-granted : (t : Table) (n c : ℕ) → table_answer n t ≡ Ok c → table_refusal t ≡ 0
   unfolding table_refusal table_answer
   answer-granted (granted es) n c h = refl
-  answer-granted (refused k) n c h = not-refused k c h
+  answer-granted (refused r) n c h = not-refused r c h
 
   pub granted-fit : (left : ℕ) (bs : List ℕ) → table_refusal (read_from joints left bs) ≡ 0 → Granted (read_from joints left bs)
   granted-fit left bs h = fits-granted (read_from joints left bs) (table_fits left bs) h
@@ -201,7 +209,7 @@ module _ (joints joints' : ℕ) where
   after_same e (granted es) (refused k) h = tt
   after_same e (refused k) t h = tt
 
-  present-same : (b b' : Bool) (e : Entry) (t t' : Table) → SameRecords t t' → SameRecords (cond b (after e t) (refused 15)) (cond b' (after e t') (refused 15))
+  present-same : (b b' : Bool) (e : Entry) (t t' : Table) → SameRecords t t' → SameRecords (cond b (after e t) (refused Absent)) (cond b' (after e t') (refused Absent))
   unfolding after
   present-same true true e t t' h = after_same e t t' h
   present-same true false e (granted es) t' h = tt
@@ -219,14 +227,14 @@ module _ (joints joints' : ℕ) where
   empty-same (b ∷ bs) t t' h = h
 
   parsed-same : (left : ℕ) → ((rest : List ℕ) → SameRecords (read_from joints left rest) (read_from joints' left rest)) → (p : Parsed)
-      → SameRecords (elim p [ broken ↦ refused 13 | fields f fs rest ↦ checked joints (three_numbers (f ∷ fs)) (read_from joints left rest) ])
-      (elim p [ broken ↦ refused 13 | fields f fs rest ↦ checked joints' (three_numbers (f ∷ fs)) (read_from joints' left rest) ])
+      → SameRecords (elim p [ broken ↦ refused Broken | fields f fs rest ↦ checked joints (three_numbers (f ∷ fs)) (read_from joints left rest) ])
+      (elim p [ broken ↦ refused Broken | fields f fs rest ↦ checked joints' (three_numbers (f ∷ fs)) (read_from joints' left rest) ])
   parsed-same left later broken = tt
   parsed-same left later (fields f fs rest) = checked-same (three_numbers (f ∷ fs)) (read_from joints left rest) (read_from joints' left rest) (later rest)
 
   table_same : (left : ℕ) (bs : List ℕ) → SameRecords (read_from joints left bs) (read_from joints' left bs)
   unfolding read_from
-  table_same zero bs = empty-same bs (refused 13) (refused 13) tt
+  table_same zero bs = empty-same bs (refused Broken) (refused Broken) tt
   table_same (suc left) bs = empty-same bs _ _ (parsed-same left (λ rest. table_same left rest) (first_record bs))
 
   pub same-records : (left : ℕ) (bs : List ℕ) (es fs : List Entry) → read_from joints left bs ≡ granted es → read_from joints' left bs ≡ granted fs → es ≡ fs
@@ -238,56 +246,52 @@ pub granted-after : (e : Entry) (es : List Entry) → after e (granted es) ≡ g
 unfolding after
 granted-after e es = refl
 
-pub granted-count : (k n : ℕ) (es : List Entry) → table_answer k (granted es) ≡ TableAnswer.Granted n → k + length es ≡ n
+pub granted-count : (k n : ℕ) (es : List Entry) → table_answer k (granted es) ≡ Ok n → k + length es ≡ n
 unfolding table_answer
 granted-count k n es h = cc
 
-pub refused-never : (k n r : ℕ) → table_answer k (refused r) ≡ TableAnswer.Granted n → ⊥
+pub refused-never : (k n : ℕ) (r : TableRefusal) → table_answer k (refused r) ≡ Ok n → ⊥
 unfolding table_answer
 refused-never k n r h = let z : true ≡ false = cc in false≢true (sym z)
 
 -- ---- a second walk over a table that is granted, where i of its n records went before
 
-module _ (joints m n i : ℕ) (s : List ℕ) (at : ℕ) (all : table_answer i (read_from joints (m - i) (drop at s)) ≡ TableAnswer.Granted n) where
+module _ (joints m n i : ℕ) (s : List ℕ) (at : ℕ) (all : table_answer i (read_from joints (m - i) (drop at s)) ≡ Ok n) where
   -- while there are records left there are bytes left, and fewer than m records went before
   pub bytes_left : i < n → at < length s
   bytes_left h = by_cases (ltb at (length s)) (λ t. ltb-true at (length s) t)
       (λ t.
-      let e : TableAnswer.Granted i ≡ TableAnswer.Granted n = sym (answer-end joints m i s at (ltb-false at (length s) t)) ∙ all in
+      let e : ◌≡◌ {A = Result ℕ TableRefusal} (Ok i) (Ok n) = sym (answer-end joints m i s at (ltb-false at (length s) t)) ∙ all in
       let same : i ≡ n = cc in
       absurd (omega arith))
 
   pub not_full : i ≤ m → i < n → i < m
   not_full l h = by_cases (eqb i m)
       (λ t.
-      not-refused 13 n (sym (answer-full joints m i s at (bytes_left h) (eqb-true i m t)) ∙ all))
+      not-refused Broken n (sym (answer-full joints m i s at (bytes_left h) (eqb-true i m t)) ∙ all))
       (λ t. let ne = eqb-false i m t in omega arith)
 
   module _ (l : i ≤ m) (h : i < n) where
-    pub not-broken : read_at s at ≡ RecordRead.Broken → ⊥
-    not-broken q =
-        not-refused 13 n (sym (answer-broken joints m i s at (bytes_left h) (not_full l h) q) ∙ all)
+    pub not-faulty : (f : TableRefusal) → read_at s at ≡ Err f → ⊥
+    not-faulty f q =
+        not-refused f n (sym (answer-faulty joints m i s at (bytes_left h) (not_full l h) f q) ∙ all)
 
-    pub not-other : read_at s at ≡ RecordRead.NotThreeNumbers → ⊥
-    not-other q =
-        not-refused 14 n (sym (answer-no-numbers joints m i s at (bytes_left h) (not_full l h) q) ∙ all)
-
-    module _ (e : Entry) (next : ℕ) (q : read_at s at ≡ RecordRead.Record e next) where
-      pub is-there : is_present joints e ≡ true
-      is-there = by_cases (is_present joints e) (λ t. t)
+    module _ (r : RecordRead) (q : read_at s at ≡ Ok r) where
+      pub is-there : is_present joints r.entry ≡ true
+      is-there = by_cases (is_present joints r.entry) (λ t. t)
           (λ t.
-          not-refused 15 n (sym (answer-absent joints m i s at (bytes_left h) (not_full l h) e next q t) ∙ all))
+          not-refused Absent n (sym (answer-absent joints m i s at (bytes_left h) (not_full l h) r q t) ∙ all))
 
       -- the table from here on is this record and the table from the next position on
-      pub next-record : read_from joints (m - i) (drop at s) ≡ after e (read_from joints (m - (i + 1)) (drop next s))
+      pub next-record : read_from joints (m - i) (drop at s) ≡ after r.entry (read_from joints (m - (i + 1)) (drop r.next s))
       unfolding turn
       next-record =
-          let r = not_full l h in
+          let room = not_full l h in
           let z : m - i ≡ suc (m - (i + 1)) = omega arith in
           ap (λ (k : ℕ). read_from joints k (drop at s)) z
           ∙ table-turn joints (m - (i + 1)) s at (bytes_left h)
           ∙ ap (turn joints (m - (i + 1)) s) q
-          ∙ ap (λ (t : Bool). cond t (after e (read_from joints (m - (i + 1)) (drop next s))) (refused 15)) is-there
+          ∙ ap (λ (t : Bool). cond t (after r.entry (read_from joints (m - (i + 1)) (drop r.next s))) (refused Absent)) is-there
 
-      pub next-answer : table_answer (i + 1) (read_from joints (m - (i + 1)) (drop next s)) ≡ TableAnswer.Granted n
-      next-answer = sym (answer-next joints m i s at (bytes_left h) (not_full l h) e next q is-there) ∙ all
+      pub next-answer : table_answer (i + 1) (read_from joints (m - (i + 1)) (drop r.next s)) ≡ Ok n
+      next-answer = sym (answer-next joints m i s at (bytes_left h) (not_full l h) r q is-there) ∙ all

@@ -11,6 +11,7 @@ use Rattle.motor_table.specs.WholeNumber.{largest_size, is_sign, digits_after, s
 use Rattle.motor_table.specs.Records.{entry_of, three_numbers, is_present}
 use Rattle.motor_table.specs.Tables.{Table, most_records, after, checked, unless_empty, read_from, read_table}
 use Rattle.motor_table.specs.Tables.Table.{refused}
+use Rattle.motor_table.specs.declared.refusal.TableRefusal.TheVariants.{Broken, NotThreeNumbers, Absent}
 use Rattle.motor_table.specs.Text.{number_text, record_text, text_of, word_number, entry_at, entries_from, records_in, entries_of, is_sized, granting, table_of}
 use Rattle.motor_table.proofs.Textdata.{after-comma}
 use Rattle.motor_table.proofs.NumberLaws.{is_digit_lem, digit-no-sign}
@@ -233,7 +234,7 @@ num t n = cond t (some n) none
 
 tests : (joints : ℕ) (e : Entry) (later : Table) (a b c : Bool)
     → checked joints (entry_of (num a e.joint) (num b e.axis) (num c e.thousandths)) later
-    ≡ cond (a && b && c) (cond (is_present joints e) (after e later) (refused 15)) (refused 14)
+    ≡ cond (a && b && c) (cond (is_present joints e) (after e later) (refused Absent)) (refused NotThreeNumbers)
 unfolding checked entry_of
 tests joints e later true true true = refl
 tests joints e later true true false = refl
@@ -246,7 +247,7 @@ tests joints e later false false false = refl
 
 numbers-back : (joints : ℕ) (e : Entry) (later : Table) → PlainEntry e
     → checked joints (three_numbers (number_text e.joint ∷ number_text e.axis ∷ number_text e.thousandths ∷ [])) later
-    ≡ cond (is_sized e) (cond (is_present joints e) (after e later) (refused 15)) (refused 14)
+    ≡ cond (is_sized e) (cond (is_present joints e) (after e later) (refused Absent)) (refused NotThreeNumbers)
 unfolding three_numbers
 numbers-back joints e later h =
     ap (λ (x : Option Number). checked joints (entry_of x (whole_number (number_text e.axis)) (whole_number (number_text e.thousandths))) later) (text-back e.joint h.joint)
@@ -266,14 +267,14 @@ record-some e = omega (arith, record-length e)
 pub reads-back : (joints left : ℕ) (es : List Entry) → PlainTable es → read_from joints left (text_of es) ≡ granting joints left es
 unfolding text_of granting PlainTable read_from
 reads-back joints left [] h = no_bytes joints left
-reads-back joints zero (e ∷ es) h = some_bytes (record_text e) (text_of es) (refused 13) (record-some e)
+reads-back joints zero (e ∷ es) h = some_bytes (record_text e) (text_of es) (refused Broken) (record-some e)
 reads-back joints (suc left) (e ∷ es) h =
     some_bytes (record_text e) (text_of es) _ (record-some e)
     ∙ ap
-    (λ (p : Parsed). elim p [ broken ↦ refused 13 | fields f fs rest ↦ checked joints (three_numbers (f ∷ fs)) (read_from joints left rest) ])
+    (λ (p : Parsed). elim p [ broken ↦ refused Broken | fields f fs rest ↦ checked joints (three_numbers (f ∷ fs)) (read_from joints left rest) ])
     (record-back e (text_of es))
     ∙ numbers-back joints e (read_from joints left (text_of es)) h.0
-    ∙ ap (λ (t : Table). cond (is_sized e) (cond (is_present joints e) (after e t) (refused 15)) (refused 14)) (reads-back joints left es h.1)
+    ∙ ap (λ (t : Table). cond (is_sized e) (cond (is_present joints e) (after e t) (refused Absent)) (refused NotThreeNumbers)) (reads-back joints left es h.1)
 
 -- ---- tables of words
 

@@ -1,6 +1,6 @@
 -- A record read in one pass (Scan) is the record that the grammar and the numbers say: `scan-is-read`. The other laws are a loop's
 -- turns: a byte more, the record's end, a fault, the end of the bytes.
-use Rattle.std.proofs.Common.{◌≡◌, ℕ, suc, ◌+◌, ◌-◌, ◌<◌, ◌≤◌, Bool, true, false, cond, ◌&&◌, List, [], ◌∷◌, length, get_or, drop, sym, refl, ap, ◌∙◌, add-one, arith, length-drop, drop_of_length-le, drop-cons}
+use Rattle.std.proofs.Common.{◌≡◌, ℕ, suc, ◌+◌, ◌-◌, ◌<◌, ◌≤◌, Bool, true, false, cond, ◌&&◌, List, [], ◌∷◌, length, get_or, drop, sym, refl, ap, ◌∙◌, add-one, arith, length-drop, drop_of_length-le, drop-cons, Result, Ok, Err}
 use mathlib.Core.Option.{Option, none, some}
 use native.Mathlib.Nat.{sub-zero}
 use Rattle.motor_table.specs.Rfc4180.{Parsed, move_at, may_end, with_byte, with_field, record_from, first_record}
@@ -17,6 +17,8 @@ use Rattle.motor_table.specs.declared.record.Fields.{Fields}
 use Rattle.motor_table.specs.declared.record.Scan.{Scan}
 use Rattle.motor_table.specs.declared.record.Step.{Step}
 use Rattle.motor_table.specs.declared.record.RecordRead.{RecordRead}
+use Rattle.motor_table.specs.declared.refusal.TableRefusal.{TableRefusal}
+use Rattle.motor_table.specs.declared.refusal.TableRefusal.TheVariants.{Broken, NotThreeNumbers}
 
 -- ---- one pass and the fields' bytes
 
@@ -25,8 +27,8 @@ close_all e [] = e
 close_all e (g ∷ gs) = close_all (close_of e (push_all empty_field g)) gs
 
 -- what a scan comes to from what is left of the record's bytes, in a text of n bytes
-result : ℕ → Fields → Field → Parsed → RecordRead
-result n e f broken = RecordRead.Broken
+result : ℕ → Fields → Field → Parsed → Result RecordRead TableRefusal
+result n e f broken = Err Broken
 result n e f (fields g gs rest) = finish_of (close_all (close_of e (push_all f g)) gs) (n - length rest)
 
 result-byte : (n : ℕ) (e : Fields) (f : Field) (b : ℕ) (p : Parsed) → result n e f (with_byte b p) ≡ result n e (push_of f b) p
@@ -40,7 +42,7 @@ result-field n e f (fields g gs rest) = refl
 result-field n e f broken = refl
 
 at-end : (n : ℕ) (e : Fields) (f : Field) (t : Bool)
-    → cond t (finish_of (close_of e f) n) RecordRead.Broken ≡ result n e f (cond t (fields [] [] []) broken)
+    → cond t (finish_of (close_of e f) n) (Err Broken) ≡ result n e f (cond t (fields [] [] []) broken)
 unfolding result push_all close_all
 at-end n e f true = ap (finish_of (close_of e f)) (sym (sub-zero n))
 at-end n e f false = refl
@@ -51,7 +53,7 @@ scan p f e = record { place = p; field = f; ended = e }
 module _ (n : ℕ) (f : Field) (e : Fields) (b : ℕ) (bs : List ℕ)
     (later : (q : Place) (g : Field) (d : Fields) → scan_from n (scan q g d) bs ≡ result n d g (record_from q bs)) where
   scan-move : (p : Place) (m : Move)
-      → (elim (moved_of (scan p f e) b m) [ Step.Going t ↦ scan_from n t bs | Step.Ended x ↦ finish_of x (n - length bs) | Step.Fault ↦ RecordRead.Broken ])
+      → (elim (moved_of (scan p f e) b m) [ Step.Going t ↦ scan_from n t bs | Step.Ended x ↦ finish_of x (n - length bs) | Step.Fault ↦ Err Broken ])
       ≡ result n e f
       (elim m [
         | Move.Take q ↦ with_byte b (record_from q bs)
@@ -78,7 +80,7 @@ scan-result n p f e (b ∷ bs) = scan-move n f e b bs (λ q g d. scan-result n q
 abbrev fields-of : ℕ → Field → Field → Field → Fields
 fields-of n a b c = record { count = n; joint = a; axis = b; thousandths = c }
 
-too_many : (next : ℕ) (a b c : Field) (gs : List (List ℕ)) → finish_of (close_all (fields-of 4 a b c) gs) next ≡ RecordRead.NotThreeNumbers
+too_many : (next : ℕ) (a b c : Field) (gs : List (List ℕ)) → finish_of (close_all (fields-of 4 a b c) gs) next ≡ Err NotThreeNumbers
 unfolding close_all finish_of close_of
 too_many next a b c [] = refl
 too_many next a b c (g ∷ gs) = too_many next a b c gs
@@ -93,8 +95,8 @@ three n rest a b c = go (is_number a) (is_number b) (is_number c)
   where
     go : (x y z : Bool)
         → cond (x && y && z)
-        (RecordRead.Record (record { joint = number_in a; axis = number_in b; thousandths = number_in c }) (n - length rest))
-        RecordRead.NotThreeNumbers
+        (Ok (record { entry = record { joint = number_in a; axis = number_in b; thousandths = number_in c }; next = n - length rest }))
+        (Err NotThreeNumbers)
         ≡ read_numbers n rest (entry_of (num x a) (num y b) (num z c))
     go true true true = refl
     go true true false = refl
@@ -135,7 +137,7 @@ module _ (s : List ℕ) (i : ℕ) (v : Scan) (below : i < length s) where
       ≡ (elim r [
         | Step.Going t ↦ scan_from (length s) t (drop (suc i) s)
         | Step.Ended e ↦ finish_of e (length s - length (drop (suc i) s))
-        | Step.Fault ↦ RecordRead.Broken
+        | Step.Fault ↦ Err Broken
       ])
   unfolding scan_from
   turn r h =
@@ -145,7 +147,7 @@ module _ (s : List ℕ) (i : ℕ) (v : Scan) (below : i < length s) where
       elim x [
         | Step.Going t ↦ scan_from (length s) t (drop (suc i) s)
         | Step.Ended e ↦ finish_of e (length s - length (drop (suc i) s))
-        | Step.Fault ↦ RecordRead.Broken
+        | Step.Fault ↦ Err Broken
       ])
       h
 
@@ -156,7 +158,7 @@ module _ (s : List ℕ) (i : ℕ) (v : Scan) (below : i < length s) where
   scan-ended e h =
       turn (Step.Ended e) h ∙ ap (finish_of e) (let l = length-drop (suc i) s in omega (arith, l))
 
-  pub scan-fault : step_of v (get_or s i 0) ≡ Step.Fault → scan_from (length s) v (drop i s) ≡ RecordRead.Broken
+  pub scan-fault : step_of v (get_or s i 0) ≡ Step.Fault → scan_from (length s) v (drop i s) ≡ Err Broken
   scan-fault h = turn Step.Fault h
 
 pub scan-end : (s : List ℕ) (i : ℕ) (v : Scan) → length s ≤ i → scan_from (length s) v (drop i s) ≡ end_of (length s) v
@@ -168,6 +170,6 @@ pub scan-stop : (s : List ℕ) (i : ℕ) (v : Scan) → length s ≤ i → may_e
 unfolding end_of
 scan-stop s i v h e = scan-end s i v h ∙ simp e
 
-pub scan-open : (s : List ℕ) (i : ℕ) (v : Scan) → length s ≤ i → may_end v.place ≡ false → scan_from (length s) v (drop i s) ≡ RecordRead.Broken
+pub scan-open : (s : List ℕ) (i : ℕ) (v : Scan) → length s ≤ i → may_end v.place ≡ false → scan_from (length s) v (drop i s) ≡ Err Broken
 unfolding end_of
 scan-open s i v h e = scan-end s i v h ∙ simp e

@@ -1,6 +1,6 @@
 -- A table record by record, for a walk over a slice: where a record starts at position `at` of s, what the table from there on is, by
 -- what `read_at` says of that record. `record-rest` is the law of positions: what follows the record is what stands at the next position.
-use Rattle.std.proofs.Common.{◌≡◌, ℕ, zero, suc, ◌+◌, ◌-◌, ◌<◌, ◌≤◌, Bool, true, false, cond, ltb, List, [], ◌∷◌, length, drop, sym, refl, ap, ◌∙◌, add-zero, arith, length-drop, drop_of_length-le, drop-drop, lt-ltb}
+use Rattle.std.proofs.Common.{◌≡◌, ℕ, zero, suc, ◌+◌, ◌-◌, ◌<◌, ◌≤◌, Bool, true, false, cond, List, [], ◌∷◌, length, drop, sym, refl, ap, ◌∙◌, add-zero, arith, length-drop, drop_of_length-le, drop-drop, Result, Ok, Err}
 use mathlib.Core.Option.{Option, none, some}
 use Rattle.motor_table.specs.Rfc4180.{Parsed, move_at, may_end, with_byte, with_field, record_from, first_record}
 use Rattle.motor_table.specs.Rfc4180.Parsed.{fields, broken}
@@ -11,7 +11,8 @@ use Rattle.motor_table.specs.declared.rfc4180.Place.{Place}
 use Rattle.motor_table.specs.declared.rfc4180.Move.{Move}
 use Rattle.motor_table.specs.declared.record.Entry.{Entry}
 use Rattle.motor_table.specs.declared.record.RecordRead.{RecordRead}
-use Rattle.motor_table.specs.declared.table.TableAnswer.{TableAnswer}
+use Rattle.motor_table.specs.declared.refusal.TableRefusal.{TableRefusal}
+use Rattle.motor_table.specs.declared.refusal.TableRefusal.TheVariants.{Broken, Absent}
 
 -- ---- what follows a record is the end of the bytes that it was read from
 
@@ -73,19 +74,12 @@ record-rest s at h (fields g gs rest') e f fs rest q =
     let next : length s - length rest ≡ at + e.0 = omega arith in
     there ∙ sym (ap (λ (n : ℕ). drop n s) next)
 
--- ---- the last of the tests of a record's joint and axis
-
-pub present-by-axis : (joints : ℕ) (e : Entry) → e.joint.negative ≡ false → e.joint.size < joints → e.axis.negative ≡ false
-    → ltb e.axis.size 3 ≡ is_present joints e
-present-by-axis joints e h k l = simp (h, lt-ltb _ _ k, l)
-
 -- ---- a walk over a slice
 
 -- the table from a record on, by what the record is: so many more may come after it
-unfoldable pub turn : ℕ → ℕ → List ℕ → RecordRead → Table
-turn joints left s (RecordRead.Record e next) = cond (is_present joints e) (after e (read_from joints left (drop next s))) (refused 15)
-turn joints left s RecordRead.Broken = refused 13
-turn joints left s RecordRead.NotThreeNumbers = refused 14
+unfoldable pub turn : ℕ → ℕ → List ℕ → Result RecordRead TableRefusal → Table
+turn joints left s (Ok r) = cond (is_present joints r.entry) (after r.entry (read_from joints left (drop r.next s))) (refused Absent)
+turn joints left s (Err f) = refused f
 
 more : (bs : List ℕ) (t : Table) → 0 < length bs → unless_empty bs t ≡ t
 unfolding unless_empty
@@ -100,10 +94,10 @@ turn-numbers : (joints left : ℕ) (s rest : List ℕ) → rest ≡ drop (length
 unfolding checked turn read_numbers
 turn-numbers joints left s rest h none = refl
 turn-numbers joints left s rest h (some e) =
-    ap (λ (l : List ℕ). cond (is_present joints e) (after e (read_from joints left l)) (refused 15)) h
+    ap (λ (l : List ℕ). cond (is_present joints e) (after e (read_from joints left l)) (refused Absent)) h
 
 turn-fields : (joints left : ℕ) (s : List ℕ) (at : ℕ) → at ≤ length s → (p : Parsed) → Ending (drop at s) p
-    → (elim p [ broken ↦ refused 13 | fields f fs rest ↦ checked joints (three_numbers (f ∷ fs)) (read_from joints left rest) ])
+    → (elim p [ broken ↦ refused Broken | fields f fs rest ↦ checked joints (three_numbers (f ∷ fs)) (read_from joints left rest) ])
     ≡ turn joints left s (read_fields (length s) p)
 unfolding turn read_fields
 turn-fields joints left s at h broken e = refl
@@ -118,7 +112,7 @@ table-turn joints left s at h =
     more (drop at s) _ (left_over s at h)
     ∙ turn-fields joints left s at (omega arith) (first_record (drop at s)) (ending Place.FieldStart (drop at s))
 
-pub table-full : (joints : ℕ) (s : List ℕ) (at : ℕ) → at < length s → read_from joints zero (drop at s) ≡ refused 13
+pub table-full : (joints : ℕ) (s : List ℕ) (at : ℕ) → at < length s → read_from joints zero (drop at s) ≡ refused Broken
 unfolding read_from
 table-full joints s at h = more (drop at s) _ (left_over s at h)
 
@@ -134,46 +128,42 @@ table-end joints left s at h = ap (read_from joints left) (drop_of_length-le s h
 
 answer-after : (n : ℕ) (e : Entry) (t : Table) → table_answer n (after e t) ≡ table_answer (n + 1) t
 unfolding after table_answer
-answer-after n e (granted es) = ap TableAnswer.Granted (omega arith)
+answer-after n e (granted es) = ap Ok (omega arith)
 answer-after n e (refused k) = refl
 
 module _ (joints m n : ℕ) (s : List ℕ) (at : ℕ) where
-  pub answer-end : length s ≤ at → table_answer n (read_from joints (m - n) (drop at s)) ≡ TableAnswer.Granted n
+  pub answer-end : length s ≤ at → table_answer n (read_from joints (m - n) (drop at s)) ≡ Ok n
   unfolding table_answer
-  answer-end h = ap (table_answer n) (table-end joints (m - n) s at h) ∙ ap TableAnswer.Granted (add-zero n)
+  answer-end h = ap (table_answer n) (table-end joints (m - n) s at h) ∙ ap Ok (add-zero n)
 
-  pub answer-full : at < length s → n ≡ m → table_answer n (read_from joints (m - n) (drop at s)) ≡ TableAnswer.Refused 13
+  pub answer-full : at < length s → n ≡ m → table_answer n (read_from joints (m - n) (drop at s)) ≡ Err Broken
   unfolding table_answer
   answer-full h e =
       let z : m - n ≡ 0 = omega arith in
       ap (λ (k : ℕ). table_answer n (read_from joints k (drop at s))) z ∙ ap (table_answer n) (table-full joints s at h)
 
   module _ (h : at < length s) (room : n < m) where
-    answer-turn : (r : RecordRead) → read_at s at ≡ r → table_answer n (read_from joints (m - n) (drop at s)) ≡ table_answer n (turn joints (m - (n + 1)) s r)
+    answer-turn : (r : Result RecordRead TableRefusal) → read_at s at ≡ r → table_answer n (read_from joints (m - n) (drop at s)) ≡ table_answer n (turn joints (m - (n + 1)) s r)
     answer-turn r e =
         let z : m - n ≡ suc (m - (n + 1)) = omega arith in
         ap (λ (k : ℕ). table_answer n (read_from joints k (drop at s))) z
         ∙ ap (table_answer n) (table-turn joints (m - (n + 1)) s at h ∙ ap (turn joints (m - (n + 1)) s) e)
 
-    pub answer-next : (e : Entry) (next : ℕ) → read_at s at ≡ RecordRead.Record e next → is_present joints e ≡ true
-        → table_answer n (read_from joints (m - n) (drop at s)) ≡ table_answer (n + 1) (read_from joints (m - (n + 1)) (drop next s))
+    pub answer-next : (r : RecordRead) → read_at s at ≡ Ok r → is_present joints r.entry ≡ true
+        → table_answer n (read_from joints (m - n) (drop at s)) ≡ table_answer (n + 1) (read_from joints (m - (n + 1)) (drop r.next s))
     unfolding turn
-    answer-next e next q p =
-        answer-turn (RecordRead.Record e next) q
-        ∙ ap (λ (t : Bool). table_answer n (cond t (after e (read_from joints (m - (n + 1)) (drop next s))) (refused 15))) p
-        ∙ answer-after n e (read_from joints (m - (n + 1)) (drop next s))
+    answer-next r q p =
+        answer-turn (Ok r) q
+        ∙ ap (λ (t : Bool). table_answer n (cond t (after r.entry (read_from joints (m - (n + 1)) (drop r.next s))) (refused Absent))) p
+        ∙ answer-after n r.entry (read_from joints (m - (n + 1)) (drop r.next s))
 
-    pub answer-absent : (e : Entry) (next : ℕ) → read_at s at ≡ RecordRead.Record e next → is_present joints e ≡ false
-        → table_answer n (read_from joints (m - n) (drop at s)) ≡ TableAnswer.Refused 15
+    pub answer-absent : (r : RecordRead) → read_at s at ≡ Ok r → is_present joints r.entry ≡ false
+        → table_answer n (read_from joints (m - n) (drop at s)) ≡ Err Absent
     unfolding turn table_answer
-    answer-absent e next q p =
-        answer-turn (RecordRead.Record e next) q
-        ∙ ap (λ (t : Bool). table_answer n (cond t (after e (read_from joints (m - (n + 1)) (drop next s))) (refused 15))) p
+    answer-absent r q p =
+        answer-turn (Ok r) q
+        ∙ ap (λ (t : Bool). table_answer n (cond t (after r.entry (read_from joints (m - (n + 1)) (drop r.next s))) (refused Absent))) p
 
-    pub answer-broken : read_at s at ≡ RecordRead.Broken → table_answer n (read_from joints (m - n) (drop at s)) ≡ TableAnswer.Refused 13
+    pub answer-faulty : (f : TableRefusal) → read_at s at ≡ Err f → table_answer n (read_from joints (m - n) (drop at s)) ≡ Err f
     unfolding turn table_answer
-    answer-broken q = answer-turn RecordRead.Broken q
-
-    pub answer-no-numbers : read_at s at ≡ RecordRead.NotThreeNumbers → table_answer n (read_from joints (m - n) (drop at s)) ≡ TableAnswer.Refused 14
-    unfolding turn table_answer
-    answer-no-numbers q = answer-turn RecordRead.NotThreeNumbers q
+    answer-faulty f q = answer-turn (Err f) q

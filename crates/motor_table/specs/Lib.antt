@@ -2,6 +2,7 @@ pub mod Rfc4180
 pub mod Grammar
 pub mod WholeNumber
 pub mod Records
+pub mod Refusals
 pub mod Scan
 pub mod Tables
 pub mod Text

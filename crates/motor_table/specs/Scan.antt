@@ -1,6 +1,6 @@
 -- How the program reads a record: in one pass, with a summary of the fields in place of their bytes. Nothing here need be
 -- believed: proofs/ScanLaws.antt shows that it comes to what Rfc4180, WholeNumber and Records say.
-use Rattle.std.specs.Prelude.{ℕ, ◌+◌, ◌-◌, ◌*◌, Bool, false, cond, ◌&&◌, List, [], ◌∷◌, length, ◌==◌, nat_le}
+use Rattle.std.specs.Prelude.{ℕ, ◌+◌, ◌-◌, ◌*◌, Bool, false, cond, ◌&&◌, List, [], ◌∷◌, length, ◌==◌, nat_le, Result, Ok, Err}
 use Rattle.motor_table.specs.Rfc4180.{move_at, may_end}
 use Rattle.texts.specs.Ascii.{MINUS}
 use Rattle.texts.specs.Digits.{is_digit}
@@ -15,6 +15,8 @@ use Rattle.motor_table.specs.declared.record.Fields.{Fields}
 use Rattle.motor_table.specs.declared.record.Scan.{Scan}
 use Rattle.motor_table.specs.declared.record.Step.{Step}
 use Rattle.motor_table.specs.declared.record.RecordRead.{RecordRead}
+use Rattle.motor_table.specs.declared.refusal.TableRefusal.{TableRefusal}
+use Rattle.motor_table.specs.declared.refusal.TableRefusal.TheVariants.{Broken, NotThreeNumbers}
 
 abbrev pub empty_field : Field
 empty_field = record { spelling = Nothing; minus = false; size = 0 }
@@ -67,11 +69,11 @@ close_of e f =
     (cond (e.count == 2) (record { count = 3; joint = e.joint; axis = e.axis; thousandths = f })
     (record { count = 4; joint = e.joint; axis = e.axis; thousandths = e.thousandths })))
 
-unfoldable pub finish_of : Fields → ℕ → RecordRead
+unfoldable pub finish_of : Fields → ℕ → Result RecordRead TableRefusal
 finish_of e next =
     cond (e.count == 3 && is_number e.joint && is_number e.axis && is_number e.thousandths)
-    (RecordRead.Record (record { joint = number_in e.joint; axis = number_in e.axis; thousandths = number_in e.thousandths }) next)
-    RecordRead.NotThreeNumbers
+    (Ok (record { entry = record { joint = number_in e.joint; axis = number_in e.axis; thousandths = number_in e.thousandths }; next = next }))
+    (Err NotThreeNumbers)
 
 abbrev pub start_scan : Scan
 start_scan = record { place = Place.FieldStart; field = empty_field; ended = start_fields }
@@ -87,11 +89,11 @@ abbrev pub step_of : Scan → ℕ → Step
 step_of s b = moved_of s b (move_at s.place b)
 
 -- the record's end at the end of the bytes, of which there are n
-unfoldable pub end_of : ℕ → Scan → RecordRead
-end_of n s = cond (may_end s.place) (finish_of (close_of s.ended s.field) n) RecordRead.Broken
+unfoldable pub end_of : ℕ → Scan → Result RecordRead TableRefusal
+end_of n s = cond (may_end s.place) (finish_of (close_of s.ended s.field) n) (Err Broken)
 
 -- what is left of a record, in a text of n bytes
-unfoldable pub scan_from : ℕ → Scan → List ℕ → RecordRead
+unfoldable pub scan_from : ℕ → Scan → List ℕ → Result RecordRead TableRefusal
 scan_from n s [] = end_of n s
 scan_from n s (b ∷ bs) =
-    elim (step_of s b) [ Step.Going t ↦ scan_from n t bs | Step.Ended e ↦ finish_of e (n - length bs) | Step.Fault ↦ RecordRead.Broken ]
+    elim (step_of s b) [ Step.Going t ↦ scan_from n t bs | Step.Ended e ↦ finish_of e (n - length bs) | Step.Fault ↦ Err Broken ]

@@ -1,6 +1,6 @@
 -- Writing a table (request R-6): records in as numbers, one spelling out, with no header, no quotes, no leading zeros or plus, a minus only
 -- before a nonzero number, and CRLF after each record.
-use Rattle.std.specs.Prelude.{ℕ, zero, suc, ◌+◌, ◌-◌, ◌*◌, ◌/◌, ◌^◌, Bool, true, false, cond, ◌&&◌, List, [], ◌∷◌, ◌++◌, length, nat_le, nat_lt, slice_index}
+use Rattle.std.specs.Prelude.{ℕ, zero, suc, ◌+◌, ◌-◌, ◌*◌, ◌/◌, ◌^◌, Bool, true, false, cond, ◌&&◌, List, [], ◌∷◌, ◌++◌, length, nat_le, nat_lt, slice_index, Result, Ok, Err, Some, None}
 use Rattle.texts.specs.Ascii.{COMMA, CR, LF, MINUS}
 use Rattle.texts.specs.Digits.{decimal}
 use Rattle.texts.specs.Written.{written}
@@ -10,7 +10,9 @@ use Rattle.motor_table.specs.Tables.{Table, most_records, after}
 use Rattle.motor_table.specs.Tables.Table.{granted, refused}
 use Rattle.motor_table.specs.declared.whole_number.Number.{Number}
 use Rattle.motor_table.specs.declared.record.Entry.{Entry}
-use Rattle.motor_table.specs.declared.text.Written.{Written}
+use Rattle.std.specs.declared.option.Option.{Option}
+use Rattle.motor_table.specs.declared.refusal.TableRefusal.{TableRefusal}
+use Rattle.motor_table.specs.declared.refusal.TableRefusal.TheVariants.{Broken, NotThreeNumbers, Absent}
 
 -- ---- the spelling
 
@@ -59,26 +61,26 @@ is_sized e = nat_le e.joint.size largest_size && nat_le e.axis.size largest_size
 
 unfoldable pub granting : ℕ → ℕ → List Entry → Table
 granting joints left [] = granted []
-granting joints zero (e ∷ es) = refused 13
+granting joints zero (e ∷ es) = refused Broken
 granting joints (suc left) (e ∷ es) =
-    cond (is_sized e) (cond (is_present joints e) (after e (granting joints left es)) (refused 15)) (refused 14)
+    cond (is_sized e) (cond (is_present joints e) (after e (granting joints left es)) (refused Absent)) (refused NotThreeNumbers)
 
 abbrev pub table_of : ℕ → List Entry → Table
 table_of joints es = granting joints most_records es
 
--- the number with which it is refused, or 0
-abbrev pub refusal_in : Table → ℕ
-refusal_in (granted es) = 0
-refusal_in (refused k) = k
+-- why it is refused, if it is
+abbrev pub refusal_in : Table → Option TableRefusal
+refusal_in (granted es) = None
+refusal_in (refused r) = Some r
 
 -- ---- what the writer answers and leaves
 
 -- the text's length, where n bytes went before, or the refusal
-unfoldable pub written_answer : ℕ → Table → Written
-written_answer n (granted es) = Written.Length (n + length (text_of es))
-written_answer n (refused k) = Written.Refused k
+unfoldable pub written_answer : ℕ → Table → Result ℕ TableRefusal
+written_answer n (granted es) = Ok (n + length (text_of es))
+written_answer n (refused r) = Err r
 
 -- the lent bytes afterwards: with the text, or all as it was where the table is refused
 unfoldable pub written_text : List ℕ → Table → List ℕ
 written_text out (granted es) = written out (text_of es)
-written_text out (refused k) = out
+written_text out (refused r) = out

@@ -4,6 +4,7 @@
 #![tactic(auto)]
 
 pub mod record;
+pub mod refusal;
 pub mod rfc4180;
 pub mod table;
 pub mod target;

@@ -3,6 +3,7 @@ ghost use Rattle.std.specs.Prelude.{◌≡◌};
 ghost use Rattle.motor_table.specs.Records.{is_present, read_at};
 ghost use Rattle.motor_table.specs.Scan.{start_fields, close_of, finish_of, start_scan, step_of};
 
+use crate::refusal::TableRefusal;
 use crate::rfc4180::{Move, Place, may_end, move_at};
 use crate::whole_number::{Field, Number, is_number, number_in, push};
 
@@ -17,13 +18,11 @@ pub struct Entry {
     pub thousandths: Number,
 }
 
+// The numbers of a record, and where the next record starts.
 #[derive(Clone, Copy)]
-pub enum RecordRead {
-    // the numbers, and where the next record starts
-    Record(Entry, usize),
-    // the bytes break the grammar
-    Broken,
-    NotThreeNumbers,
+pub struct RecordRead {
+    pub entry: Entry,
+    pub next: usize,
 }
 
 // The fields that have ended: how many, counted up to 4, and the first three.
@@ -53,14 +52,11 @@ impl Fields {
     fn none() -> Self
         ensures { result ≡ start_fields }
     {
-        let joint = Field::empty();
-        let axis = Field::empty();
-        let thousandths = Field::empty();
         Fields {
             count: 0,
-            joint,
-            axis,
-            thousandths,
+            joint: Field::empty(),
+            axis: Field::empty(),
+            thousandths: Field::empty(),
         }
     }
 }
@@ -68,101 +64,66 @@ impl Fields {
 fn close(ended: Fields, field: Field) -> Fields
     ensures { result ≡ close_of ended field }
 {
-    let joint = ended.joint;
-    let axis = ended.axis;
-    let thousandths = ended.thousandths;
-    let count = ended.count;
-    if count == 0 {
-        return Fields {
+    match ended.count {
+        0 => Fields {
             count: 1,
             joint: field,
-            axis,
-            thousandths,
-        };
-    }
-    if count == 1 {
-        return Fields {
+            ..ended
+        },
+        1 => Fields {
             count: 2,
-            joint,
             axis: field,
-            thousandths,
-        };
-    }
-    if count == 2 {
-        return Fields {
+            ..ended
+        },
+        2 => Fields {
             count: 3,
-            joint,
-            axis,
             thousandths: field,
-        };
-    }
-    Fields {
-        count: 4,
-        joint,
-        axis,
-        thousandths,
+            ..ended
+        },
+        _ => Fields { count: 4, ..ended },
     }
 }
 
-fn finish(ended: Fields, next: usize) -> RecordRead
+fn finish(ended: Fields, next: usize) -> Result<RecordRead, TableRefusal>
     ensures { result ≡ finish_of ended next }
 {
-    let joint = ended.joint;
-    let axis = ended.axis;
-    let thousandths = ended.thousandths;
-    let count = ended.count;
-    if count == 3 {
-        if is_number(joint) {
-            if is_number(axis) {
-                if is_number(thousandths) {
-                    let j = number_in(joint);
-                    let a = number_in(axis);
-                    let t = number_in(thousandths);
-                    return RecordRead::Record(
-                        Entry {
-                            joint: j,
-                            axis: a,
-                            thousandths: t,
-                        },
-                        next,
-                    );
+    if ended.count == 3 {
+        if is_number(ended.joint) {
+            if is_number(ended.axis) {
+                if is_number(ended.thousandths) {
+                    let entry = Entry {
+                        joint: number_in(ended.joint),
+                        axis: number_in(ended.axis),
+                        thousandths: number_in(ended.thousandths),
+                    };
+                    return Ok(RecordRead { entry, next });
                 }
             }
         }
     }
-    RecordRead::NotThreeNumbers
+    Err(TableRefusal::NotThreeNumbers)
 }
 
 fn advance(scan: Scan, b: u8) -> Step
     ensures { result ≡ step_of scan b }
 {
-    let place = scan.place;
-    let field = scan.field;
-    let ended = scan.ended;
-    match move_at(place, b) {
-        Move::Take(q) => {
-            let f = push(field, b);
-            Step::Going(Scan {
-                place: q,
-                field: f,
-                ended,
-            })
-        }
-        Move::Skip(q) => Step::Going(Scan {
-            place: q,
-            field,
-            ended,
+    match move_at(scan.place, b) {
+        Move::Take(place) => Step::Going(Scan {
+            place,
+            field: push(scan.field, b),
+            ended: scan.ended,
         }),
-        Move::NextField => {
-            let e = close(ended, field);
-            let f = Field::empty();
-            Step::Going(Scan {
-                place: Place::FieldStart,
-                field: f,
-                ended: e,
-            })
-        }
-        Move::End => Step::Ended(close(ended, field)),
+        Move::Skip(place) => Step::Going(Scan {
+            place,
+            field: scan.field,
+            ended: scan.ended,
+        }),
+        Move::NextField => Step::Going(Scan {
+            place: Place::FieldStart,
+            field: Field::empty(),
+            ended: close(scan.ended, scan.field),
+        }),
+        Move::End => Step::Ended(close(scan.ended, scan.field)),
         Move::Fault => Step::Fault,
     }
 }
@@ -170,22 +131,19 @@ fn advance(scan: Scan, b: u8) -> Step
 fn start() -> Scan
     ensures { result ≡ start_scan }
 {
-    let field = Field::empty();
-    let ended = Fields::none();
     Scan {
         place: Place::FieldStart,
-        field,
-        ended,
+        field: Field::empty(),
+        ended: Fields::none(),
     }
 }
 
 // The record that starts at a position.
-pub fn record_at(s: &[u8], at: usize) -> RecordRead
+pub fn record_at(s: &[u8], at: usize) -> Result<RecordRead, TableRefusal>
     ensures { result ≡ read_at s.now at }
 {
     let mut scan = start();
-    let mut i = at;
-    while i < s.len() {
+    for i in at..s.len() {
         match advance(scan, s[i]) {
             Step::Going(next) => {
                 scan = next;
@@ -194,34 +152,19 @@ pub fn record_at(s: &[u8], at: usize) -> RecordRead
                 return finish(ended, i + 1);
             }
             Step::Fault => {
-                return RecordRead::Broken;
+                return Err(TableRefusal::Broken);
             }
         }
-        i += 1;
     }
-    let place = scan.place;
-    if may_end(place) {
-        let ended = scan.ended;
-        let field = scan.field;
-        return finish(close(ended, field), s.len());
+    if may_end(scan.place) {
+        return finish(close(scan.ended, scan.field), s.len());
     }
-    RecordRead::Broken
+    Err(TableRefusal::Broken)
 }
 
 // Whether a model of so many joints has the record's joint, and a joint its axis.
 pub fn is_present(joints: u32, e: Entry) -> bool
     ensures { result ≡ is_present joints e }
 {
-    let joint = e.joint;
-    let axis = e.axis;
-    if joint.negative {
-        return false;
-    }
-    if joints <= joint.size {
-        return false;
-    }
-    if axis.negative {
-        return false;
-    }
-    axis.size < AXES
+    !e.joint.negative && e.joint.size < joints && !e.axis.negative && e.axis.size < AXES
 }

@@ -33,44 +33,28 @@ pub enum Move {
 pub fn is_textdata(b: u8) -> bool
     ensures { result ≡ is_textdata b }
 {
-    if b < 0x20 {
-        return false;
-    }
-    if b <= 0x21 {
-        return true;
-    }
-    if b < 0x23 {
-        return false;
-    }
-    if b <= 0x2b {
-        return true;
-    }
-    if b < 0x2d {
-        return false;
-    }
-    b <= 0x7e
+    matches!(b, 0x20..=0x21 | 0x23..=0x2b | 0x2d..=0x7e)
 }
 
 // A byte right after a field.
 fn separator(b: u8) -> Move
     ensures { result ≡ separator_move b }
 {
-    if b == b',' {
-        return Move::NextField;
+    match b {
+        b',' => Move::NextField,
+        b'\r' => Move::Skip(Place::CrSeen),
+        _ => Move::Fault,
     }
-    if b == b'\r' {
-        return Move::Skip(Place::CrSeen);
-    }
-    Move::Fault
 }
 
 fn non_escaped(b: u8) -> Move
     ensures { result ≡ non_escaped_move b }
 {
     if is_textdata(b) {
-        return Move::Take(Place::NonEscaped);
+        Move::Take(Place::NonEscaped)
+    } else {
+        separator(b)
     }
-    separator(b)
 }
 
 fn escaped(b: u8) -> Move
@@ -79,16 +63,7 @@ fn escaped(b: u8) -> Move
     if b == b'"' {
         return Move::Skip(Place::QuoteSeen);
     }
-    if is_textdata(b) {
-        return Move::Take(Place::Escaped);
-    }
-    if b == b',' {
-        return Move::Take(Place::Escaped);
-    }
-    if b == b'\r' {
-        return Move::Take(Place::Escaped);
-    }
-    if b == b'\n' {
+    if is_textdata(b) || b == b',' || b == b'\r' || b == b'\n' {
         return Move::Take(Place::Escaped);
     }
     Move::Fault
@@ -100,24 +75,21 @@ pub fn move_at(place: Place, b: u8) -> Move
     match place {
         Place::FieldStart => {
             if b == b'"' {
-                return Move::Skip(Place::Escaped);
+                Move::Skip(Place::Escaped)
+            } else {
+                non_escaped(b)
             }
-            non_escaped(b)
         }
         Place::NonEscaped => non_escaped(b),
         Place::Escaped => escaped(b),
         Place::QuoteSeen => {
             if b == b'"' {
-                return Move::Take(Place::Escaped);
+                Move::Take(Place::Escaped)
+            } else {
+                separator(b)
             }
-            separator(b)
         }
-        Place::CrSeen => {
-            if b == b'\n' {
-                return Move::End;
-            }
-            Move::Fault
-        }
+        Place::CrSeen => { if b == b'\n' { Move::End } else { Move::Fault } }
     }
 }
 
@@ -126,10 +98,7 @@ pub fn may_end(place: Place) -> bool
     ensures { result ≡ may_end place }
 {
     match place {
-        Place::FieldStart => true,
-        Place::NonEscaped => true,
-        Place::Escaped => false,
-        Place::QuoteSeen => true,
-        Place::CrSeen => false,
+        Place::FieldStart | Place::NonEscaped | Place::QuoteSeen => true,
+        Place::Escaped | Place::CrSeen => false,
     }
 }

@@ -5,17 +5,10 @@ ghost use Rattle.texts.specs.Sink.{Appended};
 ghost use Rattle.motor_table.specs.Text.{number_text, field_text, record_text, text_of, word_number, entry_at, entries_of, is_sized, table_of, refusal_in, written_answer, written_text};
 
 use crate::record::{Entry, is_present};
+use crate::refusal::TableRefusal;
 use crate::table::MOST_RECORDS;
 use crate::whole_number::{LARGEST_SIZE, Number};
 use texts::sink::{has_room, length_to, put_byte, put_decimal, put_text};
-
-#[derive(Clone, Copy)]
-pub enum Written {
-    // the text's length
-    Length(usize),
-    // refused with this number
-    Refused(u32),
-}
 
 // ---- numbers in
 
@@ -41,51 +34,39 @@ fn entry_at(table: &[u32], k: usize) -> Entry
     ensures { result ≡ entry_at table.now k }
 {
     let o = 3 * k;
-    let joint = word_number(table[o]);
-    let axis = word_number(table[o + 1]);
-    let thousandths = word_number(table[o + 2]);
     Entry {
-        joint,
-        axis,
-        thousandths,
+        joint: word_number(table[o]),
+        axis: word_number(table[o + 1]),
+        thousandths: word_number(table[o + 2]),
     }
 }
 
 fn is_sized(e: Entry) -> bool
     ensures { result ≡ is_sized e }
 {
-    let joint = e.joint;
-    let axis = e.axis;
-    let thousandths = e.thousandths;
-    if LARGEST_SIZE < joint.size {
-        return false;
-    }
-    if LARGEST_SIZE < axis.size {
-        return false;
-    }
-    thousandths.size <= LARGEST_SIZE
+    e.joint.size <= LARGEST_SIZE
+        && e.axis.size <= LARGEST_SIZE
+        && e.thousandths.size <= LARGEST_SIZE
 }
 
-// The number with which a table is refused, or 0: the first faulty record decides.
-fn table_refusal(table: &[u32], joints: u32) -> u32
+// Why a table is refused, if it is: the first faulty record decides.
+fn table_refusal(table: &[u32], joints: u32) -> Option<TableRefusal>
     ensures { result ≡ refusal_in (table_of joints (entries_of table.now)) }
 {
     let count = table.len() / 3;
-    let mut k: usize = 0;
-    while k < count {
+    for k in 0..count {
         if k == MOST_RECORDS as usize {
-            return 13;
+            return Some(TableRefusal::Broken);
         }
         let e = entry_at(table, k);
         if !is_sized(e) {
-            return 14;
+            return Some(TableRefusal::NotThreeNumbers);
         }
         if !is_present(joints, e) {
-            return 15;
+            return Some(TableRefusal::Absent);
         }
-        k += 1;
     }
-    0
+    None
 }
 
 // ---- text out
@@ -94,13 +75,11 @@ fn table_refusal(table: &[u32], joints: u32) -> u32
 pub fn put_number(out: &mut [u8], at: usize, n: Number) -> usize
     ensures { Appended out.old at (number_text n) out.new result }
 {
-    let negative = n.negative;
-    let size = n.size;
-    if negative {
+    if n.negative {
         let a = put_byte(&mut *out, at, b'-');
-        return put_decimal(&mut *out, a, size);
+        return put_decimal(&mut *out, a, n.size);
     }
-    put_decimal(&mut *out, at, size)
+    put_decimal(&mut *out, at, n.size)
 }
 
 fn put_field(out: &mut [u8], at: usize, n: Number) -> usize
@@ -113,12 +92,9 @@ fn put_field(out: &mut [u8], at: usize, n: Number) -> usize
 fn put_record(out: &mut [u8], at: usize, e: Entry) -> usize
     ensures { Appended out.old at (record_text e) out.new result }
 {
-    let joint = e.joint;
-    let axis = e.axis;
-    let thousandths = e.thousandths;
-    let a = put_field(&mut *out, at, joint);
-    let b = put_field(&mut *out, a, axis);
-    let c = put_number(&mut *out, b, thousandths);
+    let a = put_field(&mut *out, at, e.joint);
+    let b = put_field(&mut *out, a, e.axis);
+    let c = put_number(&mut *out, b, e.thousandths);
     put_text(&mut *out, c, b"\r\n")
 }
 
@@ -126,30 +102,29 @@ fn put_table(table: &[u32], out: &mut [u8]) -> usize
     ensures { Appended out.old 0 (text_of (entries_of table.now)) out.new result }
 {
     let count = table.len() / 3;
-    let mut k: usize = 0;
     let mut end: usize = 0;
-    while k < count {
-        let e = entry_at(table, k);
-        end = put_record(&mut *out, end, e);
-        k += 1;
+    for k in 0..count {
+        end = put_record(&mut *out, end, entry_at(table, k));
     }
     end
 }
 
 // Writes a table's text to the front of `out` and answers its length, or writes nothing: where `out` is shorter than the text,
 // which is answered all the same, and where the table is refused.
-pub fn write_table(table: &[u32], joints: u32, out: &mut [u8]) -> Written
+pub fn write_table(table: &[u32], joints: u32, out: &mut [u8]) -> Result<usize, TableRefusal>
     ensures { (result ≡ written_answer 0 (table_of joints (entries_of table.now)))
         × (out.new ≡ written_text out.old (table_of joints (entries_of table.now))) }
 {
-    let refusal = table_refusal(table, joints);
-    if 0 < refusal {
-        return Written::Refused(refusal);
+    match table_refusal(table, joints) {
+        Some(refusal) => Err(refusal),
+        None => {
+            let mut none = [0u8; 1];
+            let len = put_table(table, &mut none);
+            if has_room(len, out.len()) {
+                Ok(put_table(table, &mut *out))
+            } else {
+                Ok(length_to(len))
+            }
+        }
     }
-    let mut none = [0u8; 1];
-    let len = put_table(table, &mut none);
-    if has_room(len, out.len()) {
-        return Written::Length(put_table(table, &mut *out));
-    }
-    Written::Length(length_to(len))
 }

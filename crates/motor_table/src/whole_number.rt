@@ -73,11 +73,8 @@ fn with_digit(f: Field, d: u32) -> Field
     requires { d < 10 }
     ensures { result ≡ with_digit f.spelling f.minus f.size d }
 {
-    let spelling = f.spelling;
-    match spelling {
-        Spelling::Nothing => grow(f.minus, f.size, d),
-        Spelling::Sign => grow(f.minus, f.size, d),
-        Spelling::Digits => grow(f.minus, f.size, d),
+    match f.spelling {
+        Spelling::Nothing | Spelling::Sign | Spelling::Digits => grow(f.minus, f.size, d),
         Spelling::NoNumber => Field::no_number(),
     }
 }
@@ -85,60 +82,41 @@ fn with_digit(f: Field, d: u32) -> Field
 fn with_sign(f: Field, minus: bool) -> Field
     ensures { result ≡ with_sign f.spelling minus }
 {
-    let spelling = f.spelling;
-    match spelling {
+    match f.spelling {
         Spelling::Nothing => Field {
             spelling: Spelling::Sign,
             minus,
             size: 0,
         },
-        Spelling::Sign => Field::no_number(),
-        Spelling::Digits => Field::no_number(),
-        Spelling::NoNumber => Field::no_number(),
+        Spelling::Sign | Spelling::Digits | Spelling::NoNumber => Field::no_number(),
     }
 }
 
 pub fn push(f: Field, b: u8) -> Field
     ensures { result ≡ push_of f b }
 {
-    if 0x30 <= b {
-        if b <= 0x39 {
-            return with_digit(f, (b - 0x30) as u32);
-        }
-        return Field::no_number();
+    match b {
+        b'0'..=b'9' => with_digit(f, (b - b'0') as u32),
+        b'+' => with_sign(f, false),
+        b'-' => with_sign(f, true),
+        _ => Field::no_number(),
     }
-    if b == b'+' {
-        return with_sign(f, false);
-    }
-    if b == b'-' {
-        return with_sign(f, true);
-    }
-    Field::no_number()
 }
 
 pub fn is_number(f: Field) -> bool
     ensures { result ≡ is_number f }
 {
-    let spelling = f.spelling;
-    match spelling {
-        Spelling::Nothing => false,
-        Spelling::Sign => false,
+    match f.spelling {
         Spelling::Digits => f.size <= LARGEST_SIZE,
-        Spelling::NoNumber => false,
+        Spelling::Nothing | Spelling::Sign | Spelling::NoNumber => false,
     }
 }
 
 pub fn number_in(f: Field) -> Number
     ensures { result ≡ number_in f }
 {
-    if f.minus {
-        return Number {
-            negative: 0 < f.size,
-            size: f.size,
-        };
-    }
     Number {
-        negative: false,
+        negative: f.minus && 0 < f.size,
         size: f.size,
     }
 }

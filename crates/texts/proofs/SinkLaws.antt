@@ -199,19 +199,10 @@ module _ {none : List ℕ} {text none' : List ℕ} {len : ℕ} (first : Appended
 
 -- ---- blanks
 
--- so many of n blanks are left
-module _ (out : List ℕ) (at n : ℕ) where
-  pub blanks-none : Appended out at (replicate (n - n) SPACE) out at
-  blanks-none = let z : 0 ≡ n - n = omega arith in appended-text (ap (λ (k : ℕ). replicate k SPACE) z) (appended-none out at)
-
-  pub blanks-all : (left : ℕ) {mid : List ℕ} {e : ℕ} → left ≤ 0 → Appended out at (replicate (n - left) SPACE) mid e → Appended out at (replicate n SPACE) mid e
-  blanks-all left h s = let z : n - left ≡ n = omega arith in appended-text (ap (λ (k : ℕ). replicate k SPACE) z) s
-
-  pub blanks-turn : (left : ℕ) {mid : List ℕ} {e : ℕ} {last : List ℕ} {r : ℕ} → 0 < left → left ≤ n → Appended out at (replicate (n - left) SPACE) mid e → Appended mid e (SPACE ∷ []) last r
-      → Appended out at (replicate (n - (left - 1)) SPACE) last r
-  blanks-turn left h k s t =
-      let e : n - (left - 1) ≡ n - left + 1 = omega arith in
-      appended-text (replicate-append-replicate (n - left) 1 SPACE ∙ ap (λ (k : ℕ). replicate k SPACE) (sym e)) (appended_then s t)
+-- one more blank
+pub blanks-turn : {out : List ℕ} {at : ℕ} (k : ℕ) {mid : List ℕ} {e : ℕ} {last : List ℕ} {r : ℕ} → Appended out at (replicate k SPACE) mid e → Appended mid e (SPACE ∷ []) last r
+    → Appended out at (replicate (k + 1) SPACE) last r
+blanks-turn k s t = appended-text (replicate-append-replicate k 1 SPACE) (appended_then s t)
 
 -- ---- entries of a table
 

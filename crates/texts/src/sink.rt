@@ -4,6 +4,7 @@ ghost use Rattle.texts.specs.Ascii.{SPACE, LF};
 ghost use Rattle.texts.specs.Digits.{decimal};
 ghost use Rattle.texts.specs.Sink.{place_after, Appended, Wrote, has_room, length_to, entry};
 
+// The largest place stays: at it a text is too long for any slice, which callers that add up places need not test in between.
 fn place_after(at: usize) -> usize
     ensures { result ≡ place_after at }
 {
@@ -32,10 +33,8 @@ pub fn put_text(out: &mut [u8], at: usize, text: &[u8]) -> usize
     ensures { Appended out.old at text.now out.new result }
 {
     let mut end = at;
-    let mut k: usize = 0;
-    while k < text.len() {
-        end = put_byte(&mut *out, end, text[k]);
-        k += 1;
+    for b in text {
+        end = put_byte(&mut *out, end, *b);
     }
     end
 }
@@ -45,10 +44,8 @@ pub fn put_blanks(out: &mut [u8], at: usize, n: usize) -> usize
     ensures { Appended out.old at (replicate n SPACE) out.new result }
 {
     let mut end = at;
-    let mut left = n;
-    while 0 < left {
+    for _ in 0..n {
         end = put_byte(&mut *out, end, b' ');
-        left -= 1;
     }
     end
 }
@@ -70,40 +67,33 @@ fn left_after(left: usize, b: u8) -> usize
     requires { 1 ≤ left }
     ensures { result ≡ cond (eqb b LF) (left - 1) left }
 {
-    if b == b'\n' {
-        return left - 1;
-    }
-    left
+    if b == b'\n' { left - 1 } else { left }
 }
 
 // Where entry i starts.
 fn entry_start(table: &[u8], i: usize) -> usize
-    ensures { entry zero (drop result table.now) ≡ entry i table.now }
+    ensures within { result ≤ length table.now }
+    ensures from { entry zero (drop result table.now) ≡ entry i table.now }
 {
-    let mut k: usize = 0;
     let mut left = i;
-    while 0 < left {
-        if table.len() <= k {
+    for (k, b) in table.iter().enumerate() {
+        if left == 0 {
             return k;
         }
-        left = left_after(left, table[k]);
-        k += 1;
+        left = left_after(left, *b);
     }
-    k
+    table.len()
 }
 
 pub fn put_entry(out: &mut [u8], at: usize, table: &[u8], i: usize) -> usize
     ensures { Appended out.old at (entry i table.now) out.new result }
 {
-    let mut k = entry_start(table, i);
     let mut end = at;
-    while k < table.len() {
-        let b = table[k];
-        if b == b'\n' {
+    for b in &table[entry_start(table, i)..] {
+        if *b == b'\n' {
             return end;
         }
-        end = put_byte(&mut *out, end, b);
-        k += 1;
+        end = put_byte(&mut *out, end, *b);
     }
     end
 }
@@ -114,20 +104,14 @@ pub fn put_entry(out: &mut [u8], at: usize, table: &[u8], i: usize) -> usize
 pub fn has_room(end: usize, room: usize) -> bool
     ensures { result ≡ has_room end room }
 {
-    if end < 0xffff_ffff_ffff_ffff {
-        return end <= room;
-    }
-    false
+    end < 0xffff_ffff_ffff_ffff && end <= room
 }
 
 // Its length, if it was not written.
 pub fn length_to(end: usize) -> usize
     ensures { result ≡ length_to end }
 {
-    if end < 0xffff_ffff_ffff_ffff {
-        return end;
-    }
-    0
+    if end < 0xffff_ffff_ffff_ffff { end } else { 0 }
 }
 
 // Writes a text to the front of `out` and answers its length. Where `out` is shorter nothing is written, and the length is answered all the same.

@@ -7,6 +7,3 @@ use Rattle.decimals.proofs.big.at_most.Given as goal
 
 abbrev pub invariant-loop-i : goal.invariant-loop-i
 invariant-loop-i l = (l.i ≤ 14) × (length l.a ≡ 14) × (length l.b ≡ 14) × (value (drop l.i l.a) ≡ value (drop l.i l.b))
-
-abbrev pub decreases-loop-i : goal.decreases-loop-i
-decreases-loop-i l = l.i

@@ -29,8 +29,8 @@ overflow_add-t c = record { fits = omega (arith, small c) }
 
 pub loop-i-preserved : goal.loop-i-preserved
 loop-i-preserved c =
-    (search rules, search rules, search rules, omega (arith, small c), product-limb c.loop-i.r c.args.a c.loop-i.i c.args.k c.loop-i.carry (omega arith) (omega arith) c.loop-i.invariant.4)
+    (search rules, search rules, omega (arith, small c), product-limb c.loop-i.r c.args.a c.loop-i.i c.args.k c.loop-i.carry (omega arith) (omega arith) c.loop-i.invariant.3)
 
 pub returns : goal.returns
 returns c =
-    product_whole c.loop-i.r c.args.a c.loop-i.i c.args.k c.loop-i.carry (omega arith) c.loop-i.invariant.1 c.loop-i.invariant.2 c.loop-i.invariant.4 c.requires
+    product_whole c.loop-i.r c.args.a c.loop-i.i c.args.k c.loop-i.carry (omega arith) c.loop-i.invariant.0 c.loop-i.invariant.1 c.loop-i.invariant.3 c.requires

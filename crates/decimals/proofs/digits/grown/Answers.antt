@@ -7,5 +7,5 @@ use Rattle.decimals.proofs.digits.grown.Goals as goal
 pub returns-then-v-lt1000000000000000000 : goal.returns-then-v-lt1000000000000000000
 returns-then-v-lt1000000000000000000 c = sym (cap-small _ (omega (arith, c.requires)))
 
-pub returns : goal.returns
-returns c = sym (cap-large _ (omega (arith, c.if-v-lt1000000000000000000.false)))
+pub returns-else-v-lt1000000000000000000 : goal.returns-else-v-lt1000000000000000000
+returns-else-v-lt1000000000000000000 c = sym (cap-large _ (omega (arith, c.if-v-lt1000000000000000000.false)))

@@ -9,17 +9,13 @@ use Rattle.decimals.proofs.spelled.reads_as.Goals as goal
 pub slice_bounds-read_number-end : goal.slice_bounds-read_number-end
 slice_bounds-read_number-end c = let a = c.args in sym (length-take-le a.text.len a.text.bytes c.requires)
 
-pub returns-in-Number : goal.returns-in-Number
+pub returns-in-Ok : goal.returns-in-Ok
 unfolding reads_as
-returns-in-Number c =
-    ap (λ (b : ℕ). eqb b c.to_bits-in-Number.result) c.to_bits.ensures
-    ∙ ap (eqb _) c.to_bits-in-Number.ensures
-    ∙ ap (reads_as c.args.x) (sym c.in-Number.is ∙ c.read_number-reading.ensures)
+returns-in-Ok c =
+    ap (λ (b : ℕ). eqb b c.to_bits-in-Ok.result) c.to_bits.ensures
+    ∙ ap (eqb _) c.to_bits-in-Ok.ensures
+    ∙ ap (reads_as c.args.x) (sym c.in-Ok.is ∙ c.read_number.ensures)
 
-pub returns-in-TooManyDigits : goal.returns-in-TooManyDigits
+pub returns-in-Err : goal.returns-in-Err
 unfolding reads_as
-returns-in-TooManyDigits c = ap (reads_as c.args.x) (sym c.in-TooManyDigits.is ∙ c.read_number-reading.ensures)
-
-pub returns-in-NotANumber : goal.returns-in-NotANumber
-unfolding reads_as
-returns-in-NotANumber c = ap (reads_as c.args.x) (sym c.in-NotANumber.is ∙ c.read_number-reading.ensures)
+returns-in-Err c = ap (reads_as c.args.x) (sym c.in-Err.is ∙ c.read_number.ensures)

@@ -1,5 +1,4 @@
-use Rattle.std.proofs.Common.{◌≡◌, ℕ, ◌+◌, ◌-◌, ◌*◌, ◌/◌, ◌^◌, eqb, sym, refl, ap, ◌∙◌, subst, le_trans, mul-le-mul, arith, eqb-true}
-use borrow.Author.Tests.{eqb-false, not-true, not-false}
+use Rattle.std.proofs.Common.{◌≡◌, ℕ, ◌+◌, ◌-◌, ◌*◌, ◌/◌, ◌^◌, sym, refl, ap, ◌∙◌, subst, le_trans, mul-le-mul, arith}
 use Rattle.floats.specs.Angle.{series_from, term_count, with_term, power, nonzero_powers}
 use Rattle.floats.proofs.Series.{Safe, room-even, room-odd, with-even, with-odd, safe-first, safe-next, next_le, square_le, turn, power-next, count_next, stopped, finished}
 use Rattle.floats.proofs.angle.series.Goals as goal
@@ -37,7 +36,7 @@ loop-k-preserved c =
     let u = w * w / 2 ^ 30 in
     let e : c.if-k-eq0.sum ≡ with_term l.k l.p l.sum =
     elim c.if-k-eq0.branch [ then-k-eq0 v ↦ v.sum-is ∙ sym (with-even l.k l.p l.sum v.if-k-eq0.true) | else-k-eq0 v ↦ v.sum-is ∙ sym (with-odd l.k l.p l.sum v.if-k-eq0.false) ] in
-    let n : power w l.k ≡ 0 → ⊥ = λ z. eqb-false l.p 0 (not-true (eqb l.p 0) c.if-p-ne0.true-raw) (l.invariant.4 ∙ z) in (
+    let n : power w l.k ≡ 0 → ⊥ = λ z. let e : l.p ≡ 0 = l.invariant.4 ∙ z in omega (arith, e, c.if-p-eq0.false) in (
       omega arith,
       le_trans (next_le l.p u (square_le w s.requires)) l.invariant.1,
       subst (λ (x : ℕ). Safe w (l.k + 1) (l.p * u / 2 ^ 30) x) (sym e) (safe-next w l.k u l.p l.sum (square_le w s.requires) l.invariant.2),
@@ -47,15 +46,16 @@ loop-k-preserved c =
     )
 
 -- stopped at a zero power
-pub returns-else-p-ne0 : goal.returns-else-p-ne0
-returns-else-p-ne0 c =
+pub returns-then-p-eq0 : goal.returns-then-p-eq0
+returns-then-p-eq0 c =
     let l = c.loop-k in
     let w = c.args.w in
-    stopped w l.k l.p l.sum l.invariant.0 (eqb-true l.p 0 (not-false (eqb l.p 0) c.if-p-ne0.false-raw)) l.invariant.3 l.invariant.4 l.invariant.5
+    stopped w l.k l.p l.sum l.invariant.0 c.if-p-eq0.true l.invariant.3 l.invariant.4 l.invariant.5
 
 -- after the last term
-pub returns-after-loop-k : goal.returns-after-loop-k
-returns-after-loop-k c =
+pub returns : goal.returns
+returns c =
     let l = c.loop-k in
     let w = c.args.w in
-    finished w l.k l.p l.sum l.invariant.0 (omega arith) l.invariant.3 l.invariant.5
+    let all : l.k ≡ term_count = omega arith in
+    ap (λ (k : ℕ). record { sum = l.sum; terms = k }) (sym all) ∙ finished w l.k l.p l.sum l.invariant.0 (omega arith) l.invariant.3 l.invariant.5

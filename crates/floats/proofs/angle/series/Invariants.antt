@@ -7,6 +7,3 @@ use Rattle.floats.proofs.angle.series.Given as goal
 abbrev pub invariant-loop-k : goal.invariant-loop-k
 invariant-loop-k l =
     (l.k ≤ term_count) × (l.p ≤ l.w) × Safe l.w l.k l.p l.sum × (series_from (term_count - l.k) l.k l.u l.p l.sum ≡ series_from term_count 0 l.u l.w 0) × (l.p ≡ power l.w l.k) × (nonzero_powers l.w l.k ≡ l.k)
-
-abbrev pub decreases-loop-k : goal.decreases-loop-k
-decreases-loop-k l = term_count - l.k

@@ -8,6 +8,6 @@ pub returns-then-w-gt-UNIT : goal.returns-then-w-gt-UNIT
 unfolding series_sum_up_to
 returns-then-w-gt-UNIT c = simp (lt-leb _ _ c.if-w-gt-UNIT.true)
 
-pub returns : goal.returns
+pub returns-else-w-gt-UNIT : goal.returns-else-w-gt-UNIT
 unfolding series_sum_up_to
-returns c = simp (le-leb _ _ c.if-w-gt-UNIT.false) c.series.ensures
+returns-else-w-gt-UNIT c = simp (le-leb _ _ c.if-w-gt-UNIT.false) c.series.ensures

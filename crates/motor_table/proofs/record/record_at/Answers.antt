@@ -20,12 +20,6 @@ returns-in-Ended c = c.finish.ensures ∙ sym (scan-ended c.args.s.now c.loop-i.
 pub returns-in-Fault : goal.returns-in-Fault
 returns-in-Fault c = sym (scan-fault c.args.s.now c.loop-i.i c.loop-i.scan c.loop-i-test.true (sym c.advance.ensures ∙ c.in-Fault.is)) ∙ c.loop-i.invariant
 
-pub overflow_add-i-in-loop-i : goal.overflow_add-i-in-loop-i
-overflow_add-i-in-loop-i c = omega arith
-
-pub loop-i-smaller : goal.loop-i-smaller
-loop-i-smaller c = omega arith
-
 pub loop-i-preserved : goal.loop-i-preserved
 loop-i-preserved c = sym (scan-going c.args.s.now c.loop-i.i c.loop-i.scan c.loop-i-test.true _ (sym c.advance.ensures ∙ c.in-Going.is)) ∙ c.loop-i.invariant
 

@@ -2,4 +2,4 @@
 use Rattle.motor_table.proofs.record.start.Goals as goal
 
 pub returns : goal.returns
-returns c = simp (c.none-ended.ensures, c.empty-field.ensures)
+returns c = simp (c.none.ensures, c.empty.ensures)

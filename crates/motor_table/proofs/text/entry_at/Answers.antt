@@ -4,4 +4,4 @@ use Rattle.motor_table.proofs.text.entry_at.Goals as goal
 
 pub returns : goal.returns
 unfolding entry_at
-returns c = simp (c.word_number-thousandths.ensures, c.word_number-axis.ensures, c.word_number-joint.ensures)
+returns c = simp (c.word_number-3.ensures, c.word_number-2.ensures, c.word_number.ensures)

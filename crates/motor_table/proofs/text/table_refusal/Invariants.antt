@@ -6,6 +6,3 @@ use Rattle.motor_table.proofs.text.table_refusal.Given as goal
 
 abbrev pub invariant-loop-k : goal.invariant-loop-k
 invariant-loop-k l = (l.k ≤ most_records) × (refusal_in (granting l.joints (most_records - l.k) (entries_from l.table l.k (records_in l.table - l.k))) ≡ refusal_in (table_of l.joints (entries_of l.table)))
-
-abbrev pub decreases-loop-k : goal.decreases-loop-k
-decreases-loop-k l = most_records - l.k

@@ -1,24 +1,30 @@
--- `push` meets its contract, test by test.
+-- `push` meets its contract, byte by byte.
+use Rattle.std.proofs.Common.{◌≡◌, arith}
 use Rattle.motor_table.specs.Scan.{push_of}
 use Rattle.motor_table.proofs.NumberLaws.{is_digit_lem, past-digits, before-digits, is-plus, is-minus, no_sign}
 use Rattle.motor_table.proofs.whole_number.push.Goals as goal
+use Rattle.motor_table.proofs.whole_number.push.Goals.{in_default-via-then-b-lt48, in_default-via-else-b-lt48+else-b-lt58}
 
-pub returns-then-b-le57 : goal.returns-then-b-le57
+pub returns-in-48-to-57 : goal.returns-in-48-to-57
 unfolding push_of
-returns-then-b-le57 c = simp (is_digit_lem _ c.if-b-ge48.true c.if-b-le57.true) c.with_digit.ensures
+returns-in-48-to-57 c = simp (is_digit_lem c.args.b (omega arith) (omega arith)) c.with_digit.ensures
 
-pub returns-then-b-ge48 : goal.returns-then-b-ge48
+pub returns-in-43 : goal.returns-in-43
 unfolding push_of
-returns-then-b-ge48 c = simp ((past-digits _ c.if-b-le57.false).0, (past-digits _ c.if-b-le57.false).1) c.no_number.ensures
+returns-in-43 c = simp (before-digits c.args.b (omega arith), (is-plus c.args.b c.in-43.is).0, (is-plus c.args.b c.in-43.is).1) c.with_sign.ensures
 
-pub returns-then-b-eq43 : goal.returns-then-b-eq43
+pub returns-in-45 : goal.returns-in-45
 unfolding push_of
-returns-then-b-eq43 c = simp (before-digits _ c.if-b-ge48.false, (is-plus _ c.if-b-eq43.true).0, (is-plus _ c.if-b-eq43.true).1) c.with_sign.ensures
+returns-in-45 c =
+    let other : c.args.b ≡ 0x2b → ⊥ = λ z. omega (arith, c.in-45.is) in
+    simp (before-digits c.args.b (omega arith), (is-minus c.args.b other c.in-45.is).0, (is-minus c.args.b other c.in-45.is).1) c.with_sign-in-45.ensures
 
-pub returns-then-b-eq45 : goal.returns-then-b-eq45
+pub returns-in_default : goal.returns-in_default
 unfolding push_of
-returns-then-b-eq45 c = simp (before-digits _ c.if-b-ge48.false, (is-minus _ c.if-b-eq43.false c.if-b-eq45.true).0, (is-minus _ c.if-b-eq43.false c.if-b-eq45.true).1) c.with_sign-then-b-eq45.ensures
-
-pub returns : goal.returns
-unfolding push_of
-returns c = simp (before-digits _ c.if-b-ge48.false, no_sign _ c.if-b-eq43.false c.if-b-eq45.false) c.no_number-2.ensures
+returns-in_default c =
+    elim c.in_default.branch [
+      | in_default-via-then-b-lt48 w ↦ simp (before-digits c.args.b (omega arith), no_sign c.args.b (λ z. omega arith) (λ z. omega arith)) c.no_number.ensures
+      | in_default-via-else-b-lt48+else-b-lt58 w ↦
+          let past = past-digits c.args.b (omega arith) in
+          simp (past.0, past.1) c.no_number.ensures
+    ]

@@ -1,4 +1,5 @@
 -- `with_sign` meets its contract, case by case.
+use Rattle.std.proofs.Common.{inl, inr}
 use Rattle.motor_table.specs.Scan.{with_sign}
 use Rattle.motor_table.proofs.whole_number.with_sign.Goals as goal
 
@@ -8,12 +9,4 @@ returns-in-Nothing c = simp c.in-Nothing.is
 
 pub returns-in-Sign : goal.returns-in-Sign
 unfolding with_sign
-returns-in-Sign c = simp c.in-Sign.is c.no_number.ensures
-
-pub returns-in-Digits : goal.returns-in-Digits
-unfolding with_sign
-returns-in-Digits c = simp c.in-Digits.is c.no_number-in-Digits.ensures
-
-pub returns-in-NoNumber : goal.returns-in-NoNumber
-unfolding with_sign
-returns-in-NoNumber c = simp c.in-NoNumber.is c.no_number-in-NoNumber.ensures
+returns-in-Sign c = elim c.in-Sign.is [ inl e ↦ simp e c.no_number.ensures | inr r ↦ elim r [ inl e ↦ simp e c.no_number.ensures | inr e ↦ simp e c.no_number.ensures ] ]

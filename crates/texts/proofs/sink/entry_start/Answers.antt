@@ -1,19 +1,21 @@
-use Prim.Native.Nat.{ℕ, zero, ◌+◌}
-use mathlib.Core.Path.{◌≡◌, refl, sym, ap, ◌∙◌}
+use Prim.Native.Nat.{ℕ, zero, ◌+◌, ◌<◌}
+use mathlib.Core.Path.{refl, sym, ap, ◌∙◌}
 use native.Mathlib.Omega.{arith}
-use lib.ListN.{drop}
+use lib.ListN.{drop, length}
 use Rattle.texts.specs.Sink.{entry}
 use Rattle.texts.proofs.SinkLaws.{entry_past, entry-turn}
 use Rattle.texts.proofs.sink.entry_start.Goals as goal
 
-pub loop-left-init : goal.loop-left-init
-loop-left-init c = (omega arith, refl)
+pub loop-k-init : goal.loop-k-init
+loop-k-init c = refl
 
-pub returns-then-table-k : goal.returns-then-table-k
-returns-then-table-k c = entry_past zero _ _ c.if-table-k.true ∙ sym (entry_past _ _ _ c.if-table-k.true) ∙ c.loop-left.invariant.1
+pub returns-then-left-eq0-clause-from : goal.returns-then-left-eq0-clause-from
+returns-then-left-eq0-clause-from c = ap (λ (n : ℕ). entry n (drop c.loop-k.k c.args.table.now)) (sym c.if-left-eq0.true) ∙ c.loop-k.invariant
 
-pub loop-left-preserved : goal.loop-left-preserved
-loop-left-preserved c = (omega arith, ap (λ (n : ℕ). entry n (drop (c.loop-left.k + 1) c.args.table.now)) c.left_after-left.ensures ∙ entry-turn c.args.table.now _ c.if-table-k.false _ c.loop-left-test.true ∙ c.loop-left.invariant.1)
+pub loop-k-preserved : goal.loop-k-preserved
+loop-k-preserved c =
+    let some : 0 < c.loop-k.left = omega (arith, c.if-left-eq0.false) in
+    ap (λ (n : ℕ). entry n (drop (c.loop-k.k + 1) c.args.table.now)) c.left_after-left.ensures ∙ entry-turn c.args.table.now _ c.loop-k-test.true _ some ∙ c.loop-k.invariant
 
-pub returns : goal.returns
-returns c = let e : c.loop-left.left ≡ zero = omega arith in ap (λ (n : ℕ). entry n (drop c.loop-left.k c.args.table.now)) (sym e) ∙ c.loop-left.invariant.1
+pub returns-clause-from : goal.returns-clause-from
+returns-clause-from c = let table = c.args.table.now in entry_past zero table (length table) (omega arith) ∙ sym (entry_past _ _ _ c.loop-k-test.false) ∙ c.loop-k.invariant

@@ -5,5 +5,5 @@ use Rattle.texts.proofs.sink.left_after.Goals as goal
 pub returns-then-b-eq10 : goal.returns-then-b-eq10
 returns-then-b-eq10 c = simp (eq-eqb _ _ c.if-b-eq10.true)
 
-pub returns : goal.returns
-returns c = simp (ne_eqb _ _ c.if-b-eq10.false)
+pub returns-else-b-eq10 : goal.returns-else-b-eq10
+returns-else-b-eq10 c = simp (ne_eqb _ _ c.if-b-eq10.false)

@@ -1,17 +1,19 @@
-use mathlib.Core.Path.{ap, ◌∙◌}
+use Prim.Native.Nat.{ℕ}
+use mathlib.Core.Path.{◌≡◌, ap, ◌∙◌}
 use native.Mathlib.Omega.{arith}
-use lib.ListN.{length}
-use Rattle.texts.proofs.SinkLaws.{put-length, blanks-none, blanks-all, blanks-turn}
+use lib.ListN.{length, replicate}
+use Rattle.texts.specs.Ascii.{SPACE}
+use Rattle.texts.proofs.SinkLaws.{put-length, appended-none, appended-text, blanks-turn}
 use Rattle.texts.proofs.sink.put_blanks.Goals as goal
 
-pub loop-left-init : goal.loop-left-init
-loop-left-init c = (omega arith, blanks-none _ _ c.args.n)
+pub loop-init : goal.loop-init
+loop-init c = appended-none _ _
 
-pub loop-left-preserved : goal.loop-left-preserved
-loop-left-preserved c = (omega arith, blanks-turn _ _ c.args.n _ c.loop-left-test.true c.loop-left.invariant.0 c.loop-left.invariant.1 c.put_byte-end.ensures)
+pub loop-preserved : goal.loop-preserved
+loop-preserved c = blanks-turn _ c.loop.invariant c.put_byte-end.ensures
 
 pub shape_of-out : goal.shape_of-out
-shape_of-out c = ap length c.loop-left.invariant.1.holds ∙ put-length _ _ _
+shape_of-out c = ap length c.loop.invariant.holds ∙ put-length _ _ _
 
 pub returns : goal.returns
-returns c = blanks-all _ _ c.args.n _ c.loop-left-test.false c.loop-left.invariant.1
+returns c = let all : c.loop.counter ≡ c.args.n = omega arith in appended-text (ap (λ (k : ℕ). replicate k SPACE) all) c.loop.invariant

@@ -1,11 +1,7 @@
--- `put_text` meets its contract: after k bytes, the first k of the text are written.
-use Prim.Native.Nat.{◌-◌, ◌≤◌}
-use lib.ListN.{length, take}
+-- `put_text` meets its contract: before each byte, those before it are written.
+use lib.ListN.{take}
 use Rattle.texts.specs.Sink.{Appended}
 use Rattle.texts.proofs.sink.put_text.Given as goal
 
-abbrev pub invariant-loop-k : goal.invariant-loop-k
-invariant-loop-k l = (l.k ≤ length l.text) × Appended l.initial.out l.at (take l.k l.text) l.out l.end
-
-abbrev pub decreases-loop-k : goal.decreases-loop-k
-decreases-loop-k l = length l.text - l.k
+abbrev pub invariant-loop-b : goal.invariant-loop-b
+invariant-loop-b l = Appended l.initial.out l.at (take l.b-index l.text) l.out l.end

@@ -2,4 +2,4 @@
 use Rattle.motor_table.proofs.record.Fields.none.Goals as goal
 
 pub returns : goal.returns
-returns c = simp (c.empty-thousandths.ensures, c.empty-axis.ensures, c.empty-joint.ensures)
+returns c = simp (c.empty-3.ensures, c.empty-2.ensures, c.empty.ensures)
