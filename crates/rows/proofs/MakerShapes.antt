@@ -1,6 +1,7 @@
 -- The makers of uncoupled linear limits and motors as one literal (`limit-linear-is`, `motor-linear-is`), where their definitions overwrite fields of the lock's row, as the
 -- Rust does. The coupled two (`limit-linear-coupled-is`, `motor-linear-coupled-is`) as the Rust has them: a loop over the axes with three sums, which are scaled, and a literal.
 -- Assumes nothing.
+use Rattle.std.specs.Prelude.{Option}
 use Prim.Native.Nat.{ℕ}
 use mathlib.Core.Path.{◌≡◌, refl}
 use mathlib.Core.Bool.{Bool, true, false, cond}
@@ -20,7 +21,6 @@ use Rattle.rows.specs.declared.joint_velocity_constraint.MotorParameters.{MotorP
 use Rattle.rows.specs.declared.joint_constraint_helper.JointConstraintHelper.{JointConstraintHelper}
 use Rattle.rows.specs.declared.joint_constraint_helper.RowAxis.{RowAxis}
 use Rattle.rows.specs.declared.joint_constraint_helper.LimitEnds.{LimitEnds}
-use Rattle.rows.specs.declared.joint_constraint_helper.MotorLimits.{MotorLimits}
 
 -- ---- uncoupled
 
@@ -32,7 +32,7 @@ module _ (h : JointConstraintHelper) (p : IntegrationParameters) (bodies : TwoBo
   unfolding limit_linear_of lock_linear_of assemble_of linear_axis_of
   limit-linear-is limits soft = refl
 
-  pub motor-linear-is : (m : MotorParameters) (limits : MotorLimits)
+  pub motor-linear-is : (m : MotorParameters) (limits : Option LimitEnds)
       → motor_linear_of h p bodies i m limits ≡ motor_row_of bodies (linear_axis_of h i) m (motor_rhs_of p m limits (linear_axis_of h i).dist)
   unfolding motor_linear_of motor_row_of lock_linear_of assemble_of linear_axis_of
   motor-linear-is m limits = refl
@@ -111,7 +111,7 @@ module _ (h : JointConstraintHelper) (p : IntegrationParameters) (bodies : TwoBo
   unfolding limit_linear_coupled_of assemble_of
   limit-linear-coupled-is limits soft = rw (coupled-axis-is h coupled)
 
-  pub motor-linear-coupled-is : (m : MotorParameters) (limits : MotorLimits)
+  pub motor-linear-coupled-is : (m : MotorParameters) (limits : Option LimitEnds)
       → motor_linear_coupled_of h p bodies coupled m limits
       ≡ (
       let lin_jac = mul_of (lin_sum h coupled) (simd_inv_of (dist h coupled)) in

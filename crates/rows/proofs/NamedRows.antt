@@ -3,6 +3,7 @@
 -- a limit its own axis's ends, and the centre for the angular one (`limit-reads`), a motor its own axis's motor, and the ends of that axis's limit
 -- where T holds the axis (`motor-reads`), and then the joint names that limit too (`limit-beside-motor`). Over any number of axes where axes
 -- are counted. No row of group two reads a motor (`no-motor`). Assumes nothing.
+use Rattle.std.specs.Prelude.{Option}
 use Prim.Native.Nat.{ℕ}
 use mathlib.Core.Path.{◌≡◌, refl, sym, ap, ◌∙◌}
 use mathlib.Core.Logic.{◌⊎◌, inl, inr}
@@ -17,7 +18,6 @@ use Rattle.rows.specs.declared.integration_parameters.IntegrationParameters.{Int
 use Rattle.rows.specs.declared.generic_joint.Masks.{Masks}
 use Rattle.rows.specs.declared.joint_constraint_builder.SolverPose.{SolverPose}
 use Rattle.rows.specs.declared.joint_constraint_builder.ImpulseJoint.{ImpulseJoint}
-use Rattle.rows.specs.declared.joint_constraint_builder.Warmstart.{Warmstart}
 use Rattle.rows.specs.declared.joint_velocity_constraint.RowContext.{RowContext}
 use Rattle.rows.specs.declared.joint_velocity_constraint.WritebackId.{WritebackId}
 use Rattle.rows.specs.declared.joint_velocity_constraint.WritebackId.TheVariants.{Dof, Limit, Motor}
@@ -223,7 +223,7 @@ module _ (params : IntegrationParameters) (body1 body2 : SolverPose) (a b : Impu
         s.masks,
       )
 
-  pub same-named : (substep : ℕ) (warm : Warmstart) (prevs : List Float)
+  pub same-named : (substep : ℕ) (warm : Option Float) (prevs : List Float)
       → builder_update_of params substep warm body1 body2 a prevs ≡ builder_update_of params substep warm body1 body2 b prevs
   unfolding builder_update_of x y
   same-named substep warm prevs =

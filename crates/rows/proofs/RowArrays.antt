@@ -3,6 +3,7 @@
 -- its place (`row_ids_array-id`) and all of them (`row_ids_array-ids`). From six last impulses the builder's `update` makes as many rows as the joint's masks name
 -- (`length-builder_update_of`), and with no warm coefficient or in substep 0 it makes the same rows whatever these impulses are (`reads-no-row`).
 -- Assumes nothing.
+use Rattle.std.specs.Prelude.{Option, None}
 use Prim.Native.Nat.{ℕ, zero, suc, ◌-◌, ◌≤◌, ◌<◌}
 use native.Mathlib.Nat.{le_of_suc-le-suc, not-suc-le-zero}
 use mathlib.Core.Path.{◌≡◌, refl, sym, ap, ◌∙◌}
@@ -14,8 +15,6 @@ use Rattle.rows.specs.declared.integration_parameters.IntegrationParameters.{Int
 use Rattle.rows.specs.declared.generic_joint.Masks.{Masks}
 use Rattle.rows.specs.declared.joint_constraint_builder.SolverPose.{SolverPose}
 use Rattle.rows.specs.declared.joint_constraint_builder.ImpulseJoint.{ImpulseJoint}
-use Rattle.rows.specs.declared.joint_constraint_builder.Warmstart.{Warmstart}
-use Rattle.rows.specs.declared.joint_constraint_builder.Warmstart.TheVariants.{Cold}
 use Rattle.rows.specs.declared.joint_velocity_constraint.JointConstraint.{JointConstraint}
 use Rattle.rows.specs.declared.joint_velocity_constraint.RowContext.{RowContext}
 use Rattle.rows.specs.declared.joint_velocity_constraint.WritebackId.{WritebackId}
@@ -92,13 +91,13 @@ module _ (k : Masks) where
 
 -- ---- the rows that the builder makes
 
-module _ (params : IntegrationParameters) (substep : ℕ) (warm : Warmstart) (body1 body2 : SolverPose) (joint : ImpulseJoint) where
+module _ (params : IntegrationParameters) (substep : ℕ) (warm : Option Float) (body1 body2 : SolverPose) (joint : ImpulseJoint) where
   pub length-builder_update_of : (prevs : List Float) → length (builder_update_of params substep warm body1 body2 joint prevs) ≡ length (row_ids 2 1 joint.«data».masks)
   unfolding builder_update_of
   length-builder_update_of prevs =
       let cx : RowContext = joint_context_of params body1 body2 joint in
       length-warmed_all with_impulse warm substep (seed_of joint) (row_ids 2 1 joint.«data».masks) prevs (update_of cx) (length-update_of cx ∙ rw context-joint)
 
-  pub reads-no-row : (warm ≡ Cold) ⊎ (substep ≡ 0) → (ps qs : List Float) → builder_update_of params substep warm body1 body2 joint ps ≡ builder_update_of params substep warm body1 body2 joint qs
+  pub reads-no-row : (warm ≡ None) ⊎ (substep ≡ 0) → (ps qs : List Float) → builder_update_of params substep warm body1 body2 joint ps ≡ builder_update_of params substep warm body1 body2 joint qs
   reads-no-row (inl e) ps qs = rw e (cold params body1 body2 substep joint ps ∙ sym (cold params body1 body2 substep joint qs))
   reads-no-row (inr e) ps qs = rw e (first-reads-no-row params body1 body2 warm joint ps qs)

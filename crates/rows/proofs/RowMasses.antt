@@ -1,4 +1,5 @@
 -- A joint's rows have their bodies' inverse masses, however a build makes them (`built-masses`); a step, a warm start and a bias removal keep them. Assumes nothing.
+use Rattle.std.specs.Prelude.{Option, Some, None}
 use Prim.Native.Nat.{ℕ, zero, suc, ◌<◌}
 use native.Mathlib.Nat.{le_of_suc-le-suc, not-suc-le-zero}
 use mathlib.Core.Path.{refl}
@@ -12,8 +13,6 @@ use Rattle.floats.specs.declared.vector.Vector.{Vector}
 use Rattle.rows.specs.declared.integration_parameters.IntegrationParameters.{IntegrationParameters}
 use Rattle.rows.specs.declared.joint_constraint_builder.SolverPose.{SolverPose}
 use Rattle.rows.specs.declared.joint_constraint_builder.ImpulseJoint.{ImpulseJoint}
-use Rattle.rows.specs.declared.joint_constraint_builder.Warmstart.{Warmstart}
-use Rattle.rows.specs.declared.joint_constraint_builder.Warmstart.TheVariants.{Cold, Warm}
 use Rattle.rows.specs.declared.joint_velocity_constraint.JointConstraint.{JointConstraint}
 use Rattle.rows.specs.declared.joint_velocity_constraint.RowContext.{RowContext}
 use Rattle.rows.specs.declared.joint_velocity_constraint.SolverVel.{SolverVel}
@@ -54,13 +53,13 @@ module _ (a b : Vector) where
 
   -- ---- warm rows
 
-  warmed : (warm : Warmstart) (substep : ℕ) (seed prev : Float) (r : JointConstraint) → HasInverseMasses a b r → HasInverseMasses a b (warmed_of warm substep seed prev r)
+  warmed : (warm : Option Float) (substep : ℕ) (seed prev : Float) (r : JointConstraint) → HasInverseMasses a b r → HasInverseMasses a b (warmed_of warm substep seed prev r)
   unfolding Warmed.warmed_of with_impulse
-  warmed Cold substep seed prev r e = e
-  warmed (Warm c) zero seed prev r e = record { first = e.first; second = e.second }
-  warmed (Warm c) (suc n) seed prev r e = record { first = e.first; second = e.second }
+  warmed None substep seed prev r e = e
+  warmed (Some c) zero seed prev r e = record { first = e.first; second = e.second }
+  warmed (Some c) (suc n) seed prev r e = record { first = e.first; second = e.second }
 
-  all-warmed : (warm : Warmstart) (substep : ℕ) (joint : ImpulseJoint) (is : List WritebackId) (ps : List Float) (rs : List JointConstraint) → Every (HasInverseMasses a b) rs
+  all-warmed : (warm : Option Float) (substep : ℕ) (joint : ImpulseJoint) (is : List WritebackId) (ps : List Float) (rs : List JointConstraint) → Every (HasInverseMasses a b) rs
       → Every (HasInverseMasses a b) (warmed_all warm substep joint is ps rs)
   unfolding Warmed.warmed_all
   all-warmed warm substep joint [] ps rs e = tt
@@ -106,7 +105,7 @@ module _ (cx : RowContext) where
       (finalized _ _ (map (row_of cx) (group_one 2 1 cx.joint.masks)) (rows-masses (group_one 2 1 cx.joint.masks)))
       (finalized _ _ (map (row_of cx) (group_two 2 1 cx.joint.masks)) (rows-masses (group_two 2 1 cx.joint.masks)))
 
-pub built-masses : (params : IntegrationParameters) (substep : ℕ) (warm : Warmstart) (body1 body2 : SolverPose) (joint : ImpulseJoint) (prevs : List Float)
+pub built-masses : (params : IntegrationParameters) (substep : ℕ) (warm : Option Float) (body1 body2 : SolverPose) (joint : ImpulseJoint) (prevs : List Float)
     → Every (HasInverseMasses body1.im body2.im) (builder_update_of params substep warm body1 body2 joint prevs)
 unfolding builder_update_of joint_context_of context_of solver_body_of
 built-masses params substep warm body1 body2 joint prevs =

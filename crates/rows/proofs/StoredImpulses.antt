@@ -2,6 +2,7 @@
 -- same rows made by `update` (`same_rows`), as a joint has before and after `writeback_of` (`written-rows`). What the builder's `update`
 -- gives then differs at most by the seeds of the joint's ids (`same-seeds`), and after substep 0 not at all (`later-reads-no-seed`).
 -- Assumes nothing.
+use Rattle.std.specs.Prelude.{Option}
 use Prim.Native.Nat.{ℕ, zero, suc}
 use mathlib.Core.Path.{◌≡◌, refl, ◌∙◌}
 use mathlib.Core.List.{List, [], ◌∷◌, map, Memᴰ}
@@ -13,7 +14,6 @@ use Rattle.rows.specs.declared.generic_joint.JointLimits.{JointLimits}
 use Rattle.rows.specs.declared.generic_joint.JointMotor.{JointMotor}
 use Rattle.rows.specs.declared.joint_constraint_builder.SolverPose.{SolverPose}
 use Rattle.rows.specs.declared.joint_constraint_builder.ImpulseJoint.{ImpulseJoint}
-use Rattle.rows.specs.declared.joint_constraint_builder.Warmstart.{Warmstart}
 use Rattle.rows.specs.declared.joint_velocity_constraint.RowContext.{RowContext}
 use Rattle.rows.specs.declared.joint_velocity_constraint.WritebackId.{WritebackId}
 use Rattle.rows.specs.declared.joint_velocity_constraint.WritebackId.TheVariants.{Dof, Limit, Motor}
@@ -115,7 +115,7 @@ module _ (params : IntegrationParameters) (body1 body2 : SolverPose) where
       → update_of (joint_context_of params body1 body2 a) ≡ update_of (joint_context_of params body1 body2 b)
   same_rows a b s e = same_update (joint_context_of params body1 body2 a) (joint_context_of params body1 body2 b) (same-context a b s e)
 
-  pub same-seeds : (substep : ℕ) (warm : Warmstart) (a b : ImpulseJoint) (prevs : List Float) → SameParts a.«data» b.«data» → a.center ≡ b.center
+  pub same-seeds : (substep : ℕ) (warm : Option Float) (a b : ImpulseJoint) (prevs : List Float) → SameParts a.«data» b.«data» → a.center ≡ b.center
       → ((i : WritebackId) → Memᴰ i (row_ids 2 1 a.«data».masks) → seed_of a i ≡ seed_of b i)
       → builder_update_of params substep warm body1 body2 a prevs ≡ builder_update_of params substep warm body1 body2 b prevs
   unfolding builder_update_of
@@ -123,7 +123,7 @@ module _ (params : IntegrationParameters) (body1 body2 : SolverPose) where
       warmed_all-seeds with_impulse warm substep (seed_of a) (seed_of b) (row_ids 2 1 a.«data».masks) prevs (update_of (joint_context_of params body1 body2 a)) h
       ∙ rw (same_rows a b s e, s.masks)
 
-  pub later-reads-no-seed : (substep : ℕ) (warm : Warmstart) (a b : ImpulseJoint) (prevs : List Float) → SameParts a.«data» b.«data» → a.center ≡ b.center
+  pub later-reads-no-seed : (substep : ℕ) (warm : Option Float) (a b : ImpulseJoint) (prevs : List Float) → SameParts a.«data» b.«data» → a.center ≡ b.center
       → builder_update_of params (suc substep) warm body1 body2 a prevs ≡ builder_update_of params (suc substep) warm body1 body2 b prevs
   unfolding builder_update_of
   later-reads-no-seed substep warm a b prevs s e =

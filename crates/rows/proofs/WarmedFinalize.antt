@@ -1,6 +1,7 @@
 -- Where the rows of a group start, and that they are orthogonalised, can be done in either order (`finalize-warmed`): orthogonalising reads and
 -- changes no impulse. For any kind of row of which that is shown of one row and of a pair (`ImpulseUnread`); and what holds of rows that start somewhere
 -- whatever their kind: how many they are, the k-th one, what they read of stored impulses and of last ones. Assumes nothing.
+use Rattle.std.specs.Prelude.{Option, Some, None}
 use Prim.Native.Nat.{ℕ, zero, suc, ◌≤◌, ◌<◌}
 use native.Mathlib.Nat.{le_of_suc-le-suc, not-suc-le-zero, suc_inj, suc-ne-zero}
 use native.Mathlib.Omega.{arith}
@@ -10,8 +11,6 @@ use mathlib.Core.List.{List, [], ◌∷◌, ◌++◌, map, Memᴰ}
 use lib.ListN.{length, get_or, drop}
 use lib.Ieee.{Float}
 use Rattle.floats.specs.Operators.{bits}
-use Rattle.rows.specs.declared.joint_constraint_builder.Warmstart.{Warmstart}
-use Rattle.rows.specs.declared.joint_constraint_builder.Warmstart.TheVariants.{Cold, Warm}
 use Rattle.rows.specs.declared.joint_velocity_constraint.WritebackId.{WritebackId}
 use Rattle.rows.specs.Groups.{Group, orthogonalise_n, reduce_of, finalize_of}
 use Rattle.rows.specs.Warmed.{warmed_of, warmed_all}
@@ -19,7 +18,7 @@ use Rattle.rows.specs.Warmed.{warmed_of, warmed_all}
 -- ---- rows of any kind
 
 module _ {Row : Type 0} (with_impulse : Row → Float → Row) where
-  module _ (warm : Warmstart) (substep : ℕ) (seed : WritebackId → Float) where
+  module _ (warm : Option Float) (substep : ℕ) (seed : WritebackId → Float) where
     pub length-warmed_all : (is : List WritebackId) (ps : List Float) (rs : List Row) → length rs ≡ length is → length (warmed_all with_impulse warm substep seed is ps rs) ≡ length is
     unfolding warmed_all
     length-warmed_all [] ps rs e = refl
@@ -52,7 +51,7 @@ module _ {Row : Type 0} (with_impulse : Row → Float → Row) where
   -- ---- what they read
 
   -- two choices of seeds that agree at each of these ids
-  pub warmed_all-seeds : (warm : Warmstart) (substep : ℕ) (a b : WritebackId → Float) (is : List WritebackId) (ps : List Float) (rs : List Row)
+  pub warmed_all-seeds : (warm : Option Float) (substep : ℕ) (a b : WritebackId → Float) (is : List WritebackId) (ps : List Float) (rs : List Row)
       → ((i : WritebackId) → Memᴰ i is → a i ≡ b i) → warmed_all with_impulse warm substep a is ps rs ≡ warmed_all with_impulse warm substep b is ps rs
   unfolding warmed_all
   warmed_all-seeds warm substep a b [] ps rs h = refl
@@ -63,14 +62,14 @@ module _ {Row : Type 0} (with_impulse : Row → Float → Row) where
         warmed_all-seeds warm substep a b is (drop 1 ps) rs (λ j m. h j (Memᴰ.tail m)),
       )
 
-  later-row : (warm : Warmstart) (substep : ℕ) (seed₁ seed₂ prev : Float) (row : Row)
+  later-row : (warm : Option Float) (substep : ℕ) (seed₁ seed₂ prev : Float) (row : Row)
       → warmed_of with_impulse warm (suc substep) seed₁ prev row ≡ warmed_of with_impulse warm (suc substep) seed₂ prev row
   unfolding warmed_of
-  later-row Cold substep seed₁ seed₂ prev row = refl
-  later-row (Warm coeff) substep seed₁ seed₂ prev row = refl
+  later-row None substep seed₁ seed₂ prev row = refl
+  later-row (Some coeff) substep seed₁ seed₂ prev row = refl
 
   -- after substep 0, whatever the seeds
-  pub warmed_all-later : (warm : Warmstart) (substep : ℕ) (a b : WritebackId → Float) (is : List WritebackId) (ps : List Float) (rs : List Row)
+  pub warmed_all-later : (warm : Option Float) (substep : ℕ) (a b : WritebackId → Float) (is : List WritebackId) (ps : List Float) (rs : List Row)
       → warmed_all with_impulse warm (suc substep) a is ps rs ≡ warmed_all with_impulse warm (suc substep) b is ps rs
   unfolding warmed_all
   warmed_all-later warm substep a b [] ps rs = refl
@@ -78,13 +77,13 @@ module _ {Row : Type 0} (with_impulse : Row → Float → Row) where
   warmed_all-later warm substep a b (i ∷ is) ps (r ∷ rs) =
       rw (later-row warm substep (a i) (b i) (get_or ps 0 (bits 0)) r, warmed_all-later warm substep a b is (drop 1 ps) rs)
 
-  first-row : (warm : Warmstart) (seed prev₁ prev₂ : Float) (row : Row) → warmed_of with_impulse warm 0 seed prev₁ row ≡ warmed_of with_impulse warm 0 seed prev₂ row
+  first-row : (warm : Option Float) (seed prev₁ prev₂ : Float) (row : Row) → warmed_of with_impulse warm 0 seed prev₁ row ≡ warmed_of with_impulse warm 0 seed prev₂ row
   unfolding warmed_of
-  first-row Cold seed prev₁ prev₂ row = refl
-  first-row (Warm coeff) seed prev₁ prev₂ row = refl
+  first-row None seed prev₁ prev₂ row = refl
+  first-row (Some coeff) seed prev₁ prev₂ row = refl
 
   -- in substep 0, whatever the last impulses
-  pub warmed_all-first : (warm : Warmstart) (seed : WritebackId → Float) (is : List WritebackId) (ps qs : List Float) (rs : List Row)
+  pub warmed_all-first : (warm : Option Float) (seed : WritebackId → Float) (is : List WritebackId) (ps qs : List Float) (rs : List Row)
       → warmed_all with_impulse warm 0 seed is ps rs ≡ warmed_all with_impulse warm 0 seed is qs rs
   unfolding warmed_all
   warmed_all-first warm seed [] ps qs rs = refl
@@ -97,7 +96,7 @@ module _ {Row : Type 0} (with_impulse : Row → Float → Row) where
 
   -- with no warm coefficient
   pub warmed_all-cold : (substep : ℕ) (seed : WritebackId → Float) (is : List WritebackId) (ps : List Float) (rs : List Row) → length rs ≡ length is
-      → warmed_all with_impulse Cold substep seed is ps rs ≡ rs
+      → warmed_all with_impulse None substep seed is ps rs ≡ rs
   unfolding warmed_all warmed_of
   warmed_all-cold substep seed [] ps [] e = refl
   warmed_all-cold substep seed [] ps (r ∷ rs) e = absurd (suc-ne-zero (length rs) e)
@@ -121,40 +120,40 @@ module _ (group : Group) (with_impulse : group.Row → Float → group.Row) (unr
   abbrev reduce : Masses → Row → Row → Row
   reduce = reduce_of group
 
-  abbrev warmed : Warmstart → ℕ → Float → Float → Row → Row
+  abbrev warmed : Option Float → ℕ → Float → Float → Row → Row
   warmed = warmed_of with_impulse
 
-  sum-warmed : (w : Warmstart) (s : ℕ) (x p : Float) (c : Row) → im_sum_of (warmed w s x p c) ≡ im_sum_of c
+  sum-warmed : (w : Option Float) (s : ℕ) (x p : Float) (c : Row) → im_sum_of (warmed w s x p c) ≡ im_sum_of c
   unfolding warmed_of
-  sum-warmed Cold s x p c = refl
-  sum-warmed (Warm k) zero x p c = unread.sum c _
-  sum-warmed (Warm k) (suc s) x p c = unread.sum c _
+  sum-warmed None s x p c = refl
+  sum-warmed (Some k) zero x p c = unread.sum c _
+  sum-warmed (Some k) (suc s) x p c = unread.sum c _
 
-  head-warmed : (im : Masses) (w : Warmstart) (s : ℕ) (x p : Float) (c : Row) → head_of im (warmed w s x p c) ≡ warmed w s x p (head_of im c)
+  head-warmed : (im : Masses) (w : Option Float) (s : ℕ) (x p : Float) (c : Row) → head_of im (warmed w s x p c) ≡ warmed w s x p (head_of im c)
   unfolding warmed_of
-  head-warmed im Cold s x p c = refl
-  head-warmed im (Warm k) zero x p c = unread.head im c _
-  head-warmed im (Warm k) (suc s) x p c = unread.head im c _
+  head-warmed im None s x p c = refl
+  head-warmed im (Some k) zero x p c = unread.head im c _
+  head-warmed im (Some k) (suc s) x p c = unread.head im c _
 
-  lock-warmed : (w : Warmstart) (s : ℕ) (x p : Float) (c : Row) → is_lock (warmed w s x p c) ≡ is_lock c
+  lock-warmed : (w : Option Float) (s : ℕ) (x p : Float) (c : Row) → is_lock (warmed w s x p c) ≡ is_lock c
   unfolding warmed_of
-  lock-warmed Cold s x p c = refl
-  lock-warmed (Warm k) zero x p c = unread.lock c _
-  lock-warmed (Warm k) (suc s) x p c = unread.lock c _
+  lock-warmed None s x p c = refl
+  lock-warmed (Some k) zero x p c = unread.lock c _
+  lock-warmed (Some k) (suc s) x p c = unread.lock c _
 
-  by-warmed : (im : Masses) (w : Warmstart) (s : ℕ) (x p : Float) (c : Row) → reduce im (warmed w s x p c) ≡ reduce im c
+  by-warmed : (im : Masses) (w : Option Float) (s : ℕ) (x p : Float) (c : Row) → reduce im (warmed w s x p c) ≡ reduce im c
   unfolding warmed_of
-  by-warmed im Cold s x p c = refl
-  by-warmed im (Warm k) zero x p c = unread.by im c _
-  by-warmed im (Warm k) (suc s) x p c = unread.by im c _
+  by-warmed im None s x p c = refl
+  by-warmed im (Some k) zero x p c = unread.by im c _
+  by-warmed im (Some k) (suc s) x p c = unread.by im c _
 
-  pair-warmed : (im : Masses) (w : Warmstart) (s : ℕ) (x p : Float) (d c : Row) → reduce im d (warmed w s x p c) ≡ warmed w s x p (reduce im d c)
+  pair-warmed : (im : Masses) (w : Option Float) (s : ℕ) (x p : Float) (d c : Row) → reduce im d (warmed w s x p c) ≡ warmed w s x p (reduce im d c)
   unfolding warmed_of
-  pair-warmed im Cold s x p d c = refl
-  pair-warmed im (Warm k) zero x p d c = unread.pair im d c _
-  pair-warmed im (Warm k) (suc s) x p d c = unread.pair im d c _
+  pair-warmed im None s x p d c = refl
+  pair-warmed im (Some k) zero x p d c = unread.pair im d c _
+  pair-warmed im (Some k) (suc s) x p d c = unread.pair im d c _
 
-  module _ (warm : Warmstart) (substep : ℕ) (seed : WritebackId → Float) where
+  module _ (warm : Option Float) (substep : ℕ) (seed : WritebackId → Float) where
     abbrev all : List WritebackId → List Float → List Row → List Row
     all = warmed_all with_impulse warm substep seed
 

@@ -1,6 +1,7 @@
 -- The rows that the builder's `update` makes: row by row the id's row with the impulse that it starts from, slot by slot. A turn of its loop overwrites one
 -- blank row (`start-turn`); the array at the end (`start-end`), with its groups orthogonalised, is that of the joint's rows (`started-array`). For any kind of
 -- row, any number of slots and any length of the array; then for a planar joint (`started-rows`). Assumes nothing.
+use Rattle.std.specs.Prelude.{Option}
 use Prim.Native.Nat.{ℕ, zero, suc, ◌+◌, ◌-◌, ◌^◌, ◌≤◌, ◌<◌}
 use native.Mathlib.Numerals.{add-one}
 use native.Mathlib.Omega.{arith}
@@ -16,7 +17,6 @@ use lib.Ieee.{Float}
 use Rattle.rows.specs.declared.integration_parameters.IntegrationParameters.{IntegrationParameters}
 use Rattle.rows.specs.declared.joint_constraint_builder.SolverPose.{SolverPose}
 use Rattle.rows.specs.declared.joint_constraint_builder.ImpulseJoint.{ImpulseJoint}
-use Rattle.rows.specs.declared.joint_constraint_builder.Warmstart.{Warmstart}
 use Rattle.rows.specs.declared.joint_velocity_constraint.JointConstraint.{JointConstraint}
 use Rattle.rows.specs.declared.joint_velocity_constraint.RowContext.{RowContext}
 use Rattle.rows.specs.declared.joint_velocity_constraint.Rows.{Rows}
@@ -55,7 +55,7 @@ pub record Build (Row : Type 0) : Type 0 where
   pub with_impulse : Row → Float → Row
   pub blank : Row
   pub row : WritebackId → Row
-  pub warm : Warmstart
+  pub warm : Option Float
   pub substep : ℕ
   pub seed : WritebackId → Float
   pub prevs : List Float
@@ -139,7 +139,7 @@ module _ {Row : Type 0} {b : Build Row} {rows : List Row} {left k : ℕ} (s : St
 
 -- ---- the array at its end
 
-module _ (group : Group) (with_impulse : group.Row → Float → group.Row) (unread : ImpulseUnread group with_impulse) (warm : Warmstart) (substep : ℕ) (seed : WritebackId → Float)
+module _ (group : Group) (with_impulse : group.Row → Float → group.Row) (unread : ImpulseUnread group with_impulse) (warm : Option Float) (substep : ℕ) (seed : WritebackId → Float)
     (row : WritebackId → group.Row) (blank : group.Row) (most : ℕ) (prevs : List Float) (l r : List WritebackId) (there : length prevs ≡ most) (h : length (l ++ r) ≤ most) where
   open group use {Row}
 
@@ -196,7 +196,7 @@ unfolding im_sum_of head_of row_dot_of is_lock less_of Groups.reduce_of with_imp
 unread = record { sum = λ c x. refl; head = λ im c x. refl; lock = λ c x. refl; by = λ im c x. refl; pair = λ im d c x. refl }
 
 -- the loop of the builder's `update`; f is F
-abbrev pub building : Warmstart → ℕ → ImpulseJoint → RowContext → List Float → ℕ → Build JointConstraint
+abbrev pub building : Option Float → ℕ → ImpulseJoint → RowContext → List Float → ℕ → Build JointConstraint
 building warm substep joint cx prevs f = record {
   with_impulse = with_impulse;
   blank = blank_row;
@@ -217,7 +217,7 @@ unfolding joint_context_of context_of
 context-joint params body1 body2 joint = refl
 
 -- before the first turn
-pub start-start : (warm : Warmstart) (substep : ℕ) (joint : ImpulseJoint) (cx : RowContext) (prevs : List Float) (f : ℕ) → length prevs ≡ 6
+pub start-start : (warm : Option Float) (substep : ℕ) (joint : ImpulseJoint) (cx : RowContext) (prevs : List Float) (f : ℕ) → length prevs ≡ 6
     → first_coupled 2 joint.«data».masks ≡ cond (ltb f 2) (f ∷ []) []
     → Starting (building warm substep joint cx prevs f) (replicate 6 blank_row) (slot_bits joint.«data».masks) 0
 start-start warm substep joint cx prevs f six e = record {
@@ -232,7 +232,7 @@ start-start warm substep joint cx prevs f six e = record {
 }
 
 -- what the code returns
-pub started-rows : (params : IntegrationParameters) (substep : ℕ) (warm : Warmstart) (body1 body2 : SolverPose) (joint : ImpulseJoint) (prevs : List Float)
+pub started-rows : (params : IntegrationParameters) (substep : ℕ) (warm : Option Float) (body1 body2 : SolverPose) (joint : ImpulseJoint) (prevs : List Float)
     {first len : ℕ} {cx : RowContext} {rows : List JointConstraint} → length prevs ≡ 6
     → first ≡ length (group_one 2 1 joint.«data».masks) → len ≡ length (row_ids 2 1 joint.«data».masks) → cx ≡ joint_context_of params body1 body2 joint
     → rows ≡ finalize_groups first len (filled 6 blank_row (warmed_all warm substep joint (row_ids 2 1 joint.«data».masks) prevs (map (row_of cx) (row_ids 2 1 joint.«data».masks))))

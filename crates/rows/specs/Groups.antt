@@ -25,6 +25,11 @@ pub record Group : Type 1 where
   pub inv_dot_of : Masses → Row → Float
   pub pair_of : Masses → Float → Row → Row → Row
 
+-- of a type of rows
+abbrev pub group_of : (Row Masses : Type 0) → (Row → Masses) → (Masses → Row → Row) → (Row → Bool) → (Masses → Row → Float) → (Masses → Float → Row → Row → Row) → Group
+group_of Row Masses im_sum_of head_of is_lock inv_dot_of pair_of =
+    record { Row = Row; Masses = Masses; im_sum_of = im_sum_of; head_of = head_of; is_lock = is_lock; inv_dot_of = inv_dot_of; pair_of = pair_of }
+
 module _ (group : Group) where
   open group use {Row, Masses, im_sum_of, head_of, is_lock, inv_dot_of, pair_of}
 

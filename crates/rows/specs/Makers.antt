@@ -1,6 +1,6 @@
 -- The Rust's joint_constraint_helper.rs: one definition a row kind, before its group is orthogonalised. As in the Rust, an uncoupled linear limit and motor are the
 -- lock's row with fields overwritten; proofs/MakerShapes.antt has them as one literal, and the coupled two with the Rust's loop over the axes.
-use Rattle.std.specs.Prelude.{ℕ, true, false, cond, Float}
+use Rattle.std.specs.Prelude.{ℕ, true, false, cond, Float, Option, Some, None}
 use Rattle.std.specs.Float.{inf}
 use Rattle.std.specs.Float.Ieee.{neg, le, ne}
 use Rattle.floats.specs.Operators.{bits, ◌⊕◌, ◌⊖◌, ◌⊗◌}
@@ -19,8 +19,6 @@ use Rattle.rows.specs.declared.joint_constraint_helper.JointConstraintHelper.{Jo
 use Rattle.rows.specs.declared.joint_constraint_helper.RowAxis.{RowAxis}
 use Rattle.rows.specs.declared.joint_constraint_helper.ImpulseBounds.{ImpulseBounds}
 use Rattle.rows.specs.declared.joint_constraint_helper.LimitEnds.{LimitEnds}
-use Rattle.rows.specs.declared.joint_constraint_helper.MotorLimits.{MotorLimits}
-use Rattle.rows.specs.declared.joint_constraint_helper.MotorLimits.TheVariants.{Span, None}
 use Rattle.rows.specs.declared.joint_velocity_constraint.JointSolverBody.{JointSolverBody}
 use Rattle.rows.specs.declared.joint_velocity_constraint.JointConstraint.{JointConstraint}
 
@@ -138,12 +136,12 @@ limit_angular_of h p bodies limit soft =
 -- ---- motors
 
 -- a linear motor's target velocity, kept within what reaches its limits' ends in one step, where it has limits
-unfoldable pub limited_target_vel_of : Float → MotorLimits → Float → Float → Float
-limited_target_vel_of target_vel (Span low high) dist inv_dt = clamp_of target_vel ((low ⊖ dist) ⊗ inv_dt) ((high ⊖ dist) ⊗ inv_dt)
+unfoldable pub limited_target_vel_of : Float → Option LimitEnds → Float → Float → Float
+limited_target_vel_of target_vel (Some ends) dist inv_dt = clamp_of target_vel ((ends.min ⊖ dist) ⊗ inv_dt) ((ends.max ⊖ dist) ⊗ inv_dt)
 limited_target_vel_of target_vel None dist inv_dt = target_vel
 
 -- a linear motor's right-hand side, at its distance
-unfoldable pub motor_rhs_of : IntegrationParameters → MotorParameters → MotorLimits → Float → Float
+unfoldable pub motor_rhs_of : IntegrationParameters → MotorParameters → Option LimitEnds → Float → Float
 motor_rhs_of p m limits dist =
     let spring = cond (ne m.erp_inv_dt (bits 0)) (bits 0 ⊕ (dist ⊖ m.target_pos) ⊗ m.erp_inv_dt) (bits 0) in
     spring ⊕ neg (limited_target_vel_of m.target_vel limits dist (inv_dt_of p))
@@ -157,7 +155,7 @@ motor_row_of bodies axis m rhs =
     assemble_of bodies axis (motor_bounds_of m) (record { rhs = rhs; rhs_wo_bias = rhs; cfm_coeff = m.cfm_coeff; cfm_gain = m.cfm_gain })
 
 -- `motor_linear`: the lock's row with no softness, with five fields overwritten
-unfoldable pub motor_linear_of : JointConstraintHelper → IntegrationParameters → TwoBodies → ℕ → MotorParameters → MotorLimits → JointConstraint
+unfoldable pub motor_linear_of : JointConstraintHelper → IntegrationParameters → TwoBodies → ℕ → MotorParameters → Option LimitEnds → JointConstraint
 motor_linear_of h p bodies i m limits =
     let lock = lock_linear_of h bodies i (erp_cfm (bits 0) (bits 0)) in
     let rhs = motor_rhs_of p m limits (gdot_of h.lin_err lock.lin_jac) in
@@ -166,7 +164,7 @@ motor_linear_of h p bodies i m limits =
     with_rhs_wo_bias (with_rhs bounded rhs) rhs
 
 -- `motor_linear_coupled`
-unfoldable pub motor_linear_coupled_of : JointConstraintHelper → IntegrationParameters → TwoBodies → ℕ → MotorParameters → MotorLimits → JointConstraint
+unfoldable pub motor_linear_coupled_of : JointConstraintHelper → IntegrationParameters → TwoBodies → ℕ → MotorParameters → Option LimitEnds → JointConstraint
 motor_linear_coupled_of h p bodies coupled m limits =
     let axis = coupled_axis_of h coupled in
     motor_row_of bodies axis m (motor_rhs_of p m limits axis.dist)

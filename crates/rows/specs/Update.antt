@@ -1,5 +1,5 @@
 -- The Rust's joint_velocity_constraint.rs, `update`: a joint's rows, each group orthogonalised by itself.
-use Rattle.std.specs.Prelude.{ℕ, cond, List, ◌++◌, map, eqb, length, take}
+use Rattle.std.specs.Prelude.{ℕ, cond, List, ◌++◌, map, eqb, length, take, Option, Some, None}
 use Rattle.floats.specs.Operators.{bits}
 use Rattle.floats.specs.declared.pose.Pose.{Pose}
 use Rattle.rows.specs.IntegrationParameters.{erp_inv_dt_of, cfm_coeff_of}
@@ -12,8 +12,6 @@ use Rattle.rows.specs.declared.integration_parameters.IntegrationParameters.{Int
 use Rattle.rows.specs.declared.generic_joint.GenericJoint.{GenericJoint}
 use Rattle.rows.specs.declared.joint_constraint_helper.AngularLimitParams.{AngularLimitParams}
 use Rattle.rows.specs.declared.joint_constraint_helper.LimitEnds.{LimitEnds}
-use Rattle.rows.specs.declared.joint_constraint_helper.MotorLimits.{MotorLimits}
-use Rattle.rows.specs.declared.joint_constraint_helper.MotorLimits.TheVariants.{Span, None}
 use Rattle.rows.specs.declared.joint_velocity_constraint.MotorParameters.{MotorParameters}
 use Rattle.rows.specs.declared.joint_velocity_constraint.JointConstraint.{JointConstraint}
 use Rattle.rows.specs.declared.joint_velocity_constraint.RowContext.{RowContext}
@@ -48,8 +46,8 @@ abbrev pub ends_at : GenericJoint → ℕ → LimitEnds
 ends_at joint i = record { min = (limits_at joint i).min; max = (limits_at joint i).max }
 
 -- axis i's limits for its linear motor: its two ends where T holds i
-unfoldable pub motor_limits_of : GenericJoint → ℕ → MotorLimits
-motor_limits_of joint i = cond (is_limit joint.masks i) (Span (limits_at joint i).min (limits_at joint i).max) None
+unfoldable pub motor_limits_of : GenericJoint → ℕ → Option LimitEnds
+motor_limits_of joint i = cond (is_limit joint.masks i) (Some (ends_at joint i)) None
 
 -- axis i's motor at the timestep
 abbrev pub motor_params_at : RowContext → ℕ → MotorParameters

@@ -36,7 +36,7 @@ pub struct Masks {
 }
 
 // Whether a joint is enabled.
-#[derive(Clone, Copy)]
+#[derive(Clone, Copy, PartialEq, Eq)]
 pub enum JointEnabled {
     Enabled,
     DisabledByAttachedBody,
@@ -48,11 +48,7 @@ impl JointEnabled {
     pub fn is_enabled(self) -> bool
         ensures { result ≡ is_enabled self }
     {
-        match self {
-            JointEnabled::Enabled => true,
-            JointEnabled::DisabledByAttachedBody => false,
-            JointEnabled::Disabled => false,
-        }
+        self == JointEnabled::Enabled
     }
 }
 
@@ -72,8 +68,9 @@ impl JointMotor {
     pub fn motor_params(self, dt: f32) -> MotorParameters
         ensures { result ≡ motor_params_of self dt }
     {
-        let model = self.model;
-        let c = model.combine_coefficients(dt, self.stiffness, self.damping);
+        let c = self
+            .model
+            .combine_coefficients(dt, self.stiffness, self.damping);
         MotorParameters {
             erp_inv_dt: c.erp_inv_dt,
             cfm_coeff: c.cfm_coeff,
@@ -96,10 +93,7 @@ impl JointMotor {
 pub fn has_axis(mask: u32, axis: usize) -> bool
     ensures { result ≡ has_axis mask axis }
 {
-    if axis >= 32 {
-        return false;
-    }
-    (mask >> axis) % 2 == 1
+    axis < 32 && (mask >> axis) % 2 == 1
 }
 
 impl GenericJoint {
@@ -107,9 +101,8 @@ impl GenericJoint {
     pub fn limits_at(self, axis: usize) -> JointLimits
         ensures { result ≡ limits_at self axis }
     {
-        let limits = self.limits;
         if axis < 3 {
-            return limits[axis];
+            return self.limits[axis];
         }
         let nan = 0.0 / 0.0;
         JointLimits {
@@ -123,9 +116,8 @@ impl GenericJoint {
     pub fn motor_at(self, axis: usize) -> JointMotor
         ensures { result ≡ motor_at self axis }
     {
-        let motors = self.motors;
         if axis < 3 {
-            return motors[axis];
+            return self.motors[axis];
         }
         let nan = 0.0 / 0.0;
         JointMotor {

@@ -63,11 +63,13 @@ impl SpringCoefficients {
         let erp = self.erp(dt);
         if erp != 0.0 {
             if self.damping_ratio == 0.0 {
-                return self.undamped(dt);
+                self.undamped(dt)
+            } else {
+                self.damped(erp)
             }
-            return self.damped(erp);
+        } else {
+            0.0
         }
-        0.0
     }
 }
 

@@ -1,15 +1,15 @@
 // The Rust's dynamics/solver/joint_constraint/joint_constraint_builder.rs, by value: a joint's rows
 // from the poses of its bodies, and where their impulses start.
 ghost use Rattle.std.specs.Prelude.{◌≡◌};
-ghost use Rattle.rows.specs.Builder.{solver_body_of, joint_context_of, seed_of, warmed_of, builder_update_of};
+ghost use Rattle.rows.specs.Builder.{solver_body_of, joint_context_of, seed_of, builder_update_of};
+ghost use Rattle.rows.specs.Warmed.{warmed_of};
 ghost use Rattle.rows.specs.Update.{rows_array};
 
 use crate::generic_joint::GenericJoint;
 use crate::integration_parameters::IntegrationParameters;
 use crate::joint_constraint_helper::{AngularLimitParams, finalize_groups};
-use crate::joint_velocity_constraint::{
-    JointConstraint, JointSolverBody, RowContext, Rows, WritebackId, blank_row,
-};
+use crate::joint_velocity_constraint::{JointSolverBody, RowContext, Rows, WritebackId, blank_row};
+use crate::row::Row;
 use crate::row_ids::{motors_of, row_slots, slot_id};
 use floats::pose::Pose;
 use floats::rotation_ops::Rotation;
@@ -31,24 +31,14 @@ pub struct ImpulseJoint {
     pub center: Rotation,
 }
 
-// A warm coefficient, or none.
-#[derive(Clone, Copy)]
-pub enum Warmstart {
-    Warm(f32),
-    Cold,
-}
-
 impl SolverPose {
     pub fn solver_body(self) -> JointSolverBody
         ensures { result ≡ solver_body_of self }
     {
-        let pose = self.pose;
-        let im = self.im;
-        let world_com = pose.translation;
         JointSolverBody {
-            im: im,
+            im: self.im,
             ii: self.ii,
-            world_com: world_com,
+            world_com: self.pose.translation,
         }
     }
 }
@@ -65,16 +55,12 @@ impl ImpulseJoint {
         let data = self.data;
         let limits = data.limits_at(2);
         let ang_limit = AngularLimitParams::new(limits.min, limits.max, self.center);
-        let pose1 = body1.pose;
-        let pose2 = body2.pose;
-        let frame1 = pose1.mul(data.local_frame1);
-        let frame2 = pose2.mul(data.local_frame2);
         RowContext::new(
             params,
             body1.solver_body(),
             body2.solver_body(),
-            frame1,
-            frame2,
+            body1.pose.mul(data.local_frame1),
+            body2.pose.mul(data.local_frame2),
             data,
             ang_limit,
         )
@@ -84,38 +70,33 @@ impl ImpulseJoint {
     pub fn seed(self, id: WritebackId) -> f32
         ensures { result ≡ seed_of self id }
     {
-        let data = self.data;
         match id {
             WritebackId::Dof(axis) => {
                 if axis < 3 {
-                    return self.impulses[axis];
+                    self.impulses[axis]
+                } else {
+                    0.0 / 0.0
                 }
-                0.0 / 0.0
             }
-            WritebackId::Limit(axis) => data.limits_at(axis).impulse,
-            WritebackId::Motor(axis) => data.motor_at(axis).impulse,
+            WritebackId::Limit(axis) => self.data.limits_at(axis).impulse,
+            WritebackId::Motor(axis) => self.data.motor_at(axis).impulse,
         }
     }
 }
 
-// Where a row's impulse starts, from its stored impulse and its last one.
-pub fn warmed(
-    warmstart: Warmstart,
-    substep_id: u32,
-    seed: f32,
-    prev: f32,
-    row: JointConstraint,
-) -> JointConstraint
-    ensures { result ≡ warmed_of warmstart substep_id seed prev row }
+// Where a row's impulse starts, from the warm coefficient, if any, its stored impulse and its last one.
+pub fn warmed<R: Row>(warmstart: Option<f32>, substep_id: u32, seed: f32, prev: f32, row: R) -> R
+    ensures { result ≡ warmed_of R.with_impulse warmstart substep_id seed prev row }
 {
     match warmstart {
-        Warmstart::Warm(coeff) => {
+        Some(coeff) => {
             if substep_id == 0 {
-                return row.with_impulse(seed * coeff);
+                row.with_impulse(seed * coeff)
+            } else {
+                row.with_impulse(prev * coeff)
             }
-            row.with_impulse(prev * coeff)
         }
-        Warmstart::Cold => row,
+        None => row,
     }
 }
 
@@ -125,7 +106,7 @@ pub fn warmed(
 pub fn update(
     params: IntegrationParameters,
     substep_id: u32,
-    warmstart: Warmstart,
+    warmstart: Option<f32>,
     body1: SolverPose,
     body2: SolverPose,
     joint: ImpulseJoint,
@@ -133,14 +114,13 @@ pub fn update(
 ) -> Rows
     ensures { result ≡ rows_array (builder_update_of params substep_id warmstart body1 body2 joint prevs) }
 {
-    let data = joint.data;
-    let masks = data.masks;
+    let masks = joint.data.masks;
     let f = masks.first_coupled_lin_axis_id();
     let context = joint.context(params, body1, body2);
-    let blank = blank_row();
-    let mut rows = [blank; 6];
+    let mut rows = [blank_row(); 6];
     let slots = row_slots(masks);
     let first = motors_of(slots);
+    // One turn a set bit, the lowest first: no range counts them.
     let mut left = slots;
     let mut k = 0usize;
     while left > 0 {
@@ -152,7 +132,7 @@ pub fn update(
             prevs[k],
             context.row(id),
         );
-        left = left & (left - 1);
+        left &= left - 1;
         k += 1;
     }
     Rows {

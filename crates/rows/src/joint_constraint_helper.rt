@@ -1,12 +1,15 @@
 // The Rust's dynamics/solver/joint_constraint/joint_constraint_helper.rs: one function a row kind.
 ghost use Rattle.std.specs.Prelude.{◌≡◌, ◌≤◌};
-ghost use Rattle.rows.specs.Finalize.{im_sum_of, row_dot_of, head_of, is_lock, less_of, inv_dot_of, pair_of, finalize_of, finalize_groups};
+ghost use Rattle.rows.specs.Row.{with_impulse};
+ghost use Rattle.rows.specs.Finalize.{im_sum_of, row_dot_of, head_of, is_lock, less_of, inv_dot_of, pair_of};
+ghost use Rattle.rows.specs.Groups.{group_of, finalize_of, finalize_groups};
 ghost use Rattle.rows.specs.Helper.{angular_limit_params_of, snapped_of, new_of, coord_of, linear_axis_of, angular_axis, coupled_step_of, coupled_axis_of};
 ghost use Rattle.rows.specs.Makers.{two_bodies, erp_cfm, assemble_of, lock_bounds, limit_bounds_of, limit_bias_of, limited_target_vel_of, motor_rhs_of, motor_bounds_of, motor_row_of, limit_linear_of, limit_linear_coupled_of, motor_linear_of, motor_linear_coupled_of, lock_linear_of, recentered_angle_of, limit_angular_of, motor_angular_rhs_of, motor_angular_of, lock_angular_of};
 
 use crate::generic_joint::has_axis;
 use crate::integration_parameters::{IntegrationParameters, MAX};
 use crate::joint_velocity_constraint::{JointConstraint, JointSolverBody, MotorParameters};
+use crate::row::Row;
 use floats::angle::angle;
 use floats::angular_inertia_ops::transform_vector;
 use floats::pose::Pose;
@@ -51,13 +54,6 @@ pub struct LimitEnds {
     pub max: f32,
 }
 
-// The two ends of a motor's limits, or none: the Rust's `Option<[N; 2]>`.
-#[derive(Clone, Copy)]
-pub enum MotorLimits {
-    Span(f32, f32),
-    None,
-}
-
 // The bounds of a row's impulse.
 #[derive(Clone, Copy)]
 pub struct ImpulseBounds {
@@ -77,10 +73,7 @@ impl AngularLimitParams {
                 half_range: 10.0,
             };
         }
-        AngularLimitParams {
-            center: center,
-            half_range: half_range,
-        }
+        AngularLimitParams { center, half_range }
     }
 }
 
@@ -103,9 +96,10 @@ pub fn snapped(
 {
     if has_axis(locked_axes, axis) {
         let column = basis.column(axis);
-        return center.sub(column.mul(lin_err.gdot(column)));
+        center.sub(column.mul(lin_err.gdot(column)))
+    } else {
+        center
     }
-    center
 }
 
 impl JointConstraintHelper {
@@ -129,7 +123,7 @@ impl JointConstraintHelper {
         let column0 = basis.column(0);
         let column1 = basis.column(1);
         JointConstraintHelper {
-            basis: basis,
+            basis,
             cmat1_basis: Vector {
                 x: cmat1.gdot(column0),
                 y: cmat1.gdot(column1),
@@ -138,7 +132,7 @@ impl JointConstraintHelper {
                 x: cmat2.gdot(column0),
                 y: cmat2.gdot(column1),
             },
-            lin_err: lin_err,
+            lin_err,
             ang_err: rotation1.inverse().mul(frame2.rotation),
         }
     }
@@ -148,18 +142,17 @@ impl JointConstraintHelper {
         ensures { result ≡ coupled_step_of self c coupled_axes axis }
     {
         if has_axis(coupled_axes, axis) {
-            let basis = self.basis;
-            let column = basis.column(axis);
+            let column = self.basis.column(axis);
             let coeff = column.gdot(self.lin_err);
-            let lin_jac = c.lin_jac;
-            return RowAxis {
+            RowAxis {
                 dist: c.dist,
-                lin_jac: lin_jac.add(column.mul(coeff)),
+                lin_jac: c.lin_jac.add(column.mul(coeff)),
                 ang_jac1: c.ang_jac1 + coord(self.cmat1_basis, axis) * coeff,
                 ang_jac2: c.ang_jac2 + coord(self.cmat2_basis, axis) * coeff,
-            };
+            }
+        } else {
+            c
         }
-        c
     }
 
     // What the coupled limit and the coupled motor share: the length is taken before scaling.
@@ -173,12 +166,11 @@ impl JointConstraintHelper {
             ang_jac2: 0.0,
         };
         let c = self.coupled_step(self.coupled_step(none, coupled_axes, 0), coupled_axes, 1);
-        let lin_jac = c.lin_jac;
-        let dist = lin_jac.simd_length();
+        let dist = c.lin_jac.simd_length();
         let inv_dist = simd_inv(dist);
         RowAxis {
-            dist: dist,
-            lin_jac: lin_jac.mul(inv_dist),
+            dist,
+            lin_jac: c.lin_jac.mul(inv_dist),
             ang_jac1: c.ang_jac1 * inv_dist,
             ang_jac2: c.ang_jac2 * inv_dist,
         }
@@ -199,25 +191,22 @@ pub fn assemble(
     ensures { result ≡ assemble_of (two_bodies body1 body2) axis bounds
         (record { rhs = rhs; rhs_wo_bias = rhs_wo_bias; cfm_coeff = cfm_coeff; cfm_gain = cfm_gain }) }
 {
-    let lin_jac = axis.lin_jac;
-    let im1 = body1.im;
-    let im2 = body2.im;
     JointConstraint {
         impulse: 0.0,
         impulse_min: bounds.min,
         impulse_max: bounds.max,
-        lin_jac: lin_jac,
+        lin_jac: axis.lin_jac,
         ang_jac1: axis.ang_jac1,
         ang_jac2: axis.ang_jac2,
         ii_ang_jac1: transform_vector(body1.ii, axis.ang_jac1),
         ii_ang_jac2: transform_vector(body2.ii, axis.ang_jac2),
         inv_lhs: 0.0,
-        rhs: rhs,
-        rhs_wo_bias: rhs_wo_bias,
-        cfm_gain: cfm_gain,
-        cfm_coeff: cfm_coeff,
-        im1: im1,
-        im2: im2,
+        rhs,
+        rhs_wo_bias,
+        cfm_gain,
+        cfm_coeff,
+        im1: body1.im,
+        im2: body2.im,
     }
 }
 
@@ -235,17 +224,9 @@ pub fn lock_bounds() -> ImpulseBounds
 pub fn limit_bounds(dist: f32, min: f32, max: f32) -> ImpulseBounds
     ensures { result ≡ limit_bounds_of dist min max }
 {
-    let mut low = 0.0;
-    let mut high = 0.0;
-    if dist <= min {
-        low = -infinity();
-    }
-    if max <= dist {
-        high = infinity();
-    }
     ImpulseBounds {
-        min: low,
-        max: high,
+        min: if dist <= min { -infinity() } else { 0.0 },
+        max: if max <= dist { infinity() } else { 0.0 },
     }
 }
 
@@ -269,15 +250,16 @@ pub fn limit_bias(
 }
 
 // A linear motor's target velocity, kept within what reaches the ends of its limits in one step.
-pub fn limited_target_vel(target_vel: f32, limits: MotorLimits, dist: f32, inv_dt: f32) -> f32
+pub fn limited_target_vel(target_vel: f32, limits: Option<LimitEnds>, dist: f32, inv_dt: f32) -> f32
     ensures { result ≡ limited_target_vel_of target_vel limits dist inv_dt }
 {
     match limits {
-        MotorLimits::Span(min, max) => {
-            let reached = clamp(target_vel, (min - dist) * inv_dt, (max - dist) * inv_dt);
-            reached.value
+        Some(ends) => {
+            let low = (ends.min - dist) * inv_dt;
+            let high = (ends.max - dist) * inv_dt;
+            clamp(target_vel, low, high).value
         }
-        MotorLimits::None => target_vel,
+        None => target_vel,
     }
 }
 
@@ -285,7 +267,7 @@ pub fn limited_target_vel(target_vel: f32, limits: MotorLimits, dist: f32, inv_d
 pub fn motor_rhs(
     params: IntegrationParameters,
     motor_params: MotorParameters,
-    limits: MotorLimits,
+    limits: Option<LimitEnds>,
     dist: f32,
 ) -> f32
     ensures { result ≡ motor_rhs_of params motor_params limits dist }
@@ -346,12 +328,10 @@ impl JointConstraintHelper {
     pub fn linear_axis(self, axis: usize) -> RowAxis
         ensures { result ≡ linear_axis_of self axis }
     {
-        let basis = self.basis;
-        let lin_err = self.lin_err;
-        let lin_jac = basis.column(axis);
+        let lin_jac = self.basis.column(axis);
         RowAxis {
-            dist: lin_err.gdot(lin_jac),
-            lin_jac: lin_jac,
+            dist: self.lin_err.gdot(lin_jac),
+            lin_jac,
             ang_jac1: coord(self.cmat1_basis, axis),
             ang_jac2: coord(self.cmat2_basis, axis),
         }
@@ -401,8 +381,7 @@ impl JointConstraintHelper {
         let passed = axis.dist - limits.max;
         let rhs_wo_bias = min(passed, 0.0) * params.inv_dt();
         let max_bias = params.max_corrective_velocity();
-        let capped = clamp(max(passed, 0.0) * erp_inv_dt, -max_bias, max_bias);
-        let rhs_bias = capped.value;
+        let rhs_bias = clamp(max(passed, 0.0) * erp_inv_dt, -max_bias, max_bias).value;
         assemble(
             body1,
             body2,
@@ -425,7 +404,7 @@ impl JointConstraintHelper {
         body2: JointSolverBody,
         motor_axis: usize,
         motor_params: MotorParameters,
-        limits: MotorLimits,
+        limits: Option<LimitEnds>,
     ) -> JointConstraint
         ensures { result ≡ motor_linear_of self params (two_bodies body1 body2) motor_axis motor_params limits }
     {
@@ -441,7 +420,7 @@ impl JointConstraintHelper {
         body2: JointSolverBody,
         coupled_axes: u32,
         motor_params: MotorParameters,
-        limits: MotorLimits,
+        limits: Option<LimitEnds>,
     ) -> JointConstraint
         ensures { result ≡ motor_linear_coupled_of self params (two_bodies body1 body2) coupled_axes motor_params limits }
     {
@@ -461,8 +440,7 @@ impl JointConstraintHelper {
         ensures { result ≡ lock_linear_of self (two_bodies body1 body2) locked_axis (erp_cfm erp_inv_dt cfm_coeff) }
     {
         let axis = self.linear_axis(locked_axis);
-        let lin_jac = axis.lin_jac;
-        let rhs_bias = lin_jac.gdot(self.lin_err) * erp_inv_dt;
+        let rhs_bias = axis.lin_jac.gdot(self.lin_err) * erp_inv_dt;
         assemble(
             body1,
             body2,
@@ -549,8 +527,7 @@ impl JointConstraintHelper {
     ) -> JointConstraint
         ensures { result ≡ lock_angular_of self (two_bodies body1 body2) (erp_cfm erp_inv_dt cfm_coeff) }
     {
-        let ang_err = self.ang_err;
-        let rhs_bias = ang_err.im * erp_inv_dt;
+        let rhs_bias = self.ang_err.im * erp_inv_dt;
         assemble(
             body1,
             body2,
@@ -566,48 +543,20 @@ impl JointConstraintHelper {
 
 // ---- `finalize_constraints`: the rows of one group
 
-pub fn im_sum(c: JointConstraint) -> Vector
-    ensures { result ≡ im_sum_of c }
-{
-    let im1 = c.im1;
-    im1.add(c.im2)
-}
-
+// J_i M⁻¹ J_jᵀ of two rows of one joint.
 pub fn row_dot(imsum: Vector, c_i: JointConstraint, c_j: JointConstraint) -> f32
     ensures { result ≡ row_dot_of imsum c_i c_j }
 {
-    let lin_jac = c_i.lin_jac;
-    lin_jac.gdot(imsum.component_mul(c_j.lin_jac))
+    c_i.lin_jac.gdot(imsum.component_mul(c_j.lin_jac))
         + c_i.ii_ang_jac1 * c_j.ang_jac1
         + c_i.ii_ang_jac2 * c_j.ang_jac2
-}
-
-pub fn head(imsum: Vector, c_j: JointConstraint) -> JointConstraint
-    ensures { result ≡ head_of imsum c_j }
-{
-    let dot_jj = row_dot(imsum, c_j, c_j);
-    let cfm_gain = dot_jj * c_j.cfm_coeff + c_j.cfm_gain;
-    let mut row = c_j;
-    row.inv_lhs = simd_inv(dot_jj + cfm_gain);
-    row.cfm_gain = cfm_gain;
-    row
-}
-
-// Whether a row is a lock, or a motor with a lock's bounds.
-pub fn is_lock(c_j: JointConstraint) -> bool
-    ensures { result ≡ is_lock c_j }
-{
-    c_j.impulse_min == -MAX && c_j.impulse_max == MAX
 }
 
 pub fn less(c_i: JointConstraint, c_j: JointConstraint, coeff: f32) -> JointConstraint
     ensures { result ≡ less_of c_i c_j coeff }
 {
     let mut row = c_i;
-    let lin_jac_i = c_i.lin_jac;
-    let lin_jac_j = c_j.lin_jac;
-    let lin_jac = lin_jac_i.sub(lin_jac_j.mul(coeff));
-    row.lin_jac = lin_jac;
+    row.lin_jac = c_i.lin_jac.sub(c_j.lin_jac.mul(coeff));
     row.ang_jac1 = c_i.ang_jac1 - c_j.ang_jac1 * coeff;
     row.ang_jac2 = c_i.ang_jac2 - c_j.ang_jac2 * coeff;
     row.ii_ang_jac1 = c_i.ii_ang_jac1 - c_j.ii_ang_jac1 * coeff;
@@ -617,41 +566,68 @@ pub fn less(c_i: JointConstraint, c_j: JointConstraint, coeff: f32) -> JointCons
     row
 }
 
-// Row i made orthogonal to the lock j; inv_dot_jj is the inverse of row j's product with itself.
-pub fn pair(
-    imsum: Vector,
-    inv_dot_jj: f32,
-    c_j: JointConstraint,
-    c_i: JointConstraint,
-) -> JointConstraint
-    ensures { result ≡ pair_of imsum inv_dot_jj c_j c_i }
-{
-    let coeff = row_dot(imsum, c_i, c_j) * inv_dot_jj;
-    less(c_i, c_j, coeff)
-}
+impl Row for JointConstraint {
+    type Masses = Vector;
 
-// The inverse of row j's product with itself.
-pub fn inv_dot(imsum: Vector, c_j: JointConstraint) -> f32
-    ensures { result ≡ inv_dot_of imsum c_j }
-{
-    simd_inv(row_dot(imsum, c_j, c_j))
+    ghost with_impulse = { with_impulse };
+
+    ghost im_sum = { im_sum_of };
+
+    ghost head = { head_of };
+
+    ghost is_lock = { is_lock };
+
+    ghost inv_dot = { inv_dot_of };
+
+    ghost pair = { pair_of };
+
+    fn with_impulse(self, impulse: f32) -> JointConstraint {
+        JointConstraint { impulse, ..self }
+    }
+
+    fn im_sum(self) -> Vector {
+        self.im1.add(self.im2)
+    }
+
+    fn head(self, imsum: Vector) -> JointConstraint {
+        let dot_jj = row_dot(imsum, self, self);
+        let cfm_gain = dot_jj * self.cfm_coeff + self.cfm_gain;
+        JointConstraint {
+            inv_lhs: simd_inv(dot_jj + cfm_gain),
+            cfm_gain,
+            ..self
+        }
+    }
+
+    fn is_lock(self) -> bool {
+        self.impulse_min == -MAX && self.impulse_max == MAX
+    }
+
+    fn inv_dot(self, imsum: Vector) -> f32 {
+        simd_inv(row_dot(imsum, self, self))
+    }
+
+    fn pair(self, imsum: Vector, inv_dot_jj: f32, c_j: JointConstraint) -> JointConstraint {
+        let coeff = row_dot(imsum, self, c_j) * inv_dot_jj;
+        less(self, c_j, coeff)
+    }
 }
 
 // The Rust's `finalize_constraints`: the lent rows are one group, made orthogonal by the modified
 // Gram-Schmidt process. The inverse masses are those of the first row.
-pub fn finalize_constraints(rows: &mut [JointConstraint])
-    ensures { rows.new ≡ finalize_of rows.old }
+pub fn finalize_constraints<R: Row>(rows: &mut [R])
+    ensures { rows.new ≡ finalize_of (group_of R R.Masses R.im_sum R.head R.is_lock R.inv_dot R.pair) rows.old }
 {
     let n = rows.len();
     if 0 < n {
-        let imsum = im_sum(rows[0]);
+        let imsum = rows[0].im_sum();
         for j in 0..n {
-            let c_j = head(imsum, rows[j]);
-            let inv_dot_jj = inv_dot(imsum, c_j);
+            let c_j = rows[j].head(imsum);
+            let inv_dot_jj = c_j.inv_dot(imsum);
             rows[j] = c_j;
-            if is_lock(c_j) {
+            if c_j.is_lock() {
                 for i in j + 1..n {
-                    rows[i] = pair(imsum, inv_dot_jj, c_j, rows[i]);
+                    rows[i] = rows[i].pair(imsum, inv_dot_jj, c_j);
                 }
             }
         }
@@ -660,12 +636,13 @@ pub fn finalize_constraints(rows: &mut [JointConstraint])
 
 // `finalize_constraints` for two groups of an array that is handed over: the rows before row `first`, and those from there
 // to before row `len`.
-pub fn finalize_groups(rows: [JointConstraint; 6], first: usize, len: usize) -> [JointConstraint; 6]
-    requires { (first ≤ len) × (len ≤ 6) }
-    ensures { result ≡ finalize_groups first len rows }
+pub fn finalize_groups<R: Row, const N: usize>(rows: [R; N], first: usize, len: usize) -> [R; N]
+    requires { (first ≤ len) × (len ≤ N) }
+    ensures { result ≡ finalize_groups (group_of R R.Masses R.im_sum R.head R.is_lock R.inv_dot R.pair) first len rows }
 {
     let mut groups = rows;
-    finalize_constraints(&mut groups[..first]);
-    finalize_constraints(&mut groups[first..len]);
+    let all = &mut groups[..];
+    finalize_constraints(&mut all[..first]);
+    finalize_constraints(&mut all[first..len]);
     groups
 }

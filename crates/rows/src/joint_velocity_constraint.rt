@@ -4,13 +4,13 @@ ghost use Rattle.std.specs.Prelude.{◌≡◌, ◌≤◌};
 ghost use Rattle.rows.specs.Makers.{two_bodies};
 ghost use Rattle.rows.specs.Update.{context_of, motor_limits_of, row_of, update_of, blank_row, rows_array, made_rows};
 ghost use Rattle.rows.specs.Step.{wanted_impulse_of, applied_of, step_of, residual_of, warmstart_of, remove_bias_of};
-ghost use Rattle.rows.specs.Row.{with_impulse};
 
 use crate::generic_joint::GenericJoint;
 use crate::integration_parameters::IntegrationParameters;
 use crate::joint_constraint_helper::{
-    AngularLimitParams, JointConstraintHelper, LimitEnds, MotorLimits, finalize_groups,
+    AngularLimitParams, JointConstraintHelper, LimitEnds, finalize_groups,
 };
+use crate::row::Row;
 use crate::row_ids::{RowIds, row_ids};
 use floats::pose::Pose;
 use floats::scalar::{Side, clamp};
@@ -109,9 +109,7 @@ impl JointConstraint {
     pub fn wanted_impulse(self, vel1: SolverVel, vel2: SolverVel) -> f32
         ensures { result ≡ wanted_impulse_of self vel1 vel2 }
     {
-        let lin_jac = self.lin_jac;
-        let linear2 = vel2.linear;
-        let dlinvel = lin_jac.gdot(linear2.sub(vel1.linear));
+        let dlinvel = self.lin_jac.gdot(vel2.linear.sub(vel1.linear));
         let dangvel = self.ang_jac2 * vel2.angular - self.ang_jac1 * vel1.angular;
         let rhs = dlinvel + dangvel + self.rhs;
         self.impulse + self.inv_lhs * (rhs - self.cfm_gain * self.impulse)
@@ -121,29 +119,17 @@ impl JointConstraint {
     pub fn applied(self, vel1: SolverVel, vel2: SolverVel, impulse: f32) -> SolverVels
         ensures { result ≡ applied_of self vel1 vel2 impulse }
     {
-        let lin_jac = self.lin_jac;
-        let linear1 = vel1.linear;
-        let linear2 = vel2.linear;
-        let lin_impulse = lin_jac.mul(impulse);
+        let lin_impulse = self.lin_jac.mul(impulse);
         SolverVels {
             vel1: SolverVel {
-                linear: linear1.add(lin_impulse.component_mul(self.im1)),
+                linear: vel1.linear.add(lin_impulse.component_mul(self.im1)),
                 angular: vel1.angular + self.ii_ang_jac1 * impulse,
             },
             vel2: SolverVel {
-                linear: linear2.sub(lin_impulse.component_mul(self.im2)),
+                linear: vel2.linear.sub(lin_impulse.component_mul(self.im2)),
                 angular: vel2.angular - self.ii_ang_jac2 * impulse,
             },
         }
-    }
-
-    // The row with another impulse.
-    pub fn with_impulse(self, impulse: f32) -> JointConstraint
-        ensures { result ≡ with_impulse self impulse }
-    {
-        let mut row = self;
-        row.impulse = impulse;
-        row
     }
 
     // One step of the Rust's `solve_generic`, by value.
@@ -152,13 +138,11 @@ impl JointConstraint {
     {
         let wanted = self.wanted_impulse(vel1, vel2);
         let clamped = clamp(wanted, self.impulse_min, self.impulse_max);
-        let total_impulse = clamped.value;
-        let side = clamped.side;
-        let delta_impulse = total_impulse - self.impulse;
+        let delta_impulse = clamped.value - self.impulse;
         Solved {
-            row: self.with_impulse(total_impulse),
+            row: self.with_impulse(clamped.value),
             vels: self.applied(vel1, vel2, delta_impulse),
-            side: side,
+            side: clamped.side,
         }
     }
 
@@ -180,9 +164,10 @@ impl JointConstraint {
     pub fn remove_bias_from_rhs(self) -> JointConstraint
         ensures { result ≡ remove_bias_of self }
     {
-        let mut row = self;
-        row.rhs = self.rhs_wo_bias;
-        row
+        JointConstraint {
+            rhs: self.rhs_wo_bias,
+            ..self
+        }
     }
 }
 
@@ -197,8 +182,7 @@ pub fn solve_generic(
         × (solver_vel1.new ≡ (step_of row.old solver_vel1.old solver_vel2.old).vels.vel1)
         × (solver_vel2.new ≡ (step_of row.old solver_vel1.old solver_vel2.old).vels.vel2) }
 {
-    let c = *row;
-    let solved = c.step(*solver_vel1, *solver_vel2);
+    let solved = row.step(*solver_vel1, *solver_vel2);
     *row = solved.row;
     *solver_vel1 = solved.vels.vel1;
     *solver_vel2 = solved.vels.vel2;
@@ -213,11 +197,10 @@ pub fn solve_row(row: JointConstraint, vel1: SolverVel, vel2: SolverVel) -> Solv
     let mut v1 = vel1;
     let mut v2 = vel2;
     let side = solve_generic(&mut c, &mut v1, &mut v2);
-    let vels = SolverVels { vel1: v1, vel2: v2 };
     Solved {
         row: c,
-        vels: vels,
-        side: side,
+        vels: SolverVels { vel1: v1, vel2: v2 },
+        side,
     }
 }
 
@@ -246,15 +229,18 @@ pub fn blank_row() -> JointConstraint
 }
 
 // The limits of an axis for its linear motor.
-pub fn motor_limits(joint: GenericJoint, axis: usize) -> MotorLimits
+pub fn motor_limits(joint: GenericJoint, axis: usize) -> Option<LimitEnds>
     ensures { result ≡ motor_limits_of joint axis }
 {
-    let masks = joint.masks;
-    if masks.is_limit(axis) {
+    if joint.masks.is_limit(axis) {
         let limits = joint.limits_at(axis);
-        return MotorLimits::Span(limits.min, limits.max);
+        Some(LimitEnds {
+            min: limits.min,
+            max: limits.max,
+        })
+    } else {
+        None
     }
-    MotorLimits::None
 }
 
 impl RowContext {
@@ -269,66 +255,66 @@ impl RowContext {
     ) -> RowContext
         ensures { result ≡ context_of params (two_bodies body1 body2) frame1 frame2 joint ang_limit }
     {
-        let masks = joint.masks;
-        let softness = joint.softness;
-        let dt = params.dt;
-        let world_com1 = body1.world_com;
-        let world_com2 = body2.world_com;
         let helper = JointConstraintHelper::new(
             frame1,
             frame2,
-            world_com1,
-            world_com2,
-            masks.locked_axes,
+            body1.world_com,
+            body2.world_com,
+            joint.masks.locked_axes,
         );
         RowContext {
-            params: params,
-            body1: body1,
-            body2: body2,
-            helper: helper,
-            joint: joint,
-            ang_limit: ang_limit,
-            erp_inv_dt: softness.erp_inv_dt(dt),
-            cfm_coeff: softness.cfm_coeff(dt),
+            params,
+            body1,
+            body2,
+            helper,
+            joint,
+            ang_limit,
+            erp_inv_dt: joint.softness.erp_inv_dt(params.dt),
+            cfm_coeff: joint.softness.cfm_coeff(params.dt),
         }
     }
 
     pub fn dof_row(self, axis: usize) -> JointConstraint
         ensures { result ≡ row_of self (WritebackId.Dof axis) }
     {
-        let helper = self.helper;
-        let body1 = self.body1;
-        let body2 = self.body2;
-        let erp_inv_dt = self.erp_inv_dt;
-        let cfm_coeff = self.cfm_coeff;
+        let RowContext {
+            helper,
+            body1,
+            body2,
+            erp_inv_dt,
+            cfm_coeff,
+            ..
+        } = self;
         if axis == 2 {
-            return helper.lock_angular(body1, body2, erp_inv_dt, cfm_coeff);
+            helper.lock_angular(body1, body2, erp_inv_dt, cfm_coeff)
+        } else {
+            helper.lock_linear(body1, body2, axis, erp_inv_dt, cfm_coeff)
         }
-        helper.lock_linear(body1, body2, axis, erp_inv_dt, cfm_coeff)
     }
 
     pub fn limit_row(self, axis: usize) -> JointConstraint
         ensures { result ≡ row_of self (WritebackId.Limit axis) }
     {
-        let helper = self.helper;
-        let params = self.params;
-        let body1 = self.body1;
-        let body2 = self.body2;
-        let erp_inv_dt = self.erp_inv_dt;
-        let cfm_coeff = self.cfm_coeff;
+        let RowContext {
+            params,
+            body1,
+            body2,
+            helper,
+            joint,
+            ang_limit,
+            erp_inv_dt,
+            cfm_coeff,
+        } = self;
         if axis == 2 {
-            let ang_limit = self.ang_limit;
             return helper.limit_angular(params, body1, body2, ang_limit, erp_inv_dt, cfm_coeff);
         }
-        let joint = self.joint;
-        let masks = joint.masks;
         let limits = joint.limits_at(axis);
         let ends = LimitEnds {
             min: limits.min,
             max: limits.max,
         };
-        if masks.is_coupled(axis) {
-            let coupled = masks.coupled_axes;
+        if joint.masks.is_coupled(axis) {
+            let coupled = joint.masks.coupled_axes;
             return helper.limit_linear_coupled(
                 params, body1, body2, coupled, ends, erp_inv_dt, cfm_coeff,
             );
@@ -339,20 +325,22 @@ impl RowContext {
     pub fn motor_row(self, axis: usize) -> JointConstraint
         ensures { result ≡ row_of self (WritebackId.Motor axis) }
     {
-        let helper = self.helper;
-        let params = self.params;
-        let body1 = self.body1;
-        let body2 = self.body2;
-        let joint = self.joint;
+        let RowContext {
+            params,
+            body1,
+            body2,
+            helper,
+            joint,
+            ..
+        } = self;
         let motor = joint.motor_at(axis);
         let motor_params = motor.motor_params(params.dt);
         if axis == 2 {
             return helper.motor_angular(body1, body2, motor_params);
         }
-        let masks = joint.masks;
         let limits = motor_limits(joint, axis);
-        if masks.is_coupled(axis) {
-            let coupled = masks.coupled_axes;
+        if joint.masks.is_coupled(axis) {
+            let coupled = joint.masks.coupled_axes;
             return helper.motor_linear_coupled(params, body1, body2, coupled, motor_params, limits);
         }
         helper.motor_linear(params, body1, body2, axis, motor_params, limits)
@@ -374,14 +362,9 @@ impl RowContext {
         requires { count ≤ 6 }
         ensures { result ≡ made_rows self ids.ids count }
     {
-        let blank = blank_row();
-        let mut rows = [blank; 6];
-        let mut k = 0usize;
-        while k < count {
-            let named = ids.ids[k];
-            let id = named.id;
-            rows[k] = self.row(id);
-            k += 1;
+        let mut rows = [blank_row(); 6];
+        for k in 0..count {
+            rows[k] = self.row(ids.ids[k].id);
         }
         rows
     }
@@ -389,12 +372,11 @@ impl RowContext {
     pub fn update(self) -> Rows
         ensures { result ≡ rows_array (update_of self) }
     {
-        let joint = self.joint;
-        let ids = row_ids(joint.masks);
+        let ids = row_ids(self.joint.masks);
         let len = ids.len;
         Rows {
             rows: finalize_groups(self.made(ids, len), ids.first, len),
-            len: len,
+            len,
         }
     }
 }

@@ -8,4 +8,5 @@ pub mod joint_constraint_helper;
 pub mod joint_velocity_constraint;
 pub mod motor_model;
 pub mod reaction;
+pub mod row;
 pub mod row_ids;

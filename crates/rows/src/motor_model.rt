@@ -26,12 +26,12 @@ impl MotorModel {
         let cfm = inv(dt * dt * stiffness + dt * damping);
         match self {
             MotorModel::AccelerationBased => MotorCoefficients {
-                erp_inv_dt: erp_inv_dt,
+                erp_inv_dt,
                 cfm_coeff: cfm,
                 cfm_gain: 0.0,
             },
             MotorModel::ForceBased => MotorCoefficients {
-                erp_inv_dt: erp_inv_dt,
+                erp_inv_dt,
                 cfm_coeff: 0.0,
                 cfm_gain: cfm,
             },

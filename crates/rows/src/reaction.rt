@@ -47,17 +47,14 @@ fn given(before: BodyImpulses, row: JointConstraint) -> BodyImpulses
     ensures { result ≡ given_of before row }
 {
     let impulse = row.impulse;
-    let lin_jac = row.lin_jac;
-    let linear = lin_jac.mul(impulse);
-    let linear1 = before.body1.linear;
-    let linear2 = before.body2.linear;
+    let linear = row.lin_jac.mul(impulse);
     BodyImpulses {
         body1: BodyImpulse {
-            linear: linear1.add(linear),
+            linear: before.body1.linear.add(linear),
             angular: before.body1.angular + row.ang_jac1 * impulse,
         },
         body2: BodyImpulse {
-            linear: linear2.sub(linear),
+            linear: before.body2.linear.sub(linear),
             angular: before.body2.angular - row.ang_jac2 * impulse,
         },
     }
@@ -67,10 +64,7 @@ fn given(before: BodyImpulses, row: JointConstraint) -> BodyImpulses
 fn held(rows: Rows) -> usize
     ensures { result ≡ length (rows_in rows) }
 {
-    if rows.len < 6 {
-        return rows.len;
-    }
-    6
+    rows.len.min(6)
 }
 
 // What a joint's rows together gave each body.
@@ -79,10 +73,8 @@ pub fn impulses(rows: Rows) -> BodyImpulses
 {
     let n = held(rows);
     let mut sums = no_impulses();
-    let mut k = 0usize;
-    while k < n {
+    for k in 0..n {
         sums = given(sums, rows.rows[k]);
-        k += 1;
     }
     sums
 }
@@ -92,11 +84,9 @@ fn along(frame: Rotation, v: Vector) -> Vector
     ensures { result ≡ along_of frame v }
 {
     let basis = frame.to_mat();
-    let x_axis = basis.column(0);
-    let y_axis = basis.column(1);
     Vector {
-        x: x_axis.gdot(v),
-        y: y_axis.gdot(v),
+        x: basis.column(0).gdot(v),
+        y: basis.column(1).gdot(v),
     }
 }
 
@@ -104,9 +94,7 @@ fn along(frame: Rotation, v: Vector) -> Vector
 fn moment(point: Vector, center: Vector, got: BodyImpulse) -> f32
     ensures { result ≡ moment_of point center got }
 {
-    let arm = point.sub(center);
-    let cross = arm.gcross_matrix();
-    cross.gdot(got.linear) - got.angular
+    point.sub(center).gcross_matrix().gdot(got.linear) - got.angular
 }
 
 // The reaction of a joint that has these rows, its bodies at these poses.
@@ -116,11 +104,9 @@ pub fn joint_reaction(rows: Rows, pose1: Pose, pose2: Pose, joint: GenericJoint)
     let sums = impulses(rows);
     let frame1 = pose1.mul(joint.local_frame1);
     let frame2 = pose2.mul(joint.local_frame2);
-    let got1 = sums.body1;
-    let got2 = sums.body2;
     Reaction {
         impulses: sums,
-        along: along(frame1.rotation, got1.linear),
-        moment: moment(frame2.translation, pose2.translation, got2),
+        along: along(frame1.rotation, sums.body1.linear),
+        moment: moment(frame2.translation, pose2.translation, sums.body2),
     }
 }

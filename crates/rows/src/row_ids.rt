@@ -134,12 +134,12 @@ fn slot_axis(i: u32, f: usize) -> usize
     ensures { result ≡ slot_axis i f }
 {
     if i == 0 {
-        return 2;
+        2
+    } else if i < 3 {
+        (i - 1) as usize
+    } else {
+        f
     }
-    if i < 3 {
-        return (i - 1) as usize;
-    }
-    f
 }
 
 // The id of slot s.
@@ -147,12 +147,12 @@ pub(crate) fn slot_id(s: u32, f: usize) -> WritebackId
     ensures { result ≡ slot_id s f }
 {
     if s < 4 {
-        return WritebackId::Motor(slot_axis(s, f));
+        WritebackId::Motor(slot_axis(s, f))
+    } else if s < 7 {
+        WritebackId::Dof(slot_axis(s - 4, f))
+    } else {
+        WritebackId::Limit(slot_axis(s - 7, f))
     }
-    if s < 7 {
-        return WritebackId::Dof(slot_axis(s - 4, f));
-    }
-    WritebackId::Limit(slot_axis(s - 7, f))
 }
 
 // How many slots of motors are named.
@@ -184,12 +184,13 @@ pub fn row_ids(masks: Masks) -> RowIds
     let mut ids = [RowId {
         id: WritebackId::Dof(0),
     }; 6];
+    // One turn a set bit, the lowest first: no range counts them.
     let mut left = row_slots(masks);
     let mut k = 0usize;
     while left > 0 {
         let id = slot_id(u32::trailing_zeros(left), f);
         ids[k] = RowId { id };
-        left = left & (left - 1);
+        left &= left - 1;
         k += 1;
     }
     let first = motor_count(masks);

@@ -1,5 +1,6 @@
 -- Where the rows of a joint in space start. In substep 0 they read no row of the last build (`first-reads-no-row`); with no warm coefficient they are the rows that
 -- `update` makes, whose impulses are 0 (`cold`, `made-impulses`). Assumes nothing.
+use Rattle.std.specs.Prelude.{Option, None}
 use Prim.Native.Nat.{ℕ}
 use mathlib.Core.Path.{◌≡◌, refl, sym, ◌∙◌}
 use mathlib.Core.Bool.{Bool, true, false, cond}
@@ -10,8 +11,6 @@ use Rattle.floats.specs.Operators.{bits}
 use Rattle.rows.specs.RowIds.{group_one, group_two, row_ids}
 use Rattle.rows.specs.Groups as Groups
 use Rattle.rows.specs.declared.integration_parameters.IntegrationParameters.{IntegrationParameters}
-use Rattle.rows.specs.declared.joint_constraint_builder.Warmstart.{Warmstart}
-use Rattle.rows.specs.declared.joint_constraint_builder.Warmstart.TheVariants.{Cold}
 use Rattle.rows.specs.declared.joint_velocity_constraint.WritebackId.{WritebackId}
 use Rattle.rows.specs.declared.joint_velocity_constraint.WritebackId.TheVariants.{Dof, Limit, Motor}
 use Rattle.rows.proofs.GroupLaws.{kept-finalize_of}
@@ -62,7 +61,7 @@ made-impulses cx =
     ∙ rw (rows-impulses cx one, rows-impulses cx two) (sym (map-append (λ i. bits 0) one two))
 
 module _ (params : IntegrationParameters) (body1 body2 : SolverPose) where
-  pub first-reads-no-row : (warm : Warmstart) (joint : ImpulseJoint) (ps qs : List Float)
+  pub first-reads-no-row : (warm : Option Float) (joint : ImpulseJoint) (ps qs : List Float)
       → builder_update_of params 0 warm body1 body2 joint ps ≡ builder_update_of params 0 warm body1 body2 joint qs
   unfolding builder_update_of
   first-reads-no-row warm joint ps qs =
@@ -70,7 +69,7 @@ module _ (params : IntegrationParameters) (body1 body2 : SolverPose) where
 
   -- with no warm coefficient the rows are those that `update` makes, whose impulses are 0
   pub cold : (substep : ℕ) (joint : ImpulseJoint) (prevs : List Float)
-      → builder_update_of params substep Cold body1 body2 joint prevs ≡ update_of (joint_context_of params body1 body2 joint)
+      → builder_update_of params substep None body1 body2 joint prevs ≡ update_of (joint_context_of params body1 body2 joint)
   unfolding builder_update_of
   cold substep joint prevs =
       warmed_all-cold with_impulse substep (seed_of joint) (row_ids 3 3 (spatial_masks joint.«data».masks)) prevs (update_of (joint_context_of params body1 body2 joint))

@@ -1,5 +1,6 @@
 -- The makers of linear limits and motors as one literal (`limit-linear-is`, `motor-linear-is`), where their definitions overwrite fields of the lock's row, as the Rust does.
 -- Assumes nothing.
+use Rattle.std.specs.Prelude.{Option}
 use Prim.Native.Nat.{ℕ}
 use mathlib.Core.Path.{◌≡◌, refl}
 use Rattle.floats.specs.Operators.{bits, ◌⊕◌}
@@ -7,7 +8,6 @@ use Rattle.rows.specs.Makers.{ErpCfm, limit_bounds_of, limit_bias_of, motor_rhs_
 use Rattle.rows.specs.declared.integration_parameters.IntegrationParameters.{IntegrationParameters}
 use Rattle.rows.specs.declared.joint_velocity_constraint.MotorParameters.{MotorParameters}
 use Rattle.rows.specs.declared.joint_constraint_helper.LimitEnds.{LimitEnds}
-use Rattle.rows.specs.declared.joint_constraint_helper.MotorLimits.{MotorLimits}
 use Rattle.spatial_rows.specs.Helper.{linear_axis_of}
 use Rattle.spatial_rows.specs.Makers.{TwoBodies, assemble_of, lock_linear_of, limit_linear_of, motor_row_of, motor_linear_of}
 use Rattle.spatial_rows.specs.declared.joint_constraint_helper.JointConstraintHelper.{JointConstraintHelper}
@@ -20,7 +20,7 @@ module _ (h : JointConstraintHelper) (p : IntegrationParameters) (bodies : TwoBo
   unfolding limit_linear_of lock_linear_of assemble_of linear_axis_of
   limit-linear-is limits soft = refl
 
-  pub motor-linear-is : (m : MotorParameters) (limits : MotorLimits)
+  pub motor-linear-is : (m : MotorParameters) (limits : Option LimitEnds)
       → motor_linear_of h p bodies i m limits ≡ motor_row_of bodies (linear_axis_of h i) m (motor_rhs_of p m limits (linear_axis_of h i).dist)
   unfolding motor_linear_of motor_row_of lock_linear_of assemble_of linear_axis_of
   motor-linear-is m limits = refl

@@ -2,6 +2,7 @@
 -- from the builder's `update`. A row reads of its joint what its id names: a lock nothing of motors and limits (`lock-reads`), a limit its own axis's ends
 -- (`limit-reads`), a motor its own axis's motor, and the ends of that axis's limit where T holds the axis (`motor-reads`), and then the joint names that limit
 -- too (`limit-beside-motor` of the crate rows). No row of group two reads a motor (`no-motor`). Assumes nothing.
+use Rattle.std.specs.Prelude.{Option}
 use Prim.Native.Nat.{ℕ}
 use mathlib.Core.Path.{◌≡◌, refl, sym, ap, ◌∙◌}
 use mathlib.Core.Bool.{Bool, true, false, not, ◌&&◌}
@@ -11,7 +12,6 @@ use lib.Ieee.{Float}
 use Rattle.rows.specs.RowIds.{is_locked, is_limit, is_coupled, keep, in_order, first_coupled, group_one, group_two, lock_ids, limit_ids, row_ids}
 use Rattle.rows.specs.declared.generic_joint.Masks.{Masks}
 use Rattle.rows.specs.declared.integration_parameters.IntegrationParameters.{IntegrationParameters}
-use Rattle.rows.specs.declared.joint_constraint_builder.Warmstart.{Warmstart}
 use Rattle.rows.specs.declared.joint_velocity_constraint.WritebackId.{WritebackId}
 use Rattle.rows.specs.declared.joint_velocity_constraint.WritebackId.TheVariants.{Dof, Limit, Motor}
 use Rattle.rows.proofs.NamedRows.{limit-beside-motor}
@@ -129,7 +129,7 @@ module _ (params : IntegrationParameters) (body1 body2 : SolverPose) (a b : Impu
         s.masks,
       )
 
-  pub same-named : (substep : ℕ) (warm : Warmstart) (prevs : List Float)
+  pub same-named : (substep : ℕ) (warm : Option Float) (prevs : List Float)
       → builder_update_of params substep warm body1 body2 a prevs ≡ builder_update_of params substep warm body1 body2 b prevs
   unfolding builder_update_of x y
   same-named substep warm prevs =

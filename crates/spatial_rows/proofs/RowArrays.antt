@@ -2,6 +2,7 @@
 -- (`rows_array-rows`), and blank rows after them (`rows_array-blank`); the array of a joint's ids gives their number (`row_ids_array-len`), each id at
 -- its place (`row_ids_array-id`) and all of them (`row_ids_array-ids`). The builder's `update` makes as many rows as the joint's masks name (`length-builder_update_of`), and with no
 -- warm coefficient or in substep 0 it makes the same rows whatever the last impulses are (`reads-no-row`). Assumes nothing.
+use Rattle.std.specs.Prelude.{Option, None}
 use Prim.Native.Nat.{ℕ, ◌-◌, ◌≤◌, ◌<◌}
 use mathlib.Core.Path.{◌≡◌, refl, sym, ◌∙◌}
 use mathlib.Core.Logic.{◌⊎◌, inl, inr}
@@ -11,8 +12,6 @@ use lib.Ieee.{Float}
 use Rattle.rows.specs.RowIds.{filled, row_ids}
 use Rattle.rows.specs.declared.generic_joint.Masks.{Masks}
 use Rattle.rows.specs.declared.integration_parameters.IntegrationParameters.{IntegrationParameters}
-use Rattle.rows.specs.declared.joint_constraint_builder.Warmstart.{Warmstart}
-use Rattle.rows.specs.declared.joint_constraint_builder.Warmstart.TheVariants.{Cold}
 use Rattle.rows.specs.declared.joint_velocity_constraint.WritebackId.{WritebackId}
 use Rattle.rows.specs.declared.row_ids.RowId.{RowId}
 use Rattle.rows.proofs.Filled.{take-filled, drop-filled}
@@ -70,13 +69,13 @@ module _ (k : Masks) where
 
 -- ---- the rows that the builder makes
 
-module _ (params : IntegrationParameters) (substep : ℕ) (warm : Warmstart) (body1 body2 : SolverPose) (joint : ImpulseJoint) where
+module _ (params : IntegrationParameters) (substep : ℕ) (warm : Option Float) (body1 body2 : SolverPose) (joint : ImpulseJoint) where
   pub length-builder_update_of : (prevs : List Float) → length (builder_update_of params substep warm body1 body2 joint prevs) ≡ length (row_ids 3 3 (spatial_masks joint.«data».masks))
   unfolding builder_update_of
   length-builder_update_of prevs =
       let cx : RowContext = joint_context_of params body1 body2 joint in
       length-warmed_all with_impulse warm substep (seed_of joint) (row_ids 3 3 (spatial_masks joint.«data».masks)) prevs (update_of cx) (length-update_of cx ∙ rw context-joint)
 
-  pub reads-no-row : (warm ≡ Cold) ⊎ (substep ≡ 0) → (ps qs : List Float) → builder_update_of params substep warm body1 body2 joint ps ≡ builder_update_of params substep warm body1 body2 joint qs
+  pub reads-no-row : (warm ≡ None) ⊎ (substep ≡ 0) → (ps qs : List Float) → builder_update_of params substep warm body1 body2 joint ps ≡ builder_update_of params substep warm body1 body2 joint qs
   reads-no-row (inl e) ps qs = rw e (cold params body1 body2 substep joint ps ∙ sym (cold params body1 body2 substep joint qs))
   reads-no-row (inr e) ps qs = rw e (first-reads-no-row params body1 body2 warm joint ps qs)

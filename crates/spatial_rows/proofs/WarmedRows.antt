@@ -1,5 +1,6 @@
 -- The rows that the builder's `update` makes in space, as the crate rows has it of any kind of row: what its loop builds (`building`), before the first turn (`start-start`), and what the
 -- code returns (`started-rows`). Assumes nothing.
+use Rattle.std.specs.Prelude.{Option}
 use Prim.Native.Nat.{ℕ}
 use native.Mathlib.Omega.{arith}
 use mathlib.Core.Path.{◌≡◌, refl, ap, sym, ◌∙◌}
@@ -9,7 +10,6 @@ use lib.Ieee.{Float}
 use Rattle.rows.specs.RowIds.{group_one, group_two, row_ids, filled}
 use Rattle.rows.specs.Groups as Groups
 use Rattle.rows.specs.declared.integration_parameters.IntegrationParameters.{IntegrationParameters}
-use Rattle.rows.specs.declared.joint_constraint_builder.Warmstart.{Warmstart}
 use Rattle.rows.specs.declared.joint_velocity_constraint.WritebackId.{WritebackId}
 use Rattle.rows.proofs.WarmedFinalize.{ImpulseUnread}
 use Rattle.rows.proofs.WarmedRows.{Build, Starting, started-array}
@@ -33,7 +33,7 @@ unfolding im_sum_of head_of row_dot_of is_lock less_of Groups.reduce_of with_imp
 unread = record { sum = λ c x. refl; head = λ im c x. refl; lock = λ c x. refl; by = λ im c x. refl; pair = λ im d c x. refl }
 
 -- the loop of the builder's `update`
-abbrev pub building : Warmstart → ℕ → ImpulseJoint → RowContext → List Float → Build JointConstraint
+abbrev pub building : Option Float → ℕ → ImpulseJoint → RowContext → List Float → Build JointConstraint
 building warm substep joint cx prevs = record {
   with_impulse = with_impulse;
   blank = blank_row;
@@ -54,7 +54,7 @@ unfolding joint_context_of context_of
 context-joint params body1 body2 joint = refl
 
 -- before the first turn
-pub start-start : (warm : Warmstart) (substep : ℕ) (joint : ImpulseJoint) (cx : RowContext) (prevs : List Float) → length prevs ≡ 9
+pub start-start : (warm : Option Float) (substep : ℕ) (joint : ImpulseJoint) (cx : RowContext) (prevs : List Float) → length prevs ≡ 9
     → Starting (building warm substep joint cx prevs) (replicate 9 blank_row) (slot_bits joint.«data».masks) 0
 start-start warm substep joint cx prevs nine = record {
   reached = omega arith;
@@ -68,7 +68,7 @@ start-start warm substep joint cx prevs nine = record {
 }
 
 -- what the code returns
-pub started-rows : (params : IntegrationParameters) (substep : ℕ) (warm : Warmstart) (body1 body2 : SolverPose) (joint : ImpulseJoint) (prevs : List Float)
+pub started-rows : (params : IntegrationParameters) (substep : ℕ) (warm : Option Float) (body1 body2 : SolverPose) (joint : ImpulseJoint) (prevs : List Float)
     {first len : ℕ} {cx : RowContext} {rows : List JointConstraint} → length prevs ≡ 9
     → first ≡ length (group_one 3 3 (spatial_masks joint.«data».masks)) → len ≡ length (row_ids 3 3 (spatial_masks joint.«data».masks)) → cx ≡ joint_context_of params body1 body2 joint
     → rows ≡ finalize_groups first len (filled 9 blank_row (warmed_all warm substep joint (row_ids 3 3 (spatial_masks joint.«data».masks)) prevs (map (row_of cx) (row_ids 3 3 (spatial_masks joint.«data».masks)))))

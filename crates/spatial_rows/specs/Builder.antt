@@ -1,11 +1,10 @@
 -- The Rust's joint_constraint_builder.rs in space: `update`, after `update_warmstart_seeds`.
-use Rattle.std.specs.Prelude.{ℕ, List, get_or, Float}
+use Rattle.std.specs.Prelude.{ℕ, List, get_or, Float, Option}
 use Rattle.std.specs.Float.{nan}
 use Rattle.spatial_floats.specs.Pose.{pose_product_of}
 use Rattle.rows.specs.RowIds.{row_ids}
 use Rattle.rows.specs.Warmed as Warmed
 use Rattle.rows.specs.declared.integration_parameters.IntegrationParameters.{IntegrationParameters}
-use Rattle.rows.specs.declared.joint_constraint_builder.Warmstart.{Warmstart}
 use Rattle.rows.specs.declared.joint_velocity_constraint.WritebackId.{WritebackId}
 use Rattle.rows.specs.declared.joint_velocity_constraint.WritebackId.TheVariants.{Dof, Limit, Motor}
 use Rattle.spatial_rows.specs.SpatialMasks.{spatial_masks}
@@ -38,13 +37,13 @@ seed_of joint (Limit i) = (limits_at joint.«data» i).impulse
 seed_of joint (Motor i) = (motor_at joint.«data» i).impulse
 
 -- where a row's impulse starts (the crate rows' specs/Warmed), and the rows of a joint, by ids whose seeds are the joint's
-abbrev pub warmed_of : Warmstart → ℕ → Float → Float → JointConstraint → JointConstraint
+abbrev pub warmed_of : Option Float → ℕ → Float → Float → JointConstraint → JointConstraint
 warmed_of = Warmed.warmed_of with_impulse
 
-abbrev pub warmed_all : Warmstart → ℕ → ImpulseJoint → List WritebackId → List Float → List JointConstraint → List JointConstraint
+abbrev pub warmed_all : Option Float → ℕ → ImpulseJoint → List WritebackId → List Float → List JointConstraint → List JointConstraint
 warmed_all warm substep joint = Warmed.warmed_all with_impulse warm substep (seed_of joint)
 
 -- the builder's `update`: prevs are the impulses of the rows of the last build, by row
-unfoldable pub builder_update_of : IntegrationParameters → ℕ → Warmstart → SolverPose → SolverPose → ImpulseJoint → List Float → List JointConstraint
+unfoldable pub builder_update_of : IntegrationParameters → ℕ → Option Float → SolverPose → SolverPose → ImpulseJoint → List Float → List JointConstraint
 builder_update_of params substep warm body1 body2 joint prevs =
     warmed_all warm substep joint (row_ids 3 3 (spatial_masks joint.«data».masks)) prevs (update_of (joint_context_of params body1 body2 joint))

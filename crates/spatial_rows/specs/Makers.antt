@@ -1,6 +1,6 @@
 -- The Rust's joint_constraint_helper.rs in space: one definition a row kind, before its group is orthogonalised. As in the Rust, a linear limit and motor are the
 -- lock's row with fields overwritten; proofs/MakerShapes.antt has them as one literal. Bounds, biases and right-hand sides have no dimension in them and are the crate rows'.
-use Rattle.std.specs.Prelude.{ℕ, Float}
+use Rattle.std.specs.Prelude.{ℕ, Float, Option}
 use Rattle.floats.specs.Operators.{bits, ◌⊕◌, ◌⊗◌}
 use Rattle.spatial_floats.specs.Vector.{gdot_of}
 use Rattle.spatial_floats.specs.Rotation.{xyz_of}
@@ -10,7 +10,6 @@ use Rattle.rows.specs.declared.integration_parameters.IntegrationParameters.{Int
 use Rattle.rows.specs.declared.joint_velocity_constraint.MotorParameters.{MotorParameters}
 use Rattle.rows.specs.declared.joint_constraint_helper.ImpulseBounds.{ImpulseBounds}
 use Rattle.rows.specs.declared.joint_constraint_helper.LimitEnds.{LimitEnds}
-use Rattle.rows.specs.declared.joint_constraint_helper.MotorLimits.{MotorLimits}
 use Rattle.spatial_rows.specs.Row.{with_bounds, with_rhs, with_rhs_wo_bias, with_cfm_gain, with_cfm_coeff}
 use Rattle.spatial_rows.specs.Helper.{coord_of, linear_axis_of, angular_axis_of}
 use Rattle.spatial_rows.specs.declared.joint_constraint_helper.JointConstraintHelper.{JointConstraintHelper}
@@ -81,7 +80,7 @@ motor_row_of bodies axis m rhs =
     assemble_of bodies axis (motor_bounds_of m) (record { rhs = rhs; rhs_wo_bias = rhs; cfm_coeff = m.cfm_coeff; cfm_gain = m.cfm_gain })
 
 -- `motor_linear`: the lock's row with no softness, with five fields overwritten
-unfoldable pub motor_linear_of : JointConstraintHelper → IntegrationParameters → TwoBodies → ℕ → MotorParameters → MotorLimits → JointConstraint
+unfoldable pub motor_linear_of : JointConstraintHelper → IntegrationParameters → TwoBodies → ℕ → MotorParameters → Option LimitEnds → JointConstraint
 motor_linear_of h p bodies i m limits =
     let lock = lock_linear_of h bodies i (erp_cfm (bits 0) (bits 0)) in
     let rhs = motor_rhs_of p m limits (gdot_of h.lin_err lock.lin_jac) in

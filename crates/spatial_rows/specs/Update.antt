@@ -1,5 +1,5 @@
 -- The Rust's joint_velocity_constraint.rs in space, `update`: a joint's rows, each group orthogonalised by itself.
-use Rattle.std.specs.Prelude.{ℕ, ◌-◌, cond, List, ◌++◌, map, ltb, length, take}
+use Rattle.std.specs.Prelude.{ℕ, ◌-◌, cond, List, ◌++◌, map, ltb, length, take, Option, Some, None}
 use Rattle.floats.specs.Operators.{bits}
 use Rattle.spatial_floats.specs.declared.vector.Vector.{Vector}
 use Rattle.spatial_floats.specs.declared.pose.Pose.{Pose}
@@ -9,8 +9,6 @@ use Rattle.rows.specs.RowIds.{is_limit, group_one, group_two, filled}
 use Rattle.rows.specs.Makers.{ErpCfm, erp_cfm}
 use Rattle.rows.specs.declared.integration_parameters.IntegrationParameters.{IntegrationParameters}
 use Rattle.rows.specs.declared.joint_constraint_helper.LimitEnds.{LimitEnds}
-use Rattle.rows.specs.declared.joint_constraint_helper.MotorLimits.{MotorLimits}
-use Rattle.rows.specs.declared.joint_constraint_helper.MotorLimits.TheVariants.{Span, None}
 use Rattle.rows.specs.declared.joint_velocity_constraint.MotorParameters.{MotorParameters}
 use Rattle.rows.specs.declared.row_ids.RowId.{RowId}
 use Rattle.rows.specs.declared.joint_velocity_constraint.WritebackId.{WritebackId}
@@ -50,8 +48,8 @@ abbrev pub ends_at : GenericJoint → ℕ → LimitEnds
 ends_at joint i = record { min = (limits_at joint i).min; max = (limits_at joint i).max }
 
 -- axis i's limits for its motor: its two ends where T holds i
-unfoldable pub motor_limits_of : GenericJoint → ℕ → MotorLimits
-motor_limits_of joint i = cond (is_limit (spatial_masks joint.masks) i) (Span (limits_at joint i).min (limits_at joint i).max) None
+unfoldable pub motor_limits_of : GenericJoint → ℕ → Option LimitEnds
+motor_limits_of joint i = cond (is_limit (spatial_masks joint.masks) i) (Some (ends_at joint i)) None
 
 -- axis i's motor at the timestep
 abbrev pub motor_params_at : RowContext → ℕ → MotorParameters

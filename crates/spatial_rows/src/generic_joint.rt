@@ -38,9 +38,8 @@ impl GenericJoint {
     pub fn limits_at(self, axis: usize) -> JointLimits
         ensures { result ≡ limits_at self axis }
     {
-        let limits = self.limits;
         if axis < 3 {
-            return limits[axis];
+            return self.limits[axis];
         }
         let nan = 0.0 / 0.0;
         JointLimits {
@@ -54,9 +53,8 @@ impl GenericJoint {
     pub fn motor_at(self, axis: usize) -> JointMotor
         ensures { result ≡ motor_at self axis }
     {
-        let motors = self.motors;
         if axis < 3 {
-            return motors[axis];
+            return self.motors[axis];
         }
         let nan = 0.0 / 0.0;
         JointMotor {

@@ -1,17 +1,15 @@
 // The Rust's dynamics/solver/joint_constraint/joint_constraint_builder.rs in space, by value: a joint's rows
 // from the poses of its bodies, and where their impulses start.
 ghost use Rattle.std.specs.Prelude.{◌≡◌};
-ghost use Rattle.spatial_rows.specs.Builder.{solver_body_of, joint_context_of, seed_of, warmed_of, builder_update_of};
+ghost use Rattle.spatial_rows.specs.Builder.{solver_body_of, joint_context_of, seed_of, builder_update_of};
 ghost use Rattle.spatial_rows.specs.Update.{rows_array};
 
 use crate::generic_joint::GenericJoint;
 use crate::joint_constraint_helper::finalize_groups;
-use crate::joint_velocity_constraint::{
-    JointConstraint, JointSolverBody, RowContext, Rows, blank_row,
-};
+use crate::joint_velocity_constraint::{JointSolverBody, RowContext, Rows, blank_row};
 use crate::row_ids::{motors_of, row_slots, slot_id};
 use rows::integration_parameters::IntegrationParameters;
-use rows::joint_constraint_builder::Warmstart;
+use rows::joint_constraint_builder::warmed;
 use rows::joint_velocity_constraint::WritebackId;
 use spatial_floats::angular_inertia_ops::SdpMatrix3;
 use spatial_floats::pose::Pose;
@@ -37,14 +35,10 @@ impl SolverPose {
     pub fn solver_body(self) -> JointSolverBody
         ensures { result ≡ solver_body_of self }
     {
-        let pose = self.pose;
-        let im = self.im;
-        let ii = self.ii;
-        let world_com = pose.translation;
         JointSolverBody {
-            im: im,
-            ii: ii,
-            world_com: world_com,
+            im: self.im,
+            ii: self.ii,
+            world_com: self.pose.translation,
         }
     }
 }
@@ -59,16 +53,12 @@ impl ImpulseJoint {
         ensures { result ≡ joint_context_of params body1 body2 self }
     {
         let data = self.data;
-        let pose1 = body1.pose;
-        let pose2 = body2.pose;
-        let frame1 = pose1.mul(data.local_frame1);
-        let frame2 = pose2.mul(data.local_frame2);
         RowContext::new(
             params,
             body1.solver_body(),
             body2.solver_body(),
-            frame1,
-            frame2,
+            body1.pose.mul(data.local_frame1),
+            body2.pose.mul(data.local_frame2),
             data,
         )
     }
@@ -77,38 +67,17 @@ impl ImpulseJoint {
     pub fn seed(self, id: WritebackId) -> f32
         ensures { result ≡ seed_of self id }
     {
-        let data = self.data;
         match id {
             WritebackId::Dof(axis) => {
                 if axis < 6 {
-                    return self.impulses[axis];
+                    self.impulses[axis]
+                } else {
+                    0.0 / 0.0
                 }
-                0.0 / 0.0
             }
-            WritebackId::Limit(axis) => data.limits_at(axis).impulse,
-            WritebackId::Motor(axis) => data.motor_at(axis).impulse,
+            WritebackId::Limit(axis) => self.data.limits_at(axis).impulse,
+            WritebackId::Motor(axis) => self.data.motor_at(axis).impulse,
         }
-    }
-}
-
-// Where a row's impulse starts, from its stored impulse and its last one.
-pub fn warmed(
-    warmstart: Warmstart,
-    substep_id: u32,
-    seed: f32,
-    prev: f32,
-    row: JointConstraint,
-) -> JointConstraint
-    ensures { result ≡ warmed_of warmstart substep_id seed prev row }
-{
-    match warmstart {
-        Warmstart::Warm(coeff) => {
-            if substep_id == 0 {
-                return row.with_impulse(seed * coeff);
-            }
-            row.with_impulse(prev * coeff)
-        }
-        Warmstart::Cold => row,
     }
 }
 
@@ -118,7 +87,7 @@ pub fn warmed(
 pub fn update(
     params: IntegrationParameters,
     substep_id: u32,
-    warmstart: Warmstart,
+    warmstart: Option<f32>,
     body1: SolverPose,
     body2: SolverPose,
     joint: ImpulseJoint,
@@ -126,13 +95,12 @@ pub fn update(
 ) -> Rows
     ensures { result ≡ rows_array (builder_update_of params substep_id warmstart body1 body2 joint prevs) }
 {
-    let data = joint.data;
-    let masks = data.masks;
+    let masks = joint.data.masks;
     let context = joint.context(params, body1, body2);
-    let blank = blank_row();
-    let mut rows = [blank; 9];
+    let mut rows = [blank_row(); 9];
     let slots = row_slots(masks);
     let first = motors_of(slots);
+    // One turn a set bit, the lowest first: no range counts them.
     let mut left = slots;
     let mut k = 0usize;
     while left > 0 {
@@ -144,7 +112,7 @@ pub fn update(
             prevs[k],
             context.row(id),
         );
-        left = left & (left - 1);
+        left &= left - 1;
         k += 1;
     }
     Rows {

@@ -1,6 +1,7 @@
 // The Rust's dynamics/solver/joint_constraint/joint_constraint_helper.rs in space: one function a row kind.
 ghost use Rattle.std.specs.Prelude.{◌≡◌, ◌≤◌};
-ghost use Rattle.spatial_rows.specs.Finalize.{im_sum_of, row_dot_of, head_of, is_lock, without_of, less_of, inv_dot_of, pair_of, finalize_of, finalize_groups};
+ghost use Rattle.spatial_rows.specs.Row.{with_impulse};
+ghost use Rattle.spatial_rows.specs.Finalize.{im_sum_of, row_dot_of, head_of, is_lock, without_of, less_of, inv_dot_of, pair_of, finalize_groups};
 ghost use Rattle.spatial_rows.specs.Helper.{coord_of, snapped_of, cross_basis_of, angular_part_of, new_of, linear_axis_of, angular_axis_of};
 ghost use Rattle.rows.specs.Makers.{erp_cfm};
 ghost use Rattle.spatial_rows.specs.Makers.{two_bodies, assemble_of, motor_row_of, limit_linear_of, motor_linear_of, lock_linear_of, lock_angular_of};
@@ -10,10 +11,10 @@ use floats::utils::simd_inv;
 use rows::generic_joint::has_axis;
 use rows::integration_parameters::{IntegrationParameters, MAX};
 use rows::joint_constraint_helper::{
-    ImpulseBounds, LimitEnds, MotorLimits, limit_bias, limit_bounds, lock_bounds, motor_bounds,
-    motor_rhs,
+    ImpulseBounds, LimitEnds, limit_bias, limit_bounds, lock_bounds, motor_bounds, motor_rhs,
 };
 use rows::joint_velocity_constraint::MotorParameters;
+use rows::row::Row;
 use spatial_floats::angular_inertia_ops::transform_vector;
 use spatial_floats::matrix::{Matrix, gcross_matrix};
 use spatial_floats::pose::Pose;
@@ -53,9 +54,12 @@ pub fn coord(v: Vector, axis: usize) -> f32
     ensures { result ≡ coord_of v axis }
 {
     if axis == 0 {
-        return v.x;
+        v.x
+    } else if axis == 1 {
+        v.y
+    } else {
+        v.z
     }
-    if axis == 1 { v.y } else { v.z }
 }
 
 // The centre snapped to the first frame along an axis, where that is locked.
@@ -70,9 +74,10 @@ pub fn snapped(
 {
     if has_axis(locked_axes, axis) {
         let column = basis.column(axis);
-        return center.sub(column.mul(lin_err.gdot(column)));
+        center.sub(column.mul(lin_err.gdot(column)))
+    } else {
+        center
     }
-    center
 }
 
 // The cross matrix of an arm, times the basis.
@@ -87,9 +92,8 @@ pub fn angular_part(rotation1: Rotation, rotation2: Rotation) -> AngularPart
     ensures { result ≡ angular_part_of rotation1 rotation2 }
 {
     let sign = sign_of(rotation1.dot(rotation2));
-    let inverse = rotation1.inverse();
     let derivative = rotation1.diff_conj1_2_tr(rotation2);
-    let error = inverse.mul(rotation2);
+    let error = rotation1.inverse().mul(rotation2);
     AngularPart {
         ang_basis: derivative.scaled(sign),
         ang_err: error.times(sign),
@@ -117,17 +121,15 @@ impl JointConstraintHelper {
         let twice = snapped(once, basis, lin_err, locked_axes, 1);
         let new_center1 = snapped(twice, basis, lin_err, locked_axes, 2);
         let angular = angular_part(rotation1, rotation2);
-        let ang_basis = angular.ang_basis;
-        let ang_err = angular.ang_err;
         let cmat1_basis = cross_basis(new_center1.sub(world_com1), basis);
         let cmat2_basis = cross_basis(translation2.sub(world_com2), basis);
         JointConstraintHelper {
-            basis: basis,
-            cmat1_basis: cmat1_basis,
-            cmat2_basis: cmat2_basis,
-            ang_basis: ang_basis,
-            lin_err: lin_err,
-            ang_err: ang_err,
+            basis,
+            cmat1_basis,
+            cmat2_basis,
+            ang_basis: angular.ang_basis,
+            lin_err,
+            ang_err: angular.ang_err,
         }
     }
 }
@@ -146,27 +148,22 @@ pub fn assemble(
     ensures { result ≡ assemble_of (two_bodies body1 body2) axis bounds
         (record { rhs = rhs; rhs_wo_bias = rhs_wo_bias; cfm_coeff = cfm_coeff; cfm_gain = cfm_gain }) }
 {
-    let lin_jac = axis.lin_jac;
-    let ang_jac1 = axis.ang_jac1;
-    let ang_jac2 = axis.ang_jac2;
-    let im1 = body1.im;
-    let im2 = body2.im;
     JointConstraint {
         impulse: 0.0,
         impulse_min: bounds.min,
         impulse_max: bounds.max,
-        lin_jac: lin_jac,
-        ang_jac1: ang_jac1,
-        ang_jac2: ang_jac2,
-        ii_ang_jac1: transform_vector(body1.ii, ang_jac1),
-        ii_ang_jac2: transform_vector(body2.ii, ang_jac2),
+        lin_jac: axis.lin_jac,
+        ang_jac1: axis.ang_jac1,
+        ang_jac2: axis.ang_jac2,
+        ii_ang_jac1: transform_vector(body1.ii, axis.ang_jac1),
+        ii_ang_jac2: transform_vector(body2.ii, axis.ang_jac2),
         inv_lhs: 0.0,
-        rhs: rhs,
-        rhs_wo_bias: rhs_wo_bias,
-        cfm_gain: cfm_gain,
-        cfm_coeff: cfm_coeff,
-        im1: im1,
-        im2: im2,
+        rhs,
+        rhs_wo_bias,
+        cfm_gain,
+        cfm_coeff,
+        im1: body1.im,
+        im2: body2.im,
     }
 }
 
@@ -197,16 +194,12 @@ impl JointConstraintHelper {
     pub fn linear_axis(self, axis: usize) -> RowAxis
         ensures { result ≡ linear_axis_of self axis }
     {
-        let basis = self.basis;
-        let cmat1_basis = self.cmat1_basis;
-        let cmat2_basis = self.cmat2_basis;
-        let lin_err = self.lin_err;
-        let lin_jac = basis.column(axis);
+        let lin_jac = self.basis.column(axis);
         RowAxis {
-            dist: lin_err.gdot(lin_jac),
-            lin_jac: lin_jac,
-            ang_jac1: cmat1_basis.column(axis),
-            ang_jac2: cmat2_basis.column(axis),
+            dist: self.lin_err.gdot(lin_jac),
+            lin_jac,
+            ang_jac1: self.cmat1_basis.column(axis),
+            ang_jac2: self.cmat2_basis.column(axis),
         }
     }
 
@@ -214,8 +207,7 @@ impl JointConstraintHelper {
     pub fn angular_axis(self, axis: usize) -> RowAxis
         ensures { result ≡ angular_axis_of self axis }
     {
-        let ang_basis = self.ang_basis;
-        let ang_jac = ang_basis.column(axis);
+        let ang_jac = self.ang_basis.column(axis);
         RowAxis {
             dist: 0.0,
             lin_jac: Vector {
@@ -262,7 +254,7 @@ impl JointConstraintHelper {
         body2: JointSolverBody,
         motor_axis: usize,
         motor_params: MotorParameters,
-        limits: MotorLimits,
+        limits: Option<LimitEnds>,
     ) -> JointConstraint
         ensures { result ≡ motor_linear_of self params (two_bodies body1 body2) motor_axis motor_params limits }
     {
@@ -282,8 +274,7 @@ impl JointConstraintHelper {
         ensures { result ≡ lock_linear_of self (two_bodies body1 body2) locked_axis (erp_cfm erp_inv_dt cfm_coeff) }
     {
         let axis = self.linear_axis(locked_axis);
-        let lin_jac = axis.lin_jac;
-        let rhs_bias = lin_jac.gdot(self.lin_err) * erp_inv_dt;
+        let rhs_bias = axis.lin_jac.gdot(self.lin_err) * erp_inv_dt;
         assemble(
             body1,
             body2,
@@ -308,8 +299,7 @@ impl JointConstraintHelper {
         ensures { result ≡ lock_angular_of self (two_bodies body1 body2) locked_axis (erp_cfm erp_inv_dt cfm_coeff) }
     {
         let axis = self.angular_axis(locked_axis);
-        let ang_err = self.ang_err;
-        let rhs_bias = coord(ang_err.xyz(), locked_axis) * erp_inv_dt;
+        let rhs_bias = coord(self.ang_err.xyz(), locked_axis) * erp_inv_dt;
         assemble(
             body1,
             body2,
@@ -325,56 +315,24 @@ impl JointConstraintHelper {
 
 // ---- `finalize_constraints`: the rows of one group
 
-pub fn im_sum(c: JointConstraint) -> Vector
-    ensures { result ≡ im_sum_of c }
-{
-    let im1 = c.im1;
-    im1.add(c.im2)
-}
-
+// J_i M⁻¹ J_jᵀ of two rows of one joint.
 pub fn row_dot(imsum: Vector, c_i: JointConstraint, c_j: JointConstraint) -> f32
     ensures { result ≡ row_dot_of imsum c_i c_j }
 {
-    let lin_jac = c_i.lin_jac;
-    let ii_ang_jac1 = c_i.ii_ang_jac1;
-    let ii_ang_jac2 = c_i.ii_ang_jac2;
-    lin_jac.gdot(imsum.component_mul(c_j.lin_jac))
-        + ii_ang_jac1.gdot(c_j.ang_jac1)
-        + ii_ang_jac2.gdot(c_j.ang_jac2)
-}
-
-pub fn head(imsum: Vector, c_j: JointConstraint) -> JointConstraint
-    ensures { result ≡ head_of imsum c_j }
-{
-    let dot_jj = row_dot(imsum, c_j, c_j);
-    let cfm_gain = dot_jj * c_j.cfm_coeff + c_j.cfm_gain;
-    let mut row = c_j;
-    row.inv_lhs = simd_inv(dot_jj + cfm_gain);
-    row.cfm_gain = cfm_gain;
-    row
-}
-
-// Whether a row is a lock, or a motor with a lock's bounds.
-pub fn is_lock(c_j: JointConstraint) -> bool
-    ensures { result ≡ is_lock c_j }
-{
-    c_j.impulse_min == -MAX && c_j.impulse_max == MAX
+    c_i.lin_jac.gdot(imsum.component_mul(c_j.lin_jac))
+        + c_i.ii_ang_jac1.gdot(c_j.ang_jac1)
+        + c_i.ii_ang_jac2.gdot(c_j.ang_jac2)
 }
 
 pub fn less(c_i: JointConstraint, c_j: JointConstraint, coeff: f32) -> JointConstraint
     ensures { result ≡ less_of c_i c_j coeff }
 {
     let mut row = c_i;
-    let lin_jac = without(c_i.lin_jac, c_j.lin_jac, coeff);
-    row.lin_jac = lin_jac;
-    let ang_jac1 = without(c_i.ang_jac1, c_j.ang_jac1, coeff);
-    row.ang_jac1 = ang_jac1;
-    let ang_jac2 = without(c_i.ang_jac2, c_j.ang_jac2, coeff);
-    row.ang_jac2 = ang_jac2;
-    let ii_ang_jac1 = without(c_i.ii_ang_jac1, c_j.ii_ang_jac1, coeff);
-    row.ii_ang_jac1 = ii_ang_jac1;
-    let ii_ang_jac2 = without(c_i.ii_ang_jac2, c_j.ii_ang_jac2, coeff);
-    row.ii_ang_jac2 = ii_ang_jac2;
+    row.lin_jac = without(c_i.lin_jac, c_j.lin_jac, coeff);
+    row.ang_jac1 = without(c_i.ang_jac1, c_j.ang_jac1, coeff);
+    row.ang_jac2 = without(c_i.ang_jac2, c_j.ang_jac2, coeff);
+    row.ii_ang_jac1 = without(c_i.ii_ang_jac1, c_j.ii_ang_jac1, coeff);
+    row.ii_ang_jac2 = without(c_i.ii_ang_jac2, c_j.ii_ang_jac2, coeff);
     row.rhs_wo_bias = c_i.rhs_wo_bias - c_j.rhs_wo_bias * coeff;
     row.rhs = c_i.rhs - c_j.rhs * coeff;
     row
@@ -387,55 +345,57 @@ pub fn without(v: Vector, w: Vector, coeff: f32) -> Vector
     v.sub(w.mul(coeff))
 }
 
-// Row i made orthogonal to the lock j; inv_dot_jj is the inverse of row j's product with itself.
-pub fn pair(
-    imsum: Vector,
-    inv_dot_jj: f32,
-    c_j: JointConstraint,
-    c_i: JointConstraint,
-) -> JointConstraint
-    ensures { result ≡ pair_of imsum inv_dot_jj c_j c_i }
-{
-    let coeff = row_dot(imsum, c_i, c_j) * inv_dot_jj;
-    less(c_i, c_j, coeff)
-}
+impl Row for JointConstraint {
+    type Masses = Vector;
 
-// The inverse of row j's product with itself.
-pub fn inv_dot(imsum: Vector, c_j: JointConstraint) -> f32
-    ensures { result ≡ inv_dot_of imsum c_j }
-{
-    simd_inv(row_dot(imsum, c_j, c_j))
-}
+    ghost with_impulse = { with_impulse };
 
-// The Rust's `finalize_constraints`: the lent rows are one group, made orthogonal by the modified
-// Gram-Schmidt process. The inverse masses are those of the first row.
-pub fn finalize_constraints(rows: &mut [JointConstraint])
-    ensures { rows.new ≡ finalize_of rows.old }
-{
-    let n = rows.len();
-    if 0 < n {
-        let imsum = im_sum(rows[0]);
-        for j in 0..n {
-            let c_j = head(imsum, rows[j]);
-            let inv_dot_jj = inv_dot(imsum, c_j);
-            rows[j] = c_j;
-            if is_lock(c_j) {
-                for i in j + 1..n {
-                    rows[i] = pair(imsum, inv_dot_jj, c_j, rows[i]);
-                }
-            }
+    ghost im_sum = { im_sum_of };
+
+    ghost head = { head_of };
+
+    ghost is_lock = { is_lock };
+
+    ghost inv_dot = { inv_dot_of };
+
+    ghost pair = { pair_of };
+
+    fn with_impulse(self, impulse: f32) -> JointConstraint {
+        JointConstraint { impulse, ..self }
+    }
+
+    fn im_sum(self) -> Vector {
+        self.im1.add(self.im2)
+    }
+
+    fn head(self, imsum: Vector) -> JointConstraint {
+        let dot_jj = row_dot(imsum, self, self);
+        let cfm_gain = dot_jj * self.cfm_coeff + self.cfm_gain;
+        JointConstraint {
+            inv_lhs: simd_inv(dot_jj + cfm_gain),
+            cfm_gain,
+            ..self
         }
+    }
+
+    fn is_lock(self) -> bool {
+        self.impulse_min == -MAX && self.impulse_max == MAX
+    }
+
+    fn inv_dot(self, imsum: Vector) -> f32 {
+        simd_inv(row_dot(imsum, self, self))
+    }
+
+    fn pair(self, imsum: Vector, inv_dot_jj: f32, c_j: JointConstraint) -> JointConstraint {
+        let coeff = row_dot(imsum, self, c_j) * inv_dot_jj;
+        less(self, c_j, coeff)
     }
 }
 
-// `finalize_constraints` for two groups of an array that is handed over: the rows before row `first`, and those from there
-// to before row `len`.
+// The crate rows' `finalize_groups` for nine rows.
 pub fn finalize_groups(rows: [JointConstraint; 9], first: usize, len: usize) -> [JointConstraint; 9]
     requires { (first ≤ len) × (len ≤ 9) }
     ensures { result ≡ finalize_groups first len rows }
 {
-    let mut groups = rows;
-    finalize_constraints(&mut groups[..first]);
-    finalize_constraints(&mut groups[first..len]);
-    groups
+    rows::joint_constraint_helper::finalize_groups(rows, first, len)
 }

@@ -44,15 +44,14 @@ pub(crate) fn slot_id(s: u32) -> WritebackId
     ensures { result ≡ slot_id s }
 {
     if s < 3 {
-        return WritebackId::Motor(s as usize);
+        WritebackId::Motor(s as usize)
+    } else if s < 6 {
+        WritebackId::Dof(s as usize)
+    } else if s < 9 {
+        WritebackId::Dof((s - 6) as usize)
+    } else {
+        WritebackId::Limit((s - 9) as usize)
     }
-    if s < 6 {
-        return WritebackId::Dof(s as usize);
-    }
-    if s < 9 {
-        return WritebackId::Dof((s - 6) as usize);
-    }
-    WritebackId::Limit((s - 9) as usize)
 }
 
 // How many slots of motors are named.
@@ -83,12 +82,13 @@ pub fn row_ids(masks: Masks) -> RowIds
     let mut ids = [RowId {
         id: WritebackId::Dof(0),
     }; 9];
+    // One turn a set bit, the lowest first: no range counts them.
     let mut left = row_slots(masks);
     let mut k = 0usize;
     while left > 0 {
         let id = slot_id(u32::trailing_zeros(left));
         ids[k] = RowId { id };
-        left = left & (left - 1);
+        left &= left - 1;
         k += 1;
     }
     let first = motor_count(masks);

@@ -1,3 +1,4 @@
+use Rattle.std.proofs.Common.{lit<}
 use mathlib.Core.Path.{ap, ◌∙◌}
 use native.Mathlib.Omega.{arith}
 use Rattle.rows.specs.Finalize.{finalize_groups}
@@ -10,7 +11,7 @@ pub loop-left-init : goal.loop-left-init
 loop-left-init c =
     let a = c.args in
     let six = c.well_formed.1.1.1.1.1.1.0.1.0.1 in
-    rw (c.blank_row-blank.ensures, c.row_slots-slots.ensures)
+    rw (c.blank_row-rows.ensures, c.row_slots-slots.ensures)
     (start-start a.warmstart a.substep_id a.joint c.context-context.result a.prevs c.first_coupled_lin_axis_id-f.result six c.first_coupled_lin_axis_id-f.ensures)
 
 pub offset_bounds-prevs-k : goal.offset_bounds-prevs-k
@@ -41,7 +42,7 @@ finalize_groups-requires c =
     let a = c.args in
     let made = all_made c.loop-left.invariant c.loop-left-test.false in
     let counts = group-counts a.joint.«data».masks in
-    (omega (arith, made, counts.0, c.motors_of-first.ensures ∙ motors-are _ c.row_slots-slots.ensures), omega (arith, made, counts.1))
+    (lit< tt, (omega (arith, made, counts.0, c.motors_of-first.ensures ∙ motors-are _ c.row_slots-slots.ensures), omega (arith, made, counts.1)))
 
 pub returns : goal.returns
 returns c =

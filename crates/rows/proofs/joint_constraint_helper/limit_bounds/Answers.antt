@@ -14,14 +14,14 @@ pub returns-then-max-dist : goal.returns-then-max-dist
 unfolding limit_bounds_of
 returns-then-max-dist c =
     elim c.if-dist-min.branch [
-      | then-dist-min w ↦ simp (w.if-dist-min.true, c.if-max-dist.true, c.infinity-high.ensures, w.low-is, w.infinity-low.ensures, neg-infinity)
-      | else-dist-min w ↦ simp (w.if-dist-min.false, c.if-max-dist.true, c.infinity-high.ensures, w.low-is)
+      | then-dist-min w ↦ simp (w.if-dist-min.true, c.if-max-dist.true, c.infinity-then-max-dist.ensures, w.result-is, w.infinity.ensures, neg-infinity)
+      | else-dist-min w ↦ simp (w.if-dist-min.false, c.if-max-dist.true, c.infinity-then-max-dist.ensures, w.result-is)
     ]
 
 pub returns-else-max-dist : goal.returns-else-max-dist
 unfolding limit_bounds_of
 returns-else-max-dist c =
     elim c.if-dist-min.branch [
-      | then-dist-min w ↦ simp (w.if-dist-min.true, c.if-max-dist.false, w.low-is, w.infinity-low.ensures, neg-infinity)
-      | else-dist-min w ↦ simp (w.if-dist-min.false, c.if-max-dist.false, w.low-is)
+      | then-dist-min w ↦ simp (w.if-dist-min.true, c.if-max-dist.false, w.result-is, w.infinity.ensures, neg-infinity)
+      | else-dist-min w ↦ simp (w.if-dist-min.false, c.if-max-dist.false, w.result-is)
     ]

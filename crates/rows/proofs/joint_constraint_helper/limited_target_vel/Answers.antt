@@ -3,9 +3,9 @@ use Rattle.floats.proofs.ScalarLaws.{clamped-value}
 use Rattle.rows.specs.Makers.{limited_target_vel_of}
 use Rattle.rows.proofs.joint_constraint_helper.limited_target_vel.Goals as goal
 
-pub returns-in-Span : goal.returns-in-Span
+pub returns-in-Some : goal.returns-in-Some
 unfolding limited_target_vel_of
-returns-in-Span c = simp (c.in-Span.is, c.clamp-reached.ensures, clamped-value)
+returns-in-Some c = simp (c.in-Some.is, c.clamp.ensures, clamped-value)
 
 pub returns-in-None : goal.returns-in-None
 unfolding limited_target_vel_of

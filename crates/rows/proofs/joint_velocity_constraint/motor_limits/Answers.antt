@@ -7,6 +7,6 @@ pub returns-then-is_limit : goal.returns-then-is_limit
 unfolding motor_limits_of
 returns-then-is_limit c = simp (sym c.is_limit.ensures ∙ c.if-is_limit.true) (cc)
 
-pub returns : goal.returns
+pub returns-else-is_limit : goal.returns-else-is_limit
 unfolding motor_limits_of
-returns c = simp (sym c.is_limit.ensures ∙ c.if-is_limit.false)
+returns-else-is_limit c = simp (sym c.is_limit.ensures ∙ c.if-is_limit.false)

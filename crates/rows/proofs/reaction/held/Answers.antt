@@ -3,12 +3,7 @@ use native.Mathlib.Omega.{arith}
 use lib.ListN.{length-take}
 use Rattle.rows.proofs.reaction.held.Goals as goal
 
-pub returns-then-rows-lt6 : goal.returns-then-rows-lt6
-returns-then-rows-lt6 c =
-    let six = c.well_formed.0.1.1.0.1.0.1 in
-    omega (arith, length-take c.args.rows.len c.args.rows.rows, six)
-
 pub returns : goal.returns
 returns c =
     let six = c.well_formed.0.1.1.0.1.0.1 in
-    omega (arith, length-take c.args.rows.len c.args.rows.rows, six)
+    omega (arith, c.min.ensures, length-take c.args.rows.len c.args.rows.rows, six)

@@ -1,12 +1,9 @@
 -- `impulses` meets its contract. Before turn k, the rows from k on added to what is summed give what all rows give.
-use Prim.Native.Nat.{◌-◌, ◌≤◌}
+use Prim.Native.Nat.{◌≤◌}
 use mathlib.Core.Path.{◌≡◌}
 use lib.ListN.{length, drop}
 use Rattle.rows.specs.Reaction.{rows_in, impulses_of, given_by}
 use Rattle.rows.proofs.reaction.impulses.Given as goal
 
 abbrev pub invariant-loop-k : goal.invariant-loop-k
-invariant-loop-k l = (l.k ≤ l.n) × (l.n ≤ 6) × (l.n ≡ length (rows_in l.rows)) × (given_by l.sums (drop l.k (rows_in l.rows)) ≡ impulses_of (rows_in l.rows))
-
-abbrev pub decreases-loop-k : goal.decreases-loop-k
-decreases-loop-k l = l.n - l.k
+invariant-loop-k l = (l.n ≤ 6) × (l.n ≡ length (rows_in l.rows)) × (given_by l.sums (drop l.k (rows_in l.rows)) ≡ impulses_of (rows_in l.rows))

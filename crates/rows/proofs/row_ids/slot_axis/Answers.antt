@@ -11,5 +11,5 @@ returns-then-i-eq0 c = rw c.if-i-eq0.true
 pub returns-then-i-lt3 : goal.returns-then-i-lt3
 returns-then-i-lt3 c = let a = c.args in axis-mid a.i a.f (search rules) (search rules)
 
-pub returns : goal.returns
-returns c = let a = c.args in axis-last a.i a.f (search rules)
+pub returns-else-i-lt3 : goal.returns-else-i-lt3
+returns-else-i-lt3 c = let a = c.args in axis-last a.i a.f (search rules)

@@ -11,6 +11,6 @@ pub returns-then-s-lt7 : goal.returns-then-s-lt7
 unfolding slot_id
 returns-then-s-lt7 c = rw (le-ltb _ _ c.if-s-lt4.false, lt-ltb _ _ c.if-s-lt7.true, c.slot_axis-then-s-lt7.ensures)
 
-pub returns : goal.returns
+pub returns-else-s-lt7 : goal.returns-else-s-lt7
 unfolding slot_id
-returns c = rw (le-ltb _ _ c.if-s-lt4.false, le-ltb _ _ c.if-s-lt7.false, c.slot_axis-2.ensures)
+returns-else-s-lt7 c = rw (le-ltb _ _ c.if-s-lt4.false, le-ltb _ _ c.if-s-lt7.false, c.slot_axis-else-s-lt7.ensures)

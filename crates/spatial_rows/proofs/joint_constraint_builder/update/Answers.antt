@@ -11,7 +11,7 @@ use Rattle.spatial_rows.proofs.joint_constraint_builder.update.Goals as goal
 pub loop-left-init : goal.loop-left-init
 loop-left-init c =
     let nine = c.well_formed.1.1.1.1.1.1.0.1.0.1 in
-    rw (c.blank_row-blank.ensures, c.row_slots-slots.ensures)
+    rw (c.blank_row-rows.ensures, c.row_slots-slots.ensures)
     (start-start c.args.warmstart c.args.substep_id c.args.joint c.context-context.result c.args.prevs nine)
 
 pub offset_bounds-prevs-k : goal.offset_bounds-prevs-k

@@ -8,6 +8,6 @@ unfolding snapped_of
 returns-then-has_axis c =
     simp (sym c.has_axis.ensures ∙ c.if-has_axis.true) (cc)
 
-pub returns : goal.returns
+pub returns-else-has_axis : goal.returns-else-has_axis
 unfolding snapped_of
-returns c = simp (sym c.has_axis.ensures ∙ c.if-has_axis.false)
+returns-else-has_axis c = simp (sym c.has_axis.ensures ∙ c.if-has_axis.false)

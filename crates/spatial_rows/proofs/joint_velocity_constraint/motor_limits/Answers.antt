@@ -10,7 +10,7 @@ unfolding motor_limits_of
 returns-then-is_limit c =
     simp (sym (c.is_limit.ensures ∙ ap (λ (k : Masks). is_limit k c.args.axis) c.spatial_masks-masks.ensures) ∙ c.if-is_limit.true) (cc)
 
-pub returns : goal.returns
+pub returns-else-is_limit : goal.returns-else-is_limit
 unfolding motor_limits_of
-returns c =
+returns-else-is_limit c =
     simp (sym (c.is_limit.ensures ∙ ap (λ (k : Masks). is_limit k c.args.axis) c.spatial_masks-masks.ensures) ∙ c.if-is_limit.false)

@@ -15,6 +15,6 @@ pub returns-then-s-lt9 : goal.returns-then-s-lt9
 unfolding slot_id
 returns-then-s-lt9 c = rw (le-ltb _ _ c.if-s-lt3.false, le-ltb _ _ c.if-s-lt6.false, lt-ltb _ _ c.if-s-lt9.true)
 
-pub returns : goal.returns
+pub returns-else-s-lt9 : goal.returns-else-s-lt9
 unfolding slot_id
-returns c = rw (le-ltb _ _ c.if-s-lt3.false, le-ltb _ _ c.if-s-lt6.false, le-ltb _ _ c.if-s-lt9.false)
+returns-else-s-lt9 c = rw (le-ltb _ _ c.if-s-lt3.false, le-ltb _ _ c.if-s-lt6.false, le-ltb _ _ c.if-s-lt9.false)

@@ -7,11 +7,11 @@ unfolding cfm_coeff_of
 returns-then-self c =
     simp (← c.erp-erp.ensures, c.if-erp.true, c.if-self.true, c.undamped.ensures)
 
-pub returns-then-erp : goal.returns-then-erp
+pub returns-else-self : goal.returns-else-self
 unfolding cfm_coeff_of
-returns-then-erp c =
+returns-else-self c =
     simp (← c.erp-erp.ensures, c.if-erp.true, c.if-self.false, c.damped.ensures)
 
-pub returns : goal.returns
+pub returns-else-erp : goal.returns-else-erp
 unfolding cfm_coeff_of
-returns c = simp (← c.erp-erp.ensures, c.if-erp.false)
+returns-else-erp c = simp (← c.erp-erp.ensures, c.if-erp.false)

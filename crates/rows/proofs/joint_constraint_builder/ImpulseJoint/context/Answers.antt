@@ -9,8 +9,8 @@ returns c =
       c.new.ensures,
       c.solver_body-2.ensures,
       c.solver_body.ensures,
-      c.mul-frame2.ensures,
-      c.mul-frame1.ensures,
+      c.mul-2.ensures,
+      c.mul.ensures,
       c.new-ang_limit.ensures,
       c.limits_at-limits.ensures,
     )

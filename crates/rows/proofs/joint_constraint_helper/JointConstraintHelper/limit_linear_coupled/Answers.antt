@@ -9,7 +9,7 @@ returns c =
     simp (
       c.assemble.ensures,
       c.infinity.ensures,
-      c.clamp-capped.ensures,
+      c.clamp-rhs_bias.ensures,
       clamped-value,
       c.max.ensures,
       c.max_corrective_velocity-max_bias.ensures,

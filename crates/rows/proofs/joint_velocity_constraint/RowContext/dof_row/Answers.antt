@@ -7,6 +7,6 @@ pub returns-then-axis-eq2 : goal.returns-then-axis-eq2
 unfolding row_of
 returns-then-axis-eq2 c = simp (eq-eqb _ _ c.if-axis-eq2.true) c.lock_angular.ensures
 
-pub returns : goal.returns
+pub returns-else-axis-eq2 : goal.returns-else-axis-eq2
 unfolding row_of
-returns c = simp (ne_eqb _ _ c.if-axis-eq2.false) c.lock_linear.ensures
+returns-else-axis-eq2 c = simp (ne_eqb _ _ c.if-axis-eq2.false) c.lock_linear.ensures

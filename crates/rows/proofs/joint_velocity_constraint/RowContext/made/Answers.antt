@@ -6,7 +6,7 @@ use borrow.Author.Rules.{rules}
 use Rattle.rows.proofs.joint_velocity_constraint.RowContext.made.Goals as goal
 
 pub loop-k-init : goal.loop-k-init
-loop-k-init c = (search rules, search rules, rw c.blank_row-blank.ensures)
+loop-k-init c = (search rules, rw c.blank_row-rows.ensures)
 
 pub loop-k-preserved : goal.loop-k-preserved
 loop-k-preserved c =
@@ -14,12 +14,11 @@ loop-k-preserved c =
     let l = c.loop-k in
     let six = c.well_formed.1.0.1.1.0.1.0.1 in (
       search rules,
-      search rules,
-      push-mapped (λ i. row_of a.self i.id) blank_row 6 a.ids.ids l.k _ l.rows c.row.result (search rules) (omega (arith, six)) l.invariant.2 c.row.ensures,
+      push-mapped (λ i. row_of a.self i.id) blank_row 6 a.ids.ids l.k _ l.rows c.row.result (search rules) (omega (arith, six)) l.invariant.1 c.row.ensures,
     )
 
 pub returns : goal.returns
 unfolding made_rows
 returns c =
     let e : c.loop-k.k ≡ c.args.count = omega arith in
-    rw (c.loop-k.invariant.2, e)
+    rw (c.loop-k.invariant.1, e)

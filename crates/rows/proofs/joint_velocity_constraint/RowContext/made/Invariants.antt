@@ -2,7 +2,6 @@
 -- there are six ids is what owning `ids` tells of its first field.
 use mathlib.Core.Path.{◌≡◌}
 use mathlib.Core.List.{map}
-use Prim.Native.Nat.{◌≤◌, ◌-◌}
 use lib.ListN.{length, take}
 use Rattle.rows.specs.RowIds.{filled}
 use Rattle.rows.specs.Update.{blank_row, row_of}
@@ -10,7 +9,4 @@ use Rattle.rows.proofs.joint_velocity_constraint.RowContext.made.Given as goal
 
 abbrev pub invariant-loop-k : goal.invariant-loop-k
 invariant-loop-k l =
-    (l.k ≤ l.count) × (length l.rows ≡ 6) × (l.rows ≡ filled 6 blank_row (map (λ i. row_of l.self i.id) (take l.k l.ids.ids)))
-
-abbrev pub decreases-loop-k : goal.decreases-loop-k
-decreases-loop-k l = l.count - l.k
+    (length l.rows ≡ 6) × (l.rows ≡ filled 6 blank_row (map (λ i. row_of l.self i.id) (take l.k l.ids.ids)))

@@ -5,4 +5,4 @@ use Rattle.spatial_rows.proofs.joint_constraint_builder.ImpulseJoint.context.Goa
 pub returns : goal.returns
 unfolding joint_context_of
 returns c =
-    simp (c.new.ensures, c.solver_body-2.ensures, c.solver_body.ensures, c.mul-frame2.ensures, c.mul-frame1.ensures)
+    simp (c.new.ensures, c.solver_body-2.ensures, c.solver_body.ensures, c.mul-2.ensures, c.mul.ensures)

@@ -7,6 +7,6 @@ pub returns-then-axis-ge3 : goal.returns-then-axis-ge3
 unfolding row_of
 returns-then-axis-ge3 c = simp (le-ltb _ _ c.if-axis-ge3.true) c.lock_angular.ensures
 
-pub returns : goal.returns
+pub returns-else-axis-ge3 : goal.returns-else-axis-ge3
 unfolding row_of
-returns c = simp (lt-ltb _ _ c.if-axis-ge3.false) c.lock_linear.ensures
+returns-else-axis-ge3 c = simp (lt-ltb _ _ c.if-axis-ge3.false) c.lock_linear.ensures

@@ -1,7 +1,7 @@
 -- `with_impulse` computes what its definition says.
 use mathlib.Core.Path.{refl}
-use Rattle.spatial_rows.specs.Row.{with_impulse}
-use Rattle.spatial_rows.proofs.joint_velocity_constraint.JointConstraint.with_impulse.Goals as goal
+use Rattle.rows.specs.Row.{with_impulse}
+use Rattle.rows.proofs.joint_constraint_helper.JointConstraintRow.with_impulse.Goals as goal
 
 pub returns : goal.returns
 unfolding with_impulse

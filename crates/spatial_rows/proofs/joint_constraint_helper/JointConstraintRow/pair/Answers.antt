@@ -1,5 +1,5 @@
 -- `pair` is put together from what its callees promise.
-use Rattle.rows.proofs.joint_constraint_helper.pair.Goals as goal
+use Rattle.spatial_rows.proofs.joint_constraint_helper.JointConstraintRow.pair.Goals as goal
 
 pub returns : goal.returns
 returns c = cc

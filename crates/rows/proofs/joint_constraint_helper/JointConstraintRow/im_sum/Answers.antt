@@ -1,6 +1,6 @@
 -- `im_sum` is the sum that its callee promises.
 use Rattle.rows.specs.Finalize.{im_sum_of}
-use Rattle.rows.proofs.joint_constraint_helper.im_sum.Goals as goal
+use Rattle.rows.proofs.joint_constraint_helper.JointConstraintRow.im_sum.Goals as goal
 
 pub returns : goal.returns
 unfolding im_sum_of
