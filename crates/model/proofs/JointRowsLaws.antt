@@ -1,4 +1,5 @@
 -- Arrays of six that hold a joint's rows and ids: how many they hold, and which. What is read of them in turn is multibody's.
+use Rattle.std.specs.Prelude.{Option}
 use Prim.Native.Nat.{ℕ, ◌<◌}
 use mathlib.Core.Path.{◌≡◌, ap, ◌∙◌}
 use mathlib.Core.Bool.{true}
@@ -12,7 +13,6 @@ use Rattle.rows.specs.Builder.{builder_update_of}
 use Rattle.rows.specs.declared.integration_parameters.IntegrationParameters.{IntegrationParameters}
 use Rattle.rows.specs.declared.joint_constraint_builder.SolverPose.{SolverPose}
 use Rattle.rows.specs.declared.joint_constraint_builder.ImpulseJoint.{ImpulseJoint}
-use Rattle.rows.specs.declared.joint_constraint_builder.Warmstart.{Warmstart}
 use Rattle.rows.specs.declared.joint_velocity_constraint.JointConstraint.{JointConstraint}
 use Rattle.rows.specs.declared.joint_velocity_constraint.WritebackId.TheVariants.{Dof}
 use Rattle.rows.specs.declared.joint_velocity_constraint.Rows.{Rows}
@@ -29,7 +29,7 @@ use Rattle.model.specs.Planar.{plane}
 use Rattle.model.proofs.PlanarLaws.{planar-laws}
 
 -- the array of the rows that are made: their number, and the rows themselves
-module _ (params : IntegrationParameters) (substep : ℕ) (warm : Warmstart) (body1 body2 : SolverPose) (words : List ℕ) (numbers : List Float) (j : ℕ)
+module _ (params : IntegrationParameters) (substep : ℕ) (warm : Option Float) (body1 body2 : SolverPose) (words : List ℕ) (numbers : List Float) (j : ℕ)
     {joint : ImpulseJoint} (prevs : List Float) {made : Rows} (on : is_enabled (enabled_at words j) ≡ true) (e : joint ≡ joint_at words numbers j)
     (m : made ≡ rows_array (builder_update_of params substep warm body1 body2 joint prevs)) where
   count : length (builder_update_of params substep warm body1 body2 joint prevs) ≡ row_count plane words j

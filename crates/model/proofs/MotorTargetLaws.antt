@@ -16,7 +16,7 @@ use Rattle.motor_table.specs.Tables.Table.{granted, refused}
 use Rattle.motor_table.specs.Targets.{target_of}
 use Rattle.motor_table.specs.declared.record.Entry.{Entry}
 use Rattle.motor_table.specs.declared.record.RecordRead.{RecordRead}
-use Rattle.motor_table.specs.declared.table.TableAnswer.{TableAnswer}
+use Rattle.std.specs.Prelude.{Ok}
 use Rattle.motor_table.proofs.GrantedLaws.{AllFit, Granted, granted-fit, present-parts, is-there, granted-after, granted-count, refused-never, next-record, next-answer}
 use Rattle.motor_table.proofs.TargetLaws.{target-finite}
 use Rattle.rows.specs.GenericJoint.{motor_at}
@@ -56,28 +56,28 @@ table_same joints bytes s = granted-same joints s (read_table joints bytes) (gra
 -- ---- a walk over the bytes of a table that is granted
 
 -- one record, and then the rest
-record-first : (e : Entry) (s : List Float) (k n : ℕ) (t : Table) → table_answer k t ≡ TableAnswer.Granted n → set_table s (after e t) ≡ set_table (set_record s e) t
+record-first : (e : Entry) (s : List Float) (k n : ℕ) (t : Table) → table_answer k t ≡ Ok n → set_table s (after e t) ≡ set_table (set_record s e) t
 unfolding set_table set_records
 record-first e s k n (granted es) h = ap (set_table s) (granted-after e es)
 record-first e s k n (refused r) h = absurd (refused-never k n r h)
 
 -- no record is left
-pub no_record : (s : List Float) (k n : ℕ) (t : Table) → table_answer k t ≡ TableAnswer.Granted n → n ≤ k → set_table s t ≡ s
+pub no_record : (s : List Float) (k n : ℕ) (t : Table) → table_answer k t ≡ Ok n → n ≤ k → set_table s t ≡ s
 unfolding set_table set_records
 no_record s k n (granted []) h l = refl
 no_record s k n (granted (e ∷ es)) h l = let z : k + suc (length es) ≡ n = granted-count k n (e ∷ es) h in absurd (omega arith)
 no_record s k n (refused r) h l = refl
 
-module _ (joints m n i : ℕ) (bytes : List ℕ) (at : ℕ) (whole : table_answer i (read_from joints (m - i) (drop at bytes)) ≡ TableAnswer.Granted n) (l : i ≤ m) (h : i < n)
-    (e : Entry) (next : ℕ) (q : read_at bytes at ≡ RecordRead.Record e next) where
-  pub record-set : (s : List Float) → set_table (set_record s e) (read_from joints (m - (i + 1)) (drop next bytes)) ≡ set_table s (read_from joints (m - i) (drop at bytes))
+module _ (joints m n i : ℕ) (bytes : List ℕ) (at : ℕ) (whole : table_answer i (read_from joints (m - i) (drop at bytes)) ≡ Ok n) (l : i ≤ m) (h : i < n)
+    (r : RecordRead) (q : read_at bytes at ≡ Ok r) where
+  pub record-set : (s : List Float) → set_table (set_record s r.entry) (read_from joints (m - (i + 1)) (drop r.next bytes)) ≡ set_table s (read_from joints (m - i) (drop at bytes))
   record-set s =
-      sym (record-first e s (i + 1) n (read_from joints (m - (i + 1)) (drop next bytes)) (next-answer joints m n i bytes at whole l h e next q))
-      ∙ sym (ap (set_table s) (next-record joints m n i bytes at whole l h e next q))
+      sym (record-first r.entry s (i + 1) n (read_from joints (m - (i + 1)) (drop r.next bytes)) (next-answer joints m n i bytes at whole l h r q))
+      ∙ sym (ap (set_table s) (next-record joints m n i bytes at whole l h r q))
 
-  pub record-there : (s : List Float) → joints * numbers_width ≤ length s → (e.axis.size < 3) × (e.joint.size * numbers_width + numbers_width ≤ length s)
+  pub record-there : (s : List Float) → joints * numbers_width ≤ length s → (r.entry.axis.size < 3) × (r.entry.joint.size * numbers_width + numbers_width ≤ length s)
   record-there s room =
-      let p = present-parts joints e (is-there joints m n i bytes at whole l h e next q) in
+      let p = present-parts joints r.entry (is-there joints m n i bytes at whole l h r q) in
       (p.1, omega (arith, p.0, room))
 
 -- ---- a later record for the same axis wins

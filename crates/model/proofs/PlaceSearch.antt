@@ -8,46 +8,31 @@ use native.Mathlib.Omega.{arith}
 use lib.Dec.{eqb}
 use lib.ListN.{get_or, replicate, get_or-append}
 use lib.Ieee.{Float, is_nan}
+use Rattle.std.specs.Prelude.{Option, Some, None, is_some}
 use Rattle.floats.specs.Scalar.{is_finite}
-use Rattle.rows.specs.declared.integration_parameters.IntegrationParameters.{IntegrationParameters}
 use Rattle.multibody.specs.Finite.{Asks, passes, limit_asks, motor_asks, thrice}
 use Rattle.multibody.specs.Finite.Asks.{finite, no_nan, free}
 use Rattle.multibody.proofs.Tests.{by_cases}
 use Rattle.model.specs.Layout.{limits_place}
 use Rattle.model.specs.Refusals.{joint_asks}
 use Rattle.model.specs.declared.refusal_place.Place.{Place}
-use Rattle.model.specs.declared.refusal_place.Place.TheVariants.{Nowhere}
-use Rattle.model.specs.RefusalPlace.{Test, at, broken, is_nowhere, each, setting_tests, body_tests, all_body_tests, joint_tests}
+use Rattle.model.specs.RefusalPlace.{Test, at, broken, each}
 use Rattle.model.proofs.RefusalPlaceLaws.{broken-later, broken-here}
 
 -- ---- lists one after the other
 
--- each test is of a place in the model
-abbrev pub InModel : List Test → Type 0
-InModel [] = Unit
-InModel (t ∷ ts) = (is_nowhere t.place ≡ false) × InModel ts
-
-broken-append : (ts us : List Test) → InModel ts → broken (ts ++ us) ≡ cond (is_nowhere (broken ts)) (broken us) (broken ts)
+broken-append : (ts us : List Test) → broken (ts ++ us) ≡ cond (is_some (broken ts)) (broken ts) (broken us)
 unfolding broken
-broken-append [] us w = refl
-broken-append (t ∷ ts) us w = by_cases t.holds (λ h. rw h (broken-append ts us w.1)) (λ h. rw (h, w.0))
+broken-append [] us = refl
+broken-append (t ∷ ts) us = by_cases t.holds (λ h. rw h (broken-append ts us)) (λ h. rw h)
 
 -- the first list has the place; or nothing is broken in it, and the second decides
-module _ (ts us : List Test) (w : InModel ts) {p : Place} (e : p ≡ broken ts) where
-  pub first_part : is_nowhere p ≡ false → p ≡ broken (ts ++ us)
-  first_part h = e ∙ sym (broken-append ts us w ∙ rw (rw e at h))
+module _ (ts us : List Test) {p : Option Place} (e : p ≡ broken ts) where
+  pub first_part : is_some p ≡ true → p ≡ broken (ts ++ us)
+  first_part h = e ∙ sym (broken-append ts us ∙ rw (rw e at h))
 
-  pub later-part : is_nowhere p ≡ true → broken us ≡ broken (ts ++ us)
-  later-part h = sym (broken-append ts us w ∙ rw (rw e at h))
-
-in-append : (ts us : List Test) → InModel ts → InModel us → InModel (ts ++ us)
-in-append [] us w v = v
-in-append (t ∷ ts) us w v = (w.0, in-append ts us w.1 v)
-
-in-each : (f : ℕ → List Test) → ((c : ℕ) → InModel (f c)) → (i n : ℕ) → InModel (each i n f)
-unfolding each
-in-each f w i zero = tt
-in-each f w i (suc n) = in-append (f i) (each (i + 1) n f) (w i) (in-each f w (i + 1) n)
+  pub later-part : is_some p ≡ false → broken us ≡ broken (ts ++ us)
+  later-part h = sym (broken-append ts us ∙ rw (rw e at h))
 
 -- ---- a loop over lists of tests, up to before the last: before turn i, those from i on decide
 
@@ -61,17 +46,17 @@ module _ (f : ℕ → List Test) (ts : List Test) (last i : ℕ) where
       let more : last - i ≡ suc (last - (i + 1)) = omega arith in
       rw more
 
-  pub none_left : Unfound → last ≤ i → Nowhere ≡ broken ts
+  pub none_left : Unfound → last ≤ i → None ≡ broken ts
   unfolding each broken
   none_left u h =
       let none : last - i ≡ 0 = omega arith in
       rw none at u.1
 
-  pub this-list : Unfound → i < last → InModel (f i) → {p : Place} → p ≡ broken (f i) → is_nowhere p ≡ false → p ≡ broken ts
-  this-list u h w e n = first_part (f i) _ w e n ∙ ap broken (sym (one_more h)) ∙ u.1
+  pub this-list : Unfound → i < last → {p : Option Place} → p ≡ broken (f i) → is_some p ≡ true → p ≡ broken ts
+  this-list u h e n = first_part (f i) _ e n ∙ ap broken (sym (one_more h)) ∙ u.1
 
-pub next-list : (f : ℕ → List Test) (ts : List Test) (last i : ℕ) → Unfound f ts last i → i < last → InModel (f i) → {p : Place} → p ≡ broken (f i) → is_nowhere p ≡ true → Unfound f ts last (i + 1)
-next-list f ts last i u h w e n = (omega arith, later-part (f i) _ w e n ∙ ap broken (sym (one_more f ts last i h)) ∙ u.1)
+pub next-list : (f : ℕ → List Test) (ts : List Test) (last i : ℕ) → Unfound f ts last i → i < last → {p : Option Place} → p ≡ broken (f i) → is_some p ≡ false → Unfound f ts last (i + 1)
+next-list f ts last i u h e n = (omega arith, later-part (f i) _ e n ∙ ap broken (sym (one_more f ts last i h)) ∙ u.1)
 
 -- a loop over tests of single words or numbers
 module _ (pl : ℕ → Place) (p : ℕ → Bool) (ts : List Test) (last i : ℕ) where
@@ -81,30 +66,8 @@ module _ (pl : ℕ → Place) (p : ℕ → Bool) (ts : List Test) (last i : ℕ)
   pub test-holds : Unfound single ts last i → i < last → p i ≡ true → Unfound single ts last (i + 1)
   test-holds u h e = (omega arith, sym (ap broken (one_more single ts last i h) ∙ broken-later _ _ e) ∙ u.1)
 
-  pub test-fails : Unfound single ts last i → i < last → p i ≡ false → pl i ≡ broken ts
+  pub test-fails : Unfound single ts last i → i < last → p i ≡ false → Some (pl i) ≡ broken ts
   test-fails u h e = sym (ap broken (one_more single ts last i h) ∙ broken-here _ _ e) ∙ u.1
-
--- ---- the rules' tests are of places in the model
-
-pub body-in : (bodies : List Float) (i : ℕ) → InModel (body_tests bodies i)
-body-in bodies i = in-each _ (λ c. (refl, tt)) 0 _
-
-pub setting-in : (p : IntegrationParameters) (k : ℕ) → InModel (setting_tests p k)
-unfolding setting_tests
-setting-in p k = by_cases (eqb k 6) (λ e. rw e (refl, (refl, (refl, tt)))) (λ e. rw e (by_cases (eqb k 7) (λ d. rw d (refl, tt)) (λ d. rw d tt)))
-
-pub bodies-in : (bodies : List Float) (k : ℕ) → InModel (all_body_tests bodies k)
-unfolding all_body_tests
-bodies-in bodies k = by_cases (eqb k 6) (λ e. rw e (in-each (body_tests bodies) (body-in bodies) 0 _)) (λ e. rw e tt)
-
-pub joint-in : (bodies : List Float) (words : List ℕ) (numbers : List Float) (k j : ℕ) → InModel (joint_tests bodies words numbers k j)
-unfolding joint_tests
-joint-in bodies words numbers k j =
-    by_cases (eqb k 3) (λ e. rw e (in-each _ (λ c. (refl, tt)) _ _))
-    (λ e. rw e (by_cases (eqb k 4) (λ d. rw d (refl, (refl, tt)))
-    (λ d. rw d (by_cases (eqb k 5) (λ c. rw c (refl, tt))
-    (λ c. rw c (by_cases (eqb k 6) (λ b. rw b (in-each _ (λ c. (refl, tt)) _ _))
-    (λ b. rw b (by_cases (eqb k 12) (λ a. rw a (refl, tt)) (λ a. rw a tt)))))))))
 
 -- ---- what rule 6 asks, as letters
 

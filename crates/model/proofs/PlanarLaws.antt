@@ -1,4 +1,5 @@
 -- The planar model has the laws of a multibody system (`planar-laws`), and so demand 3 (`planar-two-studies`).
+use Rattle.std.specs.Prelude.{Option, Some, None}
 use Prim.Native.Nat.{ℕ, zero, suc, ◌*◌, ◌<◌}
 use mathlib.Core.Path.{◌≡◌, refl, sym, ap, ◌∙◌}
 use mathlib.Core.Bool.{Bool, true, false}
@@ -15,8 +16,6 @@ use Rattle.rows.specs.Builder.{builder_update_of}
 use Rattle.rows.specs.declared.integration_parameters.IntegrationParameters.{IntegrationParameters}
 use Rattle.rows.specs.declared.joint_constraint_builder.SolverPose.{SolverPose}
 use Rattle.rows.specs.declared.joint_constraint_builder.ImpulseJoint.{ImpulseJoint}
-use Rattle.rows.specs.declared.joint_constraint_builder.Warmstart.{Warmstart}
-use Rattle.rows.specs.declared.joint_constraint_builder.Warmstart.TheVariants.{Cold, Warm}
 use Rattle.rows.specs.declared.joint_velocity_constraint.JointConstraint.{JointConstraint}
 use Rattle.rows.specs.declared.joint_velocity_constraint.WritebackId.{WritebackId}
 use Rattle.rows.proofs.BuilderLaws.{first-reads-no-row, cold}
@@ -94,19 +93,19 @@ impulse-read : (s : List Float) (k : ℕ) → (row_at s k).impulse ≡ get_or s 
 unfolding row_at
 impulse-read s k = rw add-zero
 
-update-length : (params : IntegrationParameters) (substep : ℕ) (warm : Warmstart) (b1 b2 : SolverPose) (words : List ℕ) (n : List Float) (j : ℕ) (last : List Float)
+update-length : (params : IntegrationParameters) (substep : ℕ) (warm : Option Float) (b1 b2 : SolverPose) (words : List ℕ) (n : List Float) (j : ℕ) (last : List Float)
     → length (builder_update_of params substep warm b1 b2 (joint_at words n j) last) ≡ length (row_ids 2 1 (masks_at words j))
 unfolding joint_at masks_at
 update-length params substep warm b1 b2 words n j last = length-builder_update_of params substep warm b1 b2 (joint_at words n j) last
 
-no-row-read : (params : IntegrationParameters) (substep : ℕ) (warm : Warmstart) (b1 b2 : SolverPose) (a : ImpulseJoint) (last last' : List Float) → reads_rows warm substep ≡ false
+no-row-read : (params : IntegrationParameters) (substep : ℕ) (warm : Option Float) (b1 b2 : SolverPose) (a : ImpulseJoint) (last last' : List Float) → reads_rows warm substep ≡ false
     → builder_update_of params substep warm b1 b2 a last ≡ builder_update_of params substep warm b1 b2 a last'
 unfolding reads_rows
-no-row-read params substep Cold b1 b2 a last last' e = cold params b1 b2 substep a last ∙ sym (cold params b1 b2 substep a last')
-no-row-read params zero (Warm c) b1 b2 a last last' e = first-reads-no-row params b1 b2 (Warm c) a last last'
-no-row-read params (suc substep) (Warm c) b1 b2 a last last' e = absurd (mathlib.Core.Bool.true≢false (sym (lt-ltb 0 (suc substep) (omega arith)) ∙ e))
+no-row-read params substep None b1 b2 a last last' e = cold params b1 b2 substep a last ∙ sym (cold params b1 b2 substep a last')
+no-row-read params zero (Some c) b1 b2 a last last' e = first-reads-no-row params b1 b2 (Some c) a last last'
+no-row-read params (suc substep) (Some c) b1 b2 a last last' e = absurd (mathlib.Core.Bool.true≢false (sym (lt-ltb 0 (suc substep) (omega arith)) ∙ e))
 
-named-rows : (params : IntegrationParameters) (substep : ℕ) (warm : Warmstart) (b1 b2 : SolverPose) (words words' : List ℕ) (n n' : List Float) (j : ℕ) (last : List Float)
+named-rows : (params : IntegrationParameters) (substep : ℕ) (warm : Option Float) (b1 b2 : SolverPose) (words words' : List ℕ) (n n' : List Float) (j : ℕ) (last : List Float)
     → SameJoint plane (Given plane words j) words n words' n' j
     → builder_update_of params substep warm b1 b2 (joint_at words n j) last ≡ builder_update_of params substep warm b1 b2 (joint_at words' n' j) last
 unfolding joint_at masks_at

@@ -7,7 +7,9 @@ use mathlib.Core.Logic.{◌≢◌}
 use lib.Ieee.{Float}
 use Rattle.rows.specs.declared.generic_joint.Masks.{Masks}
 use Rattle.motor_table.specs.Tables.{most_records, read_table, table_refusal, table_answer}
-use Rattle.motor_table.specs.declared.table.TableAnswer.{TableAnswer}
+use Rattle.std.specs.Prelude.{Ok, Err}
+use Rattle.motor_table.specs.Refusals.{refusal_number}
+use Rattle.motor_table.specs.declared.refusal.TableRefusal.{TableRefusal}
 use Rattle.motor_table.proofs.GrantedLaws.{refusal-cases, answer-refused, answer-granted}
 use Rattle.multibody.specs.Model.{Model}
 use Rattle.multibody.specs.Rules.{Rule, refusal}
@@ -32,10 +34,10 @@ unfolding table_rules refusal
 table-refusal joints bytes = refusal-cases (λ k. refusal (fault_rule 13 k ∷ fault_rule 14 k ∷ fault_rule 15 k ∷ []) ≡ k) refl refl refl refl joints most_records bytes
 
 module _ (n : ℕ) (bytes : List ℕ) {joints : ℕ} (e : joints ≡ n) where
-  pub table-faulty : {k : ℕ} → table_answer 0 (read_table joints bytes) ≡ TableAnswer.Refused k → (k ≡ refusal (table_rules n bytes)) × (k ≢ 0)
-  table-faulty {k} h =
-      let a = answer-refused n most_records bytes 0 k (rw e at h) in
+  pub table-faulty : {r : TableRefusal} → table_answer 0 (read_table joints bytes) ≡ Err r → (refusal_number r ≡ refusal (table_rules n bytes)) × (refusal_number r ≢ 0)
+  table-faulty {r} h =
+      let a = answer-refused n most_records bytes 0 r (rw e at h) in
       (a.0 ∙ sym (table-refusal n bytes), a.1)
 
-  pub table-read : {k : ℕ} → table_answer 0 (read_table joints bytes) ≡ TableAnswer.Granted k → refusal (table_rules n bytes) ≡ 0
+  pub table-read : {k : ℕ} → table_answer 0 (read_table joints bytes) ≡ Ok k → refusal (table_rules n bytes) ≡ 0
   table-read {k} h = table-refusal n bytes ∙ answer-granted n _ 0 k (rw e at h)

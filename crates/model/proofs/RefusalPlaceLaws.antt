@@ -7,6 +7,7 @@ use mathlib.Core.List.{List, [], ◌∷◌, ◌++◌}
 use native.Mathlib.Omega.{arith}
 use lib.ListN.{length, get_or}
 use lib.Ieee.{Float, nan}
+use Rattle.std.specs.Prelude.{Option, Some, None}
 use Rattle.multibody.specs.Rules.{all, at_most}
 use Rattle.multibody.specs.Model.{Model}
 use Rattle.multibody.specs.Finite.{Asks, passes, passes_from}
@@ -21,7 +22,7 @@ use Rattle.model.specs.Records.{num, word}
 use Rattle.model.specs.Refusals.{all_axes, body_asks, masks_fit, center_fits}
 use Rattle.model.specs.Planar.{plane, planar}
 use Rattle.model.specs.declared.refusal_place.Place.{Place}
-use Rattle.model.specs.declared.refusal_place.Place.TheVariants.{Nowhere, BodyNumber, JointWord, JointNumber}
+use Rattle.model.specs.declared.refusal_place.Place.TheVariants.{BodyNumber, JointWord, JointNumber}
 use Rattle.model.specs.RefusalPlace.{Test, at, broken, each, mask_tests, present_tests, number_tests, body_tests, finite_tests, step_tests, setting_tests, joint_tests, all_body_tests, place_tests, refusal_place}
 
 -- ---- any list of tests
@@ -30,11 +31,13 @@ abbrev AllHold : List Test → Type 0
 AllHold [] = Unit
 AllHold (t ∷ ts) = (t.holds ≡ true) × AllHold ts
 
--- the test of this place fails, and every test before it holds
-pub record FirstBroken (p : Place) (ts : List Test) : Type 0 where
+-- there is a place, its test fails, and every test before it holds
+pub record FirstBroken (told : Option Place) (ts : List Test) : Type 0 where
+  pub place : Place
+  pub told-is : told ≡ Some place
   pub before : List Test
   pub after : List Test
-  pub split : ts ≡ before ++ (at p false ++ after)
+  pub split : ts ≡ before ++ (at place false ++ after)
   pub hold : AllHold before
 
 -- all of them together
@@ -46,7 +49,7 @@ pub broken-later : (t : Test) (ts : List Test) → t.holds ≡ true → broken (
 unfolding broken
 broken-later t ts h = rw h
 
-pub broken-here : (t : Test) (ts : List Test) → t.holds ≡ false → broken (t ∷ ts) ≡ t.place
+pub broken-here : (t : Test) (ts : List Test) → t.holds ≡ false → broken (t ∷ ts) ≡ Some t.place
 unfolding broken
 broken-here t ts h = rw h
 
@@ -58,12 +61,12 @@ fails-first (t ∷ ts) e =
     (λ h.
     let f = fails-first ts (rw h at e) in
     subst (λ p. FirstBroken p (t ∷ ts)) (sym (broken-later t ts h))
-    (record { before = t ∷ f.before; after = f.after; split = ap (λ l. t ∷ l) f.split; hold = (h, f.hold) }))
+    (record { place = f.place; told-is = f.told-is; before = t ∷ f.before; after = f.after; split = ap (λ l. t ∷ l) f.split; hold = (h, f.hold) }))
     (λ h.
     let s : at t.place t.holds ≡ at t.place false = ap (at t.place) h in
-    subst (λ p. FirstBroken p (t ∷ ts)) (sym (broken-here t ts h)) (record { before = []; after = ts; split = ap (λ l. l ++ ts) s; hold = tt }))
+    subst (λ p. FirstBroken p (t ∷ ts)) (sym (broken-here t ts h)) (record { place = t.place; told-is = refl; before = []; after = ts; split = ap (λ l. l ++ ts) s; hold = tt }))
 
-holds-nowhere : (ts : List Test) → hold_all ts ≡ true → Nowhere ≡ broken ts
+holds-nowhere : (ts : List Test) → hold_all ts ≡ true → None ≡ broken ts
 unfolding hold_all broken
 holds-nowhere [] e = refl
 holds-nowhere (t ∷ ts) e = by_cases t.holds (λ h. rw h (holds-nowhere ts (rw h at e))) (λ h. absurd (false≢true (rw h at e)))
@@ -162,5 +165,5 @@ rule-tested m angles = at_each (λ j. JointNumber j center_place) (center_fits m
 pub first-broken : (m : Model) {k : ℕ} → Placed k → rule_of k (model_rules planar m true) ≡ false → FirstBroken (refusal_place m k) (place_tests m k)
 first-broken m {k} p e = fails-first (place_tests m k) (rule-tested m p ∙ e)
 
-pub held-nowhere : (m : Model) {k : ℕ} → Placed k → rule_of k (model_rules planar m true) ≡ true → Nowhere ≡ refusal_place m k
+pub held-nowhere : (m : Model) {k : ℕ} → Placed k → rule_of k (model_rules planar m true) ≡ true → None ≡ refusal_place m k
 held-nowhere m {k} p e = holds-nowhere (place_tests m k) (rule-tested m p ∙ e)

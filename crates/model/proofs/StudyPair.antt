@@ -3,6 +3,7 @@
 -- target velocity of its first motor in each (`motors-differ`), and its centre is typed as cosine and sine in the one and as an angle in the other
 -- (`centers-differ`): it names neither. The list builds cold, which is granted in both (`builds`), warm starts, sweeps, writes back, sets motor targets from a table, and builds again with a coefficient.
 -- The studies before it are computed; what they come to later is not, since no call of the list changes a joint's words (`WordsKept`).
+use Rattle.std.specs.Prelude.{Some, None}
 use Prim.Native.Nat.{ℕ, zero, suc}
 use mathlib.Core.Path.{◌≡◌, refl, sym, ap, ◌∙◌}
 use mathlib.Core.Logic.{◌≢◌, inl, ⊎_elim}
@@ -23,7 +24,6 @@ use Rattle.rows.specs.Named.{SameNamed}
 use Rattle.rows.specs.RowIds.{has_axis, row_ids}
 use Rattle.rows.specs.GenericJoint.{motor_at}
 use Rattle.rows.specs.declared.integration_parameters.IntegrationParameters.{IntegrationParameters}
-use Rattle.rows.specs.declared.joint_constraint_builder.Warmstart.TheVariants.{Cold, Warm}
 use Rattle.rows.specs.declared.joint_velocity_constraint.WritebackId.{WritebackId}
 use Rattle.rows.specs.declared.joint_velocity_constraint.WritebackId.TheVariants.{Dof, Limit, Motor}
 use Rattle.model.specs.declared.store.LimitCenter.{LimitCenter}
@@ -100,7 +100,7 @@ abbrev lending : Call planar → Turn planar_calls
 lending c = record { call = c; lent = storage; lent' = storage }
 
 abbrev pub ts : List (Turn planar_calls)
-ts = map lending (build Cold 0 ∷ warm_start ∷ sweep 4 ∷ write_back ∷ further (ascii "1,0,1500" ++ (0x0d ∷ 0x0a ∷ [])) ∷ build (Warm one) 0 ∷ sweep 1 ∷ [])
+ts = map lending (build None 0 ∷ warm_start ∷ sweep 4 ∷ write_back ∷ further (ascii "1,0,1500" ++ (0x0d ∷ 0x0a ∷ [])) ∷ build (Some one) 0 ∷ sweep 1 ∷ [])
 
 abbrev pub set : ℕ → Bool
 set i = ltb i 2
@@ -109,7 +109,7 @@ set i = ltb i 2
 
 -- every rule of a load, and of a build, holds
 abbrev Granted : Model → Type 0
-Granted n = (refusal (rules_of planar load n storage) ≡ 0) × (refusal (rules_of planar (build Cold 0) n storage) ≡ 0)
+Granted n = (refusal (rules_of planar load n storage) ≡ 0) × (refusal (rules_of planar (build None 0) n storage) ≡ 0)
 
 both-granted : Granted m × Granted m'
 unfolding rules_of refusal all model_rules_with storage_rule seeds_rule reads_rows masks_fit present_or_world bodies_present bodies_apart passes passes_from finite_params finite_warm finite_body finite_joint angle_fits center_fits center_at angle_too_large abs_of is_finite is_nan lt of_bits body_count joint_count row_capacity rows_before row_count joint_ids row_masks_at enabled_at masks_at body1_at body2_at has_axis row_ids
@@ -245,8 +245,8 @@ pub shared : Noninterference planar_calls set (recorded planar_calls ts s s') s 
 shared = planar-two-studies set (recorded planar_calls ts s s') s s' same_numbers compared
 
 -- rows are made in both, by the first call
-pub builds : MakesRows planar_calls (build Cold 0) (run planar (build Cold 0) m storage) × MakesRows planar_calls (build Cold 0) (run planar (build Cold 0) m' storage)
-builds = ((refl, told planar-laws (build Cold 0) m storage ∙ granted.1), (refl, told planar-laws (build Cold 0) m' storage ∙ granted'.1))
+pub builds : MakesRows planar_calls (build None 0) (run planar (build None 0) m storage) × MakesRows planar_calls (build None 0) (run planar (build None 0) m' storage)
+builds = ((refl, told planar-laws (build None 0) m storage ∙ granted.1), (refl, told planar-laws (build None 0) m' storage ∙ granted'.1))
 
 -- and the set's joint differs in a motor
 pub motors-differ : (motor_at (joint_at m.words m.numbers 0).«data» 0).target_vel ≢ (motor_at (joint_at m'.words m'.numbers 0).«data» 0).target_vel

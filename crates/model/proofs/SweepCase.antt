@@ -1,5 +1,6 @@
 -- A study that meets all that R-13 asks of a sweep (`meets`): two bodies of inverse mass 1, of which one moves, a joint between them without masks, a mask change that has it lock an axis, a build, and then
 -- a granted sweep of two rounds. All of it is computed.
+use Rattle.std.specs.Prelude.{None}
 use Prim.Native.Nat.{ℕ}
 use mathlib.Core.Path.{◌≡◌, refl, sym, subst}
 use mathlib.Core.Logic.{inl, inr}
@@ -30,7 +31,6 @@ use Rattle.rows.specs.Row.{with_impulse}
 use Rattle.rows.specs.Step.{wanted_impulse_of, applied_of, step_of}
 use Rattle.rows.specs.declared.generic_joint.Masks.{Masks}
 use Rattle.rows.specs.declared.integration_parameters.IntegrationParameters.{IntegrationParameters}
-use Rattle.rows.specs.declared.joint_constraint_builder.Warmstart.TheVariants.{Cold}
 use Rattle.multibody.specs.Rules.{refusal, all}
 use Rattle.multibody.specs.Model.{Model, model}
 use Rattle.multibody.specs.JointRows.{state, row_masks_at, joint_ids, row_count, put_rows, impulses_at, built_rows, build_joint, sweep_row}
@@ -84,7 +84,7 @@ abbrev locks : Masks
 locks = record { locked_axes = 1; limit_axes = 0; motor_axes = 0; coupled_axes = 0 }
 
 abbrev calls : List (Given (machine planar_calls))
-calls = record { call = set_masks 0 locks; lent = storage } ∷ record { call = build Cold 0; lent = storage } ∷ []
+calls = record { call = set_masks 0 locks; lent = storage } ∷ record { call = build None 0; lent = storage } ∷ []
 
 abbrev t : Study (machine planar_calls)
 t = after_calls calls s

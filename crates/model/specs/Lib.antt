@@ -13,3 +13,4 @@ pub mod RefusalPlace
 pub mod FirstRows
 pub mod Studies
 pub mod SweepMomentum
+pub mod Kind

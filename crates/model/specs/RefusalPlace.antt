@@ -1,5 +1,5 @@
 -- Where a model breaks rule 3, 4, 5, 6, 7 or 12. What such a rule asks of a model is tests of single words and numbers, in order; the first that fails is the place. The other rules are broken by a count or by the call.
-use Rattle.std.specs.Prelude.{ℕ, zero, suc, ◌+◌, Bool, true, false, not, cond, List, [], ◌∷◌, ◌++◌, eqb, get_or, Float}
+use Rattle.std.specs.Prelude.{ℕ, zero, suc, ◌+◌, Bool, not, cond, Option, Some, None, List, [], ◌∷◌, ◌++◌, eqb, get_or, Float}
 use Rattle.std.specs.Float.Ieee.{lt}
 use Rattle.floats.specs.Operators.{bits}
 use Rattle.floats.specs.Scalar.{is_finite}
@@ -11,7 +11,7 @@ use Rattle.multibody.specs.Finite.Asks.{free}
 use Rattle.multibody.specs.Counts.{body_count, joint_count}
 use Rattle.multibody.specs.Refusals.{present_or_world, bodies_apart}
 use Rattle.model.specs.declared.refusal_place.Place.{Place}
-use Rattle.model.specs.declared.refusal_place.Place.TheVariants.{Nowhere, Setting, BodyNumber, JointWord, JointNumber}
+use Rattle.model.specs.declared.refusal_place.Place.TheVariants.{Setting, BodyNumber, JointWord, JointNumber}
 use Rattle.model.specs.Layout.{body_width, words_width, body1_place, body2_place, masks_place, numbers_width, center_place}
 use Rattle.model.specs.Records.{num, word}
 use Rattle.model.specs.Store.{body1_at, body2_at}
@@ -27,16 +27,9 @@ abbrev pub at : Place → Bool → List Test
 at p t = record { holds = t; place = p } ∷ []
 
 -- the place of the first test that fails
-unfoldable pub broken : List Test → Place
-broken [] = Nowhere
-broken (t ∷ ts) = cond t.holds (broken ts) t.place
-
-abbrev pub is_nowhere : Place → Bool
-is_nowhere Nowhere = true
-is_nowhere (Setting i) = false
-is_nowhere (BodyNumber i c) = false
-is_nowhere (JointWord j c) = false
-is_nowhere (JointNumber j c) = false
+unfoldable pub broken : List Test → Option Place
+broken [] = None
+broken (t ∷ ts) = cond t.holds (broken ts) (Some t.place)
 
 -- the tests of n words, numbers, bodies or joints from i on, one after the other
 unfoldable pub each : ℕ → ℕ → (ℕ → List Test) → List Test
@@ -102,5 +95,5 @@ abbrev pub place_tests : Model → ℕ → List Test
 place_tests m k = setting_tests m.params k ++ (all_body_tests m.bodies k ++ all_joint_tests m.bodies m.words m.numbers k)
 
 -- where a model breaks the rule of number k
-abbrev pub refusal_place : Model → ℕ → Place
+abbrev pub refusal_place : Model → ℕ → Option Place
 refusal_place m k = broken (place_tests m k)

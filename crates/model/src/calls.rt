@@ -1,6 +1,5 @@
-// Document 01's calls on a model, and the one that reads a motor table. Each takes whatever it is lent, of any length and contents, and answers what is granted or the number of the refusal; a
-// refused call changes nothing.
-ghost use Rattle.std.specs.Prelude.{◌≡◌, true, []};
+// Document 01's calls on a model, and the one that reads a motor table. Each takes whatever it is lent, of any length and contents; a refused call changes nothing.
+ghost use Rattle.std.specs.Prelude.{◌≡◌, true};
 ghost use Rattle.model.specs.Model.{model_of};
 ghost use Rattle.multibody.specs.Counts.{joint_count};
 ghost use Rattle.multibody.specs.Rules.{refusal};
@@ -10,84 +9,43 @@ ghost use Rattle.multibody.specs.Calls.Change.{none};
 ghost use Rattle.multibody.specs.Calls.Call.{load, place, build, warm_start, sweep, remove_bias, write_back, read_rows, read_velocity, set_masks, further};
 ghost use Rattle.multibody.specs.JointRows.{row_masks_at};
 ghost use Rattle.model.specs.Planar.{plane, planar};
-ghost use Rattle.model.specs.Answers.{WithoutRows, load_answer, load_header, plain_answer, build_answer, build_header, rows_answer, no_rows, rows_answer_of, velocity_answer, sweep_answer, swept_as, sweep_answer_of};
+ghost use Rattle.multibody.specs.Answers.{WithoutRows, Filled, refused_number, plain_answer, load_header, build_answer, build_header, velocity_answer, sweep_answer};
+ghost use Rattle.model.specs.Answers.{rows_answer, RowsFilled};
 
-use crate::all_joints::{
-    build_all, remove_bias_all, rows_from, sweep_all, warmstart_all, write_back_all,
-};
-use crate::counts::{body_count, joint_count, row_capacity, rows_before, rows_with, store_firsts};
-use crate::header::Header;
-use crate::joint_rows::{count_at, ids_at, no_masks, reads_rows};
-use crate::refusals::{
-    finite_pose, finite_warm, model_refusal, new_masks_fit, storage_refusal, unfit_refusal,
-};
+use crate::counts::{rows_with, store_firsts};
+use crate::joint_rows::{ids_at, rows_from};
+use crate::plane::Plane;
+use crate::refusals::{finite_pose, model_refusal, new_masks_fit, storage_refusal, unfit_refusal};
 use crate::store::{put_masks, put_pose, vel_at};
 use crate::targets::set_table;
 use floats::pose::Pose;
-use motor_table::table::{TableAnswer, read_table};
+use motor_table::table::read_table;
+use multibody::all_joints::{build_all, remove_bias_all, sweep_all, warmstart_all, write_back_all};
+use multibody::counts::{body_count, joint_count, row_capacity, rows_before};
+use multibody::header::Header;
+use multibody::joint_rows::{count_at, reads_rows};
+use multibody::refusal::Refusal;
+use multibody::refusals::finite_warm;
 use rows::generic_joint::Masks;
-use rows::joint_constraint_builder::Warmstart;
-use rows::joint_velocity_constraint::{Rows, SolverVel, blank_row};
-use rows::row_ids::{RowIds, row_ids};
+use rows::joint_velocity_constraint::{Rows, SolverVel};
+use rows::row_ids::RowIds;
 
 // Rule 9: a sweep has at most so many rounds.
 pub const MOST_ROUNDS: u32 = 64;
 
-// The answer of a call that has nothing to tell.
-#[derive(Clone, Copy)]
-pub enum Plain {
-    Granted,
-    Refused(u32),
-}
-
-#[derive(Clone, Copy)]
-pub enum LoadAnswer {
-    Loaded(Header),
-    Refused(u32),
-}
-
-// The built model's header, and the number of its rows.
-#[derive(Clone, Copy)]
-pub enum BuildAnswer {
-    Built(Header, usize),
-    Refused(u32),
-}
-
-// One joint's ids and rows beside the answer, none where it is a refusal.
-#[derive(Clone, Copy)]
-pub struct RowsAnswer {
-    pub answer: Plain,
-    pub ids: RowIds,
-    pub rows: Rows,
-}
-
-// For each joint, how many of its motor rows the last round found low or high, beside the answer; zeros past the joints, and where it is a refusal.
-#[derive(Clone, Copy)]
-pub struct SweepAnswer {
-    pub answer: Plain,
-    pub counts: [u8; 128],
-}
-
-#[derive(Clone, Copy)]
-pub enum VelocityAnswer {
-    Velocity(SolverVel),
-    Refused(u32),
-}
-
-// The number of the first of rules 1 to 8 and 12 that fails of a model, its row storage and a warm coefficient, or 0. It changes nothing: a crate above tries these
-// rules once, before it works on the model.
+// The first of rules 1 to 8 and 12 that fails of a model, its row storage and a warm coefficient. It changes nothing: a crate above tries these rules once, before it
+// works on the model.
 pub fn front_refusal(
     header: Header,
     bodies: &[f32],
     words: &[u32],
     numbers: &[f32],
     rows: &[f32],
-    warmstart: Warmstart,
-) -> u32
-    ensures { result ≡ refusal (handed_rules planar true (model_of header bodies.now words.now numbers.now) none (finite_warm warmstart) rows.now) }
+    warmstart: Option<f32>,
+) -> Result<(), Refusal>
+    ensures { refused_number result ≡ refusal (handed_rules planar true (model_of header bodies.now words.now numbers.now) none (finite_warm warmstart) rows.now) }
 {
-    let finite = finite_warm(warmstart);
-    storage_refusal(header, bodies, words, numbers, rows, finite)
+    storage_refusal(header, bodies, words, numbers, rows, finite_warm(warmstart))
 }
 
 // Checks the model, stores each joint's first row and marks the model not built.
@@ -97,19 +55,15 @@ pub fn load(
     words: &mut [u32],
     numbers: &[f32],
     rows: &[f32],
-) -> LoadAnswer
-    ensures { outcome (load_answer result) (model_of (load_header header result) bodies.now words.new numbers.now) rows.now ≡ run planar load (model_of header bodies.now words.old numbers.now) rows.now }
+) -> Result<Header, Refusal>
+    ensures { outcome (plain_answer result) (model_of (load_header header result) bodies.now words.new numbers.now) rows.now ≡ run planar load (model_of header bodies.now words.old numbers.now) rows.now }
 {
-    let k = storage_refusal(header, bodies, words, numbers, rows, true);
-    if k != 0 {
-        return LoadAnswer::Refused(k);
-    }
-    let joints = joint_count(words, numbers);
+    storage_refusal(header, bodies, words, numbers, rows, true)?;
+    let joints = joint_count::<Plane>(words, numbers);
     store_firsts(words, joints);
-    let params = header.params;
-    LoadAnswer::Loaded(Header {
-        params: params,
+    Ok(Header {
         built: false,
+        ..header
     })
 }
 
@@ -121,52 +75,39 @@ pub fn place(
     numbers: &[f32],
     body: u32,
     pose: Pose,
-) -> Plain
+) -> Result<(), Refusal>
     ensures { WithoutRows (outcome (plain_answer result) (model_of header bodies.new words.now numbers.now)) (run planar (place body pose) (model_of header bodies.old words.now numbers.now)) }
 {
-    let finite = finite_pose(pose);
-    let k = model_refusal(header, bodies, words, numbers, finite);
-    if k != 0 {
-        return Plain::Refused(k);
-    }
-    if (body as usize) >= body_count(bodies) {
-        return Plain::Refused(11);
+    model_refusal(header, bodies, words, numbers, finite_pose(pose))?;
+    if (body as usize) >= body_count::<Plane>(bodies) {
+        return Err(Refusal::NoSuchIndex);
     }
     put_pose(bodies, body, pose);
-    Plain::Granted
+    Ok(())
 }
 
-// Makes all rows, and marks the model built.
+// Makes all rows, and marks the model built: its header, and the number of the rows.
 pub fn build(
     header: Header,
     bodies: &[f32],
     words: &[u32],
     numbers: &[f32],
     rows: &mut [f32],
-    warmstart: Warmstart,
+    warmstart: Option<f32>,
     substep_id: u32,
-) -> BuildAnswer
+) -> Result<(Header, usize), Refusal>
     ensures { outcome (build_answer result) (model_of (build_header header result) bodies.now words.now numbers.now) rows.new ≡ run planar (build warmstart substep_id) (model_of header bodies.now words.now numbers.now) rows.old }
 {
-    let finite = finite_warm(warmstart);
-    let k = storage_refusal(header, bodies, words, numbers, rows, finite);
-    if k != 0 {
-        return BuildAnswer::Refused(k);
+    storage_refusal(header, bodies, words, numbers, rows, finite_warm(warmstart))?;
+    if !header.built && reads_rows(warmstart, substep_id) {
+        return Err(Refusal::NotBuilt);
     }
-    if !header.built {
-        if reads_rows(warmstart, substep_id) {
-            return BuildAnswer::Refused(10);
-        }
-    }
-    let total = build_all(header, bodies, words, numbers, rows, warmstart, substep_id);
-    let params = header.params;
-    BuildAnswer::Built(
-        Header {
-            params: params,
-            built: true,
-        },
-        total,
-    )
+    let total = build_all::<Plane>(header, bodies, words, numbers, rows, warmstart, substep_id);
+    let built = Header {
+        built: true,
+        ..header
+    };
+    Ok((built, total))
 }
 
 // The warm start of every row.
@@ -176,32 +117,18 @@ pub fn warm_start(
     words: &[u32],
     numbers: &[f32],
     rows: &[f32],
-) -> Plain
+) -> Result<(), Refusal>
     ensures { outcome (plain_answer result) (model_of header bodies.new words.now numbers.now) rows.now ≡ run planar warm_start (model_of header bodies.old words.now numbers.now) rows.now }
 {
-    let k = storage_refusal(header, bodies, words, numbers, rows, true);
-    if k != 0 {
-        return Plain::Refused(k);
-    }
+    storage_refusal(header, bodies, words, numbers, rows, true)?;
     if !header.built {
-        return Plain::Refused(10);
+        return Err(Refusal::NotBuilt);
     }
-    warmstart_all(header, bodies, words, numbers, rows);
-    Plain::Granted
+    warmstart_all::<Plane>(header, bodies, words, numbers, rows);
+    Ok(())
 }
 
-// A refusal, with zeros for counts.
-fn no_counts(k: u32) -> SweepAnswer
-    ensures { result ≡ swept_as (Plain.Refused k) [] }
-{
-    let counts = [0u8; 128];
-    SweepAnswer {
-        answer: Plain::Refused(k),
-        counts: counts,
-    }
-}
-
-// n rounds over all joints, ascending, and their rows in order: the call's answer, and how the array of counts is filled up.
+// n rounds over all joints, ascending, and their rows in order. It tells of each joint how many of its motor rows the last round found low or high; past the joints are zeros.
 pub fn sweep(
     header: Header,
     bodies: &mut [f32],
@@ -209,26 +136,20 @@ pub fn sweep(
     numbers: &[f32],
     rows: &mut [f32],
     n: u32,
-) -> SweepAnswer
+) -> Result<[u8; 128], Refusal>
     ensures rows_after { outcome (sweep_answer (joint_count plane words.now numbers.now) result) (model_of header bodies.new words.now numbers.now) rows.new ≡ run planar (sweep n) (model_of header bodies.old words.now numbers.now) rows.old }
-    ensures value { result ≡ sweep_answer_of (run planar (sweep n) (model_of header bodies.old words.now numbers.now) rows.old).answer }
+    ensures filled { Filled (joint_count plane words.now numbers.now) result }
 {
-    let k = storage_refusal(header, bodies, words, numbers, rows, true);
-    if k != 0 {
-        return no_counts(k);
-    }
+    storage_refusal(header, bodies, words, numbers, rows, true)?;
     if n > MOST_ROUNDS {
-        return no_counts(9);
+        return Err(Refusal::TooManyRounds);
     }
     if !header.built {
-        return no_counts(10);
+        return Err(Refusal::NotBuilt);
     }
     let mut counts = [0u8; 128];
-    sweep_all(header, bodies, words, numbers, rows, &mut counts, n);
-    SweepAnswer {
-        answer: Plain::Granted,
-        counts: counts,
-    }
+    sweep_all::<Plane>(header, bodies, words, numbers, rows, &mut counts, n);
+    Ok(counts)
 }
 
 // Takes the bias off every row.
@@ -238,18 +159,15 @@ pub fn remove_bias(
     words: &[u32],
     numbers: &[f32],
     rows: &mut [f32],
-) -> Plain
+) -> Result<(), Refusal>
     ensures { outcome (plain_answer result) (model_of header bodies.now words.now numbers.now) rows.new ≡ run planar remove_bias (model_of header bodies.now words.now numbers.now) rows.old }
 {
-    let k = storage_refusal(header, bodies, words, numbers, rows, true);
-    if k != 0 {
-        return Plain::Refused(k);
-    }
+    storage_refusal(header, bodies, words, numbers, rows, true)?;
     if !header.built {
-        return Plain::Refused(10);
+        return Err(Refusal::NotBuilt);
     }
-    remove_bias_all(header, bodies, words, numbers, rows);
-    Plain::Granted
+    remove_bias_all::<Plane>(header, bodies, words, numbers, rows);
+    Ok(())
 }
 
 // Stores every row's impulse by its id.
@@ -259,35 +177,18 @@ pub fn write_back(
     words: &[u32],
     numbers: &mut [f32],
     rows: &[f32],
-) -> Plain
+) -> Result<(), Refusal>
     ensures { outcome (plain_answer result) (model_of header bodies.now words.now numbers.new) rows.now ≡ run planar write_back (model_of header bodies.now words.now numbers.old) rows.now }
 {
-    let k = storage_refusal(header, bodies, words, numbers, rows, true);
-    if k != 0 {
-        return Plain::Refused(k);
-    }
+    storage_refusal(header, bodies, words, numbers, rows, true)?;
     if !header.built {
-        return Plain::Refused(10);
+        return Err(Refusal::NotBuilt);
     }
-    write_back_all(header, bodies, words, numbers, rows);
-    Plain::Granted
+    write_back_all::<Plane>(header, bodies, words, numbers, rows);
+    Ok(())
 }
 
-// A refusal, with no ids and no rows.
-fn no_rows(k: u32) -> RowsAnswer
-    ensures { result ≡ no_rows (Plain.Refused k) }
-{
-    let none = no_masks();
-    let blank = blank_row();
-    let rows = [blank; 6];
-    RowsAnswer {
-        answer: Plain::Refused(k),
-        ids: row_ids(none),
-        rows: Rows { rows: rows, len: 0 },
-    }
-}
-
-// One joint's rows, with their ids: the call's answer, and how the arrays are filled up.
+// One joint's ids and rows; past their counts the arrays are filled up with blank ones.
 pub fn read_rows(
     header: Header,
     bodies: &[f32],
@@ -295,26 +196,24 @@ pub fn read_rows(
     numbers: &[f32],
     rows: &[f32],
     joint: u32,
-) -> RowsAnswer
+) -> Result<(RowIds, Rows), Refusal>
     ensures rows_value { outcome (rows_answer result) (model_of header bodies.now words.now numbers.now) rows.now ≡ run planar (read_rows joint) (model_of header bodies.now words.now numbers.now) rows.now }
-    ensures value { result ≡ rows_answer_of (row_masks_at plane words.now joint) (run planar (read_rows joint) (model_of header bodies.now words.now numbers.now) rows.now).answer }
+    ensures filled { RowsFilled (row_masks_at plane words.now joint) result }
 {
-    let k = storage_refusal(header, bodies, words, numbers, rows, true);
-    if k != 0 {
-        return no_rows(k);
-    }
+    storage_refusal(header, bodies, words, numbers, rows, true)?;
     if !header.built {
-        return no_rows(10);
+        return Err(Refusal::NotBuilt);
     }
     let j = joint as usize;
-    if j >= joint_count(words, numbers) {
-        return no_rows(11);
+    if j >= joint_count::<Plane>(words, numbers) {
+        return Err(Refusal::NoSuchIndex);
     }
-    RowsAnswer {
-        answer: Plain::Granted,
-        ids: ids_at(words, j),
-        rows: rows_from(rows, rows_before(words, j), count_at(words, j)),
-    }
+    let read = rows_from(
+        rows,
+        rows_before::<Plane>(words, j),
+        count_at::<Plane>(words, j),
+    );
+    Ok((ids_at(words, j), read))
 }
 
 // One body's velocity.
@@ -324,17 +223,15 @@ pub fn read_velocity(
     words: &[u32],
     numbers: &[f32],
     body: u32,
-) -> VelocityAnswer
-    ensures { WithoutRows (outcome (velocity_answer result) (model_of header bodies.now words.now numbers.now)) (run planar (read_velocity body) (model_of header bodies.now words.now numbers.now)) }
+) -> Result<SolverVel, Refusal>
+    ensures { WithoutRows (outcome (velocity_answer plane result) (model_of header bodies.now words.now numbers.now)) (run planar (read_velocity body) (model_of header bodies.now words.now numbers.now)) }
 {
-    let k = model_refusal(header, bodies, words, numbers, true);
-    if k != 0 {
-        return VelocityAnswer::Refused(k);
+    model_refusal(header, bodies, words, numbers, true)?;
+    if (body as usize) >= body_count::<Plane>(bodies) {
+        Err(Refusal::NoSuchIndex)
+    } else {
+        Ok(vel_at(bodies, body))
     }
-    if (body as usize) >= body_count(bodies) {
-        return VelocityAnswer::Refused(11);
-    }
-    VelocityAnswer::Velocity(vel_at(bodies, body))
 }
 
 // Gives a joint new masks (request R-10), stores each joint's first row and marks the model not built. Row storage is tested for the new total, and never written.
@@ -346,33 +243,26 @@ pub fn set_masks(
     rows: &[f32],
     joint: u32,
     masks: Masks,
-) -> LoadAnswer
-    ensures { outcome (load_answer result) (model_of (load_header header result) bodies.now words.new numbers.now) rows.now ≡ run planar (set_masks joint masks) (model_of header bodies.now words.old numbers.now) rows.now }
+) -> Result<Header, Refusal>
+    ensures { outcome (plain_answer result) (model_of (load_header header result) bodies.now words.new numbers.now) rows.now ≡ run planar (set_masks joint masks) (model_of header bodies.now words.old numbers.now) rows.now }
 {
     if !new_masks_fit(masks) {
-        return LoadAnswer::Refused(unfit_refusal(bodies, words, numbers));
+        return Err(unfit_refusal(bodies, words, numbers));
     }
-    let k = model_refusal(header, bodies, words, numbers, true);
-    if k != 0 {
-        return LoadAnswer::Refused(k);
-    }
-    let joints = joint_count(words, numbers);
+    model_refusal(header, bodies, words, numbers, true)?;
+    let joints = joint_count::<Plane>(words, numbers);
     let j = joint as usize;
     let total = rows_with(words, joints, j, masks);
-    if total > row_capacity(rows) {
-        return LoadAnswer::Refused(8);
+    if total > row_capacity::<Plane>(rows) {
+        return Err(Refusal::NoRoom);
     }
     if j >= joints {
-        return LoadAnswer::Refused(11);
+        return Err(Refusal::NoSuchIndex);
     }
     put_masks(words, j, masks);
     store_firsts(words, joints);
-    let params = header.params;
     let built = false;
-    LoadAnswer::Loaded(Header {
-        params: params,
-        built: built,
-    })
+    Ok(Header { built, ..header })
 }
 
 // Sets the target velocities of a motor table (request R-6), and keeps the mark.
@@ -382,20 +272,12 @@ pub fn set_targets(
     words: &[u32],
     numbers: &mut [f32],
     table: &[u8],
-) -> Plain
+) -> Result<(), Refusal>
     ensures { WithoutRows (outcome (plain_answer result) (model_of header bodies.now words.now numbers.new)) (run planar (further table.now) (model_of header bodies.now words.now numbers.old)) }
 {
-    let k = model_refusal(header, bodies, words, numbers, true);
-    if k != 0 {
-        return Plain::Refused(k);
-    }
-    let joints = joint_count(words, numbers) as u32;
-    let answer = read_table(table, joints);
-    match answer {
-        TableAnswer::Granted(n) => {
-            set_table(&mut *numbers, table, joints, n);
-            Plain::Granted
-        }
-        TableAnswer::Refused(refused) => Plain::Refused(refused),
-    }
+    model_refusal(header, bodies, words, numbers, true)?;
+    let joints = joint_count::<Plane>(words, numbers) as u32;
+    let n = read_table(table, joints)?;
+    set_table(&mut *numbers, table, joints, n);
+    Ok(())
 }

@@ -1,13 +1,12 @@
-// The model of several joints. The calls, the header, the storage's layout and single records of it, reactions and residuals are for callers; the work on all joints is for crates above, which try
+// The model of several joints. The calls, the storage's layout and single records of it, reactions and residuals are for callers; the work on all joints is for crates above, which try
 // the rules that it asks for; the other modules below the calls are for neither.
 #![tactic(auto)]
 
-pub mod all_joints;
 pub mod calls;
 mod counts;
-pub mod header;
 mod joint_rows;
 pub mod layout;
+pub mod plane;
 pub mod reactions;
 pub mod refusal_place;
 mod refusals;

@@ -5,8 +5,9 @@ ghost use Rattle.rows.specs.Reaction.{rows_in};
 ghost use Rattle.model.specs.Reactions.{body1_if_there, body2_if_there, reaction_at, residual_at};
 
 use crate::layout::{WORDS_WIDTH, WORLD};
+use crate::plane::Plane;
 use crate::single_records::{read_joint, read_pose, read_vel};
-use crate::store::{body1_at, body2_at};
+use multibody::kind::Kind;
 use rows::joint_velocity_constraint::{JointConstraint, Rows};
 use rows::reaction::{Reaction, joint_reaction};
 
@@ -14,7 +15,7 @@ fn read_body1(words: &[u32], j: usize) -> u32
     ensures { result ≡ body1_if_there words.now j }
 {
     if j < words.len() / WORDS_WIDTH {
-        return body1_at(words, j);
+        return Plane::body1_at(words, j);
     }
     WORLD
 }
@@ -23,7 +24,7 @@ fn read_body2(words: &[u32], j: usize) -> u32
     ensures { result ≡ body2_if_there words.now j }
 {
     if j < words.len() / WORDS_WIDTH {
-        return body2_at(words, j);
+        return Plane::body2_at(words, j);
     }
     WORLD
 }

@@ -9,90 +9,78 @@ ghost use Rattle.model.specs.Layout.{body_width, words_width, numbers_width};
 ghost use Rattle.model.specs.Model.{model_of};
 ghost use Rattle.model.specs.Refusals.{body_asks, joint_asks};
 ghost use Rattle.model.specs.Planar.{plane};
-ghost use Rattle.model.specs.RefusalPlace.{is_nowhere, broken, each, mask_tests, present_tests, apart_tests, number_tests, angle_tests, joint_tests, all_joint_tests, body_tests, all_body_tests, finite_tests, step_tests, setting_tests, refusal_place};
+ghost use Rattle.model.specs.RefusalPlace.{broken, each, mask_tests, present_tests, apart_tests, number_tests, angle_tests, joint_tests, all_joint_tests, body_tests, all_body_tests, finite_tests, step_tests, setting_tests, refusal_place};
 
-use crate::counts::{body_count, joint_count};
-use crate::header::Header;
 use crate::layout::{
     BODY_WIDTH, BODY1, BODY2, CENTER_CHOICE, CENTER_IM, CENTER_RE, LOCKED_AXES, MODEL_X,
     NUMBERS_WIDTH, WORDS_WIDTH,
 };
-use crate::refusals::{ALL_AXES, angle_fits, is_nan, present_or_world};
-use crate::store::{body1_at, body2_at, center_at};
+use crate::plane::Plane;
+use crate::refusals::{ALL_AXES, angle_fits};
+use crate::store::center_at;
 use floats::scalar::is_finite;
+use multibody::counts::{body_count, joint_count};
+use multibody::header::Header;
+use multibody::kind::Kind;
+use multibody::refusals::{is_nan, present_or_world};
 use rows::integration_parameters::IntegrationParameters;
 
-// Nowhere in the model; a setting, by its number; number c of body i; word c, or number c, of joint j.
+// A setting, by its number; number c of body i; word c, or number c, of joint j.
 #[derive(Clone, Copy)]
 pub enum Place {
-    Nowhere,
     Setting(usize),
     BodyNumber(usize, usize),
     JointWord(usize, usize),
     JointNumber(usize, usize),
 }
 
-fn is_nowhere(p: Place) -> bool
-    ensures { result ≡ is_nowhere p }
-{
-    match p {
-        Place::Nowhere => true,
-        Place::Setting(_) => false,
-        Place::BodyNumber(_, _) => false,
-        Place::JointWord(_, _) => false,
-        Place::JointNumber(_, _) => false,
-    }
-}
-
 // ---- rules 3, 4, 5 and 12, of joint j
 
-fn mask_place(words: &[u32], j: usize) -> Place
+fn mask_place(words: &[u32], j: usize) -> Option<Place>
     requires { j * words_width + words_width ≤ length words.now }
     ensures { result ≡ broken (mask_tests words.now j) }
 {
     let o = j * WORDS_WIDTH;
-    let mut c = LOCKED_AXES;
-    while c < MODEL_X {
+    for c in LOCKED_AXES..MODEL_X {
         if words[o + c] > ALL_AXES {
-            return Place::JointWord(j, c);
+            return Some(Place::JointWord(j, c));
         }
-        c += 1;
     }
-    Place::Nowhere
+    None
 }
 
-fn present_place(bodies: &[f32], words: &[u32], j: usize) -> Place
+fn present_place(bodies: &[f32], words: &[u32], j: usize) -> Option<Place>
     requires { j * words_width + words_width ≤ length words.now }
     ensures { result ≡ broken (present_tests bodies.now words.now j) }
 {
-    if !present_or_world(bodies, body1_at(words, j)) {
-        return Place::JointWord(j, BODY1);
+    if !present_or_world::<Plane>(bodies, Plane::body1_at(words, j)) {
+        return Some(Place::JointWord(j, BODY1));
     }
-    if !present_or_world(bodies, body2_at(words, j)) {
-        return Place::JointWord(j, BODY2);
+    if !present_or_world::<Plane>(bodies, Plane::body2_at(words, j)) {
+        return Some(Place::JointWord(j, BODY2));
     }
-    Place::Nowhere
+    None
 }
 
-fn apart_place(words: &[u32], j: usize) -> Place
+fn apart_place(words: &[u32], j: usize) -> Option<Place>
     requires { j * words_width + words_width ≤ length words.now }
     ensures { result ≡ broken (apart_tests words.now j) }
 {
-    if body1_at(words, j) == body2_at(words, j) {
-        return Place::JointWord(j, BODY1);
+    if Plane::body1_at(words, j) == Plane::body2_at(words, j) {
+        return Some(Place::JointWord(j, BODY1));
     }
-    Place::Nowhere
+    None
 }
 
-fn angle_place(words: &[u32], numbers: &[f32], j: usize) -> Place
+fn angle_place(words: &[u32], numbers: &[f32], j: usize) -> Option<Place>
     requires words_width_in_bounds { j * words_width + words_width ≤ length words.now }
     requires numbers_width_in_bounds { j * numbers_width + numbers_width ≤ length numbers.now }
     ensures { result ≡ broken (angle_tests words.now numbers.now j) }
 {
     if !angle_fits(center_at(words, numbers, j)) {
-        return Place::JointNumber(j, CENTER_RE);
+        return Some(Place::JointNumber(j, CENTER_RE));
     }
-    Place::Nowhere
+    None
 }
 
 // ---- rule 6
@@ -134,65 +122,61 @@ fn joint_passes(choice: u32, c: usize, x: f32) -> bool
     true
 }
 
-fn number_place(words: &[u32], numbers: &[f32], j: usize) -> Place
+fn number_place(words: &[u32], numbers: &[f32], j: usize) -> Option<Place>
     requires words_width_in_bounds { j * words_width + words_width ≤ length words.now }
     requires numbers_width_in_bounds { j * numbers_width + numbers_width ≤ length numbers.now }
     ensures { result ≡ broken (number_tests words.now numbers.now j) }
 {
     let choice = words[j * WORDS_WIDTH + CENTER_CHOICE];
     let o = j * NUMBERS_WIDTH;
-    let mut c = 0usize;
-    while c < NUMBERS_WIDTH {
+    for c in 0..NUMBERS_WIDTH {
         if !joint_passes(choice, c, numbers[o + c]) {
-            return Place::JointNumber(j, c);
+            return Some(Place::JointNumber(j, c));
         }
-        c += 1;
     }
-    Place::Nowhere
+    None
 }
 
-fn body_place(bodies: &[f32], i: usize) -> Place
+fn body_place(bodies: &[f32], i: usize) -> Option<Place>
     requires { i * body_width + body_width ≤ length bodies.now }
     ensures { result ≡ broken (body_tests bodies.now i) }
 {
     let o = i * BODY_WIDTH;
-    let mut c = 0usize;
-    while c < BODY_WIDTH {
+    for c in 0..BODY_WIDTH {
         if !body_passes(c, bodies[o + c]) {
-            return Place::BodyNumber(i, c);
+            return Some(Place::BodyNumber(i, c));
         }
-        c += 1;
     }
-    Place::Nowhere
+    None
 }
 
 // ---- rules 6 and 7, of the settings
 
-fn finite_place(p: IntegrationParameters) -> Place
+fn finite_place(p: IntegrationParameters) -> Option<Place>
     ensures { result ≡ broken (finite_tests p) }
 {
     if !is_finite(p.dt) {
-        return Place::Setting(0);
+        return Some(Place::Setting(0));
     }
     if !is_finite(p.length_unit) {
-        return Place::Setting(1);
+        return Some(Place::Setting(1));
     }
     if !is_finite(p.normalized_max_corrective_velocity) {
-        return Place::Setting(2);
+        return Some(Place::Setting(2));
     }
-    Place::Nowhere
+    None
 }
 
-fn step_place(p: IntegrationParameters) -> Place
+fn step_place(p: IntegrationParameters) -> Option<Place>
     ensures { result ≡ broken (step_tests p) }
 {
     if p.dt < 0.0 {
-        return Place::Setting(0);
+        return Some(Place::Setting(0));
     }
-    Place::Nowhere
+    None
 }
 
-fn setting_place(p: IntegrationParameters, k: u32) -> Place
+fn setting_place(p: IntegrationParameters, k: u32) -> Option<Place>
     ensures { result ≡ broken (setting_tests p k) }
 {
     if k == 6 {
@@ -201,36 +185,34 @@ fn setting_place(p: IntegrationParameters, k: u32) -> Place
     if k == 7 {
         return step_place(p);
     }
-    Place::Nowhere
+    None
 }
 
 // ---- the rule of number k, of all bodies and of all joints
 
-fn bodies_place(bodies: &[f32]) -> Place
+fn bodies_place(bodies: &[f32]) -> Option<Place>
     ensures { result ≡ broken (each 0 (body_count plane bodies.now) (body_tests bodies.now)) }
 {
-    let n = body_count(bodies);
-    let mut i = 0usize;
-    while i < n {
+    let n = body_count::<Plane>(bodies);
+    for i in 0..n {
         let p = body_place(bodies, i);
-        if !is_nowhere(p) {
+        if p.is_some() {
             return p;
         }
-        i += 1;
     }
-    Place::Nowhere
+    None
 }
 
-fn all_bodies_place(bodies: &[f32], k: u32) -> Place
+fn all_bodies_place(bodies: &[f32], k: u32) -> Option<Place>
     ensures { result ≡ broken (all_body_tests bodies.now k) }
 {
     if k == 6 {
         return bodies_place(bodies);
     }
-    Place::Nowhere
+    None
 }
 
-fn joint_place(bodies: &[f32], words: &[u32], numbers: &[f32], k: u32, j: usize) -> Place
+fn joint_place(bodies: &[f32], words: &[u32], numbers: &[f32], k: u32, j: usize) -> Option<Place>
     requires words_width_in_bounds { j * words_width + words_width ≤ length words.now }
     requires numbers_width_in_bounds { j * numbers_width + numbers_width ≤ length numbers.now }
     ensures { result ≡ broken (joint_tests bodies.now words.now numbers.now k j) }
@@ -250,40 +232,38 @@ fn joint_place(bodies: &[f32], words: &[u32], numbers: &[f32], k: u32, j: usize)
     if k == 12 {
         return angle_place(words, numbers, j);
     }
-    Place::Nowhere
+    None
 }
 
-fn all_joints_place(bodies: &[f32], words: &[u32], numbers: &[f32], k: u32) -> Place
+fn all_joints_place(bodies: &[f32], words: &[u32], numbers: &[f32], k: u32) -> Option<Place>
     ensures { result ≡ broken (all_joint_tests bodies.now words.now numbers.now k) }
 {
-    let n = joint_count(words, numbers);
-    let mut j = 0usize;
-    while j < n {
+    let n = joint_count::<Plane>(words, numbers);
+    for j in 0..n {
         let p = joint_place(bodies, words, numbers, k, j);
-        if !is_nowhere(p) {
+        if p.is_some() {
             return p;
         }
-        j += 1;
     }
-    Place::Nowhere
+    None
 }
 
-// Where a model breaks the rule of number k; nowhere in it, where a count or a call's own arguments do, or nothing does.
+// Where a model breaks the rule of number k; none, where a count or a call's own arguments do, or nothing does.
 pub fn refusal_place(
     header: Header,
     bodies: &[f32],
     words: &[u32],
     numbers: &[f32],
     k: u32,
-) -> Place
+) -> Option<Place>
     ensures { result ≡ refusal_place (model_of header bodies.now words.now numbers.now) k }
 {
     let s = setting_place(header.params, k);
-    if !is_nowhere(s) {
+    if s.is_some() {
         return s;
     }
     let b = all_bodies_place(bodies, k);
-    if !is_nowhere(b) {
+    if b.is_some() {
         return b;
     }
     all_joints_place(bodies, words, numbers, k)

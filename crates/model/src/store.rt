@@ -12,44 +12,19 @@ use crate::layout::{
     NATURAL_FREQUENCY, NUMBERS_WIDTH, POSE, ROW_WIDTH, VELOCITY_ANGULAR, VELOCITY_X, VELOCITY_Y,
     WORDS_WIDTH, WORLD,
 };
+use crate::plane::Plane;
 use floats::pose::Pose;
 use floats::rotation_ops::Rotation;
 use floats::sin_cos::rotation_from_angle;
 use floats::vector::Vector;
+use multibody::kind::Kind;
+use multibody::records::{axis, limits_at, motor_at, put6, six_at};
 use rows::generic_joint::{GenericJoint, JointEnabled, JointLimits, JointMotor, Masks};
 use rows::integration_parameters::SpringCoefficients;
 use rows::joint_constraint_builder::{ImpulseJoint, SolverPose};
 use rows::joint_velocity_constraint::{JointConstraint, SolverVel, WritebackId};
-use rows::motor_model::MotorModel;
 
 // ---- rows
-
-// Six numbers one after the other.
-#[derive(Clone, Copy)]
-struct Six {
-    n0: f32,
-    n1: f32,
-    n2: f32,
-    n3: f32,
-    n4: f32,
-    n5: f32,
-}
-
-// The six numbers from number c on of the record that starts at place o.
-fn six_at(s: &[f32], o: usize, c: usize) -> Six
-    requires { o + c + 6 ≤ length s.now }
-    ensures { result ≡ six_of (num_from s.now o) c }
-{
-    let i = o + c;
-    Six {
-        n0: s[i],
-        n1: s[i + 1],
-        n2: s[i + 2],
-        n3: s[i + 3],
-        n4: s[i + 4],
-        n5: s[i + 5],
-    }
-}
 
 // Row k of the storage.
 pub fn row_at(s: &[f32], k: usize) -> JointConstraint
@@ -77,19 +52,6 @@ pub fn row_at(s: &[f32], k: usize) -> JointConstraint
         im1: Vector { x: c.n2, y: c.n3 },
         im2: Vector { x: c.n4, y: c.n5 },
     }
-}
-
-// Six numbers from place o on.
-fn put6(s: &mut [f32], o: usize, a: f32, b: f32, c: f32, d: f32, e: f32, f: f32)
-    requires { o + 6 ≤ length s.old }
-    ensures { s.new ≡ puts s.old o 0 (a ∷ b ∷ c ∷ d ∷ e ∷ f ∷ []) }
-{
-    s[o] = a;
-    s[o + 1] = b;
-    s[o + 2] = c;
-    s[o + 3] = d;
-    s[o + 4] = e;
-    s[o + 5] = f;
 }
 
 // Row k replaced.
@@ -225,35 +187,6 @@ pub fn put_pose(b: &mut [f32], i: u32, p: Pose)
 
 // ---- joints
 
-// The first and the second body of joint j.
-pub fn body1_at(words: &[u32], j: usize) -> u32
-    requires { j * words_width + words_width ≤ length words.now }
-    ensures { result ≡ body1_at words.now j }
-{
-    words[j * WORDS_WIDTH + BODY1]
-}
-
-pub fn body2_at(words: &[u32], j: usize) -> u32
-    requires { j * words_width + words_width ≤ length words.now }
-    ensures { result ≡ body2_at words.now j }
-{
-    words[j * WORDS_WIDTH + BODY2]
-}
-
-// The masks of joint j.
-pub fn masks_at(words: &[u32], j: usize) -> Masks
-    requires { j * words_width + words_width ≤ length words.now }
-    ensures { result ≡ masks_at words.now j }
-{
-    let o = j * WORDS_WIDTH;
-    Masks {
-        locked_axes: words[o + LOCKED_AXES],
-        limit_axes: words[o + LIMIT_AXES],
-        motor_axes: words[o + MOTOR_AXES],
-        coupled_axes: words[o + COUPLED_AXES],
-    }
-}
-
 // Joint j's masks replaced (request R-10).
 pub fn put_masks(words: &mut [u32], j: usize, masks: Masks)
     requires { j * words_width + words_width ≤ length words.old }
@@ -264,67 +197,6 @@ pub fn put_masks(words: &mut [u32], j: usize, masks: Masks)
     words[o + LIMIT_AXES] = masks.limit_axes;
     words[o + MOTOR_AXES] = masks.motor_axes;
     words[o + COUPLED_AXES] = masks.coupled_axes;
-}
-
-// An axis's limits, in three numbers from number c on of the record that starts at place o.
-fn limits_at(s: &[f32], o: usize, c: usize) -> JointLimits
-    requires { o + c + 3 ≤ length s.now }
-    ensures { result ≡ limits_of (num_from s.now o) c }
-{
-    let a = o + c;
-    JointLimits {
-        min: s[a],
-        max: s[a + 1],
-        impulse: s[a + 2],
-    }
-}
-
-// 0 is acceleration based, and every other number force based.
-fn motor_model_of(m: u32) -> MotorModel
-    ensures { result ≡ motor_model_of m }
-{
-    if m == 0 {
-        return MotorModel::AccelerationBased;
-    }
-    MotorModel::ForceBased
-}
-
-// The Rust's kinds in the order of its declaration; every other number is `Disabled`.
-fn enabled_of(e: u32) -> JointEnabled
-    ensures { result ≡ enabled_of e }
-{
-    if e == 0 {
-        return JointEnabled::Enabled;
-    }
-    if e == 1 {
-        return JointEnabled::DisabledByAttachedBody;
-    }
-    JointEnabled::Disabled
-}
-
-// Whether joint j is enabled.
-pub fn enabled_at(words: &[u32], j: usize) -> JointEnabled
-    requires { j * words_width + words_width ≤ length words.now }
-    ensures { result ≡ enabled_at words.now j }
-{
-    enabled_of(words[j * WORDS_WIDTH + ENABLED])
-}
-
-// An axis's motor, in six numbers likewise, and the number of its model.
-fn motor_at(s: &[f32], o: usize, c: usize, m: u32) -> JointMotor
-    requires { o + c + 6 ≤ length s.now }
-    ensures { result ≡ motor_of (num_from s.now o) c m }
-{
-    let a = six_at(s, o, c);
-    JointMotor {
-        target_vel: a.n0,
-        target_pos: a.n1,
-        stiffness: a.n2,
-        damping: a.n3,
-        max_force: a.n4,
-        impulse: a.n5,
-        model: motor_model_of(m),
-    }
 }
 
 // The limits of the three axes of joint j, and their motors.
@@ -362,14 +234,14 @@ fn data_at(words: &[u32], numbers: &[f32], j: usize) -> GenericJoint
     GenericJoint {
         local_frame1: pose_at(numbers, o, FRAME1),
         local_frame2: pose_at(numbers, o, FRAME2),
-        masks: masks_at(words, j),
+        masks: Plane::masks_at(words, j),
         limits: all_limits_at(numbers, j),
         motors: all_motors_at(words, numbers, j),
         softness: SpringCoefficients {
             natural_frequency: numbers[o + NATURAL_FREQUENCY],
             damping_ratio: numbers[o + DAMPING_RATIO],
         },
-        enabled: enabled_at(words, j),
+        enabled: Plane::enabled_at(words, j),
     }
 }
 
@@ -398,7 +270,7 @@ fn rotation_of(center: LimitCenter) -> Rotation
     ensures { result ≡ rotation_of center }
 {
     match center {
-        LimitCenter::CosineSine(re, im) => Rotation { re: re, im: im },
+        LimitCenter::CosineSine(re, im) => Rotation { re, im },
         LimitCenter::Angle(angle) => rotation_from_angle(angle),
     }
 }
@@ -417,20 +289,9 @@ pub fn joint_at(words: &[u32], numbers: &[f32], j: usize) -> ImpulseJoint
         numbers[o + DOF_ANGULAR],
     ];
     ImpulseJoint {
-        data: data,
-        impulses: impulses,
+        data,
+        impulses,
         center: rotation_of(center_at(words, numbers, j)),
-    }
-}
-
-// The axis that an id is of.
-fn axis(id: WritebackId) -> usize
-    ensures { result ≡ axis_of id }
-{
-    match id {
-        WritebackId::Dof(i) => i,
-        WritebackId::Limit(i) => i,
-        WritebackId::Motor(i) => i,
     }
 }
 

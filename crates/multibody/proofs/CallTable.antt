@@ -1,5 +1,6 @@
 -- What the table of calls says of each call: the numbers of the rules that it tries, in order (`checking-order`, `call-order`, and of new masks `masks-rules`), the mark that it leaves (`granted-mark`), which call makes rows (`build-makes`,
 -- `refused-makes-none`), and what a row read answers (`read-own`). Assumes nothing.
+use Rattle.std.specs.Prelude.{Option}
 use Prim.Native.Nat.{ℕ}
 use mathlib.Core.Path.{◌≡◌, refl, ap, ◌∙◌}
 use mathlib.Core.Logic.{◌≢◌}
@@ -7,7 +8,6 @@ use mathlib.Core.Bool.{Bool, true, false}
 use mathlib.Core.List.{List, [], ◌∷◌, ◌++◌, map, append_assoc}
 use lib.Dec.{ltb}
 use lib.Ieee.{Float}
-use Rattle.rows.specs.declared.joint_constraint_builder.Warmstart.{Warmstart}
 use Rattle.multibody.specs.Rules.{Rule, rule, at_most}
 use Rattle.multibody.specs.Model.{Model}
 use Rattle.multibody.specs.System.{System}
@@ -67,7 +67,7 @@ module _ (sys : System) (m : Model) where
         ∙ append_assoc (numbers_of first) (8 ∷ []) (numbers_of rest)
 
     -- a build tries 8 and 10, a sweep 9 before 10, and a further call no 8
-    pub build-order : (warm : Warmstart) (substep : ℕ) → numbers_of (rules_of sys (build warm substep) m rows) ≡ numbers_of (model_rules sys m (finite_warm warm)) ++ later_numbers (build warm substep)
+    pub build-order : (warm : Option Float) (substep : ℕ) → numbers_of (rules_of sys (build warm substep) m rows) ≡ numbers_of (model_rules sys m (finite_warm warm)) ++ later_numbers (build warm substep)
     unfolding rules_of seeds_rule
     build-order warm substep = stored-order none (finite_warm warm) _
 
@@ -136,7 +136,7 @@ module _ (sys : System) where
   -- ---- rows made, and rows read
 
   -- a granted build makes rows, and no refused call does
-  pub build-makes : (warm : Warmstart) (substep : ℕ) (m : Model) (rows : List Float) → refusal_of (run sys (build warm substep) m rows).answer ≡ 0
+  pub build-makes : (warm : Option Float) (substep : ℕ) (m : Model) (rows : List Float) → refusal_of (run sys (build warm substep) m rows).answer ≡ 0
       → MakesRows (model_calls sys) (build warm substep) (run sys (build warm substep) m rows)
   build-makes warm substep m rows e = (refl, e)
 

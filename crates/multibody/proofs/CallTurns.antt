@@ -1,9 +1,10 @@
 -- One call of two studies (demand 3), for any kind of system that has the laws: what two studies share from call to call (`Related`): rules 1 to 7 and those of the kind hold of both models, they agree on the
 -- set, their marks are equal, and the rows of the set's joints are the same while the models are built. Each call of a model keeps it (`turn`), its answers about the set are the same, a sweep's counts of
 -- the set's joints too (`counts-alike`), and it is refused alike where both models have what it asks for, or neither has it (`refused-alike`).
+use Rattle.std.specs.Prelude.{Option}
 use Prim.Native.Nat.{ℕ}
 use mathlib.Core.Path.{◌≡◌, refl, sym, ap, ◌∙◌}
-use mathlib.Core.Logic.{◌≢◌, inl}
+use mathlib.Core.Logic.{◌≢◌}
 use mathlib.Core.Bool.{Bool, true, false, true≢false, false≢true}
 use mathlib.Core.List.{List, [], ◌∷◌, ◌++◌, Memᴰ}
 use native.Mathlib.Omega.{arith}
@@ -11,7 +12,6 @@ use borrow.Author.Tests.{eqb-true, eqb-false}
 use lib.Dec.{eqb}
 use lib.ListN.{length}
 use lib.Ieee.{Float}
-use Rattle.rows.specs.declared.joint_constraint_builder.Warmstart.{Warmstart}
 use Rattle.rows.specs.declared.joint_velocity_constraint.WritebackId.{WritebackId}
 use Rattle.multibody.specs.Rules.{refusal}
 use Rattle.multibody.specs.Model.{Model, world, model, with_bodies}
@@ -19,10 +19,10 @@ use Rattle.multibody.specs.System.{System}
 use Rattle.multibody.specs.JointRows.{joint_ids}
 use Rattle.multibody.specs.Counts.{joint_count, Sound, Room}
 use Rattle.multibody.specs.Refusals.{model_rules, storage_rule, sweep_rule, built_rule, seeds_rule, joint_rule, reads_rows}
-use Rattle.multibody.specs.Calls.{Call, Outcome, Asked, call_table, rules_of, granted_of, run, refusal_of}
+use Rattle.multibody.specs.Calls.{Call, Outcome, call_table, rules_of, granted_of, run, refusal_of}
 use Rattle.multibody.specs.Calls.Call.{load, place, build, warm_start, sweep, remove_bias, write_back, read_rows, read_velocity, set_masks, further}
 use Rattle.multibody.specs.Calls.Answer.{granted, velocity_read, refused}
-use Rattle.multibody.specs.Calls.Asked.{nothing, body, joint, named as further_asked}
+use Rattle.multibody.specs.Calls.Asked.{body, joint}
 use Rattle.multibody.specs.Traces.{Study}
 use Rattle.multibody.specs.Studies.{OfSet, Agree, without_total, count_of, AboutSet, SameAsked, SameFurther, BothOrNeither, model_calls, machine, Loaded, MakesRows}
 use Rattle.multibody.proofs.Tests.{by_cases}
@@ -32,7 +32,7 @@ use Rattle.multibody.proofs.RefusalLaws.{RulesHold, rules-hold, sound-held}
 use Rattle.multibody.proofs.Rewording.{agree-firsts, agree-masked}
 use Rattle.multibody.proofs.CallLaws.{run-granted, run-refused, own-rule}
 use Rattle.multibody.proofs.RefusedExactly.{told}
-use Rattle.multibody.proofs.Keeps.{SamePoses, warm-keeps, sweep-keeps, back-keeps, granted-front, further-granted, run-cases, run_holds, run-counts}
+use Rattle.multibody.proofs.Keeps.{SamePoses, warm-keeps, sweep-keeps, back-keeps, granted-front, further-granted, run-cases, run_holds}
 use Rattle.multibody.proofs.SameStudies.{RowsSame, VelsSame}
 use Rattle.multibody.proofs.JointRowsLaws.{same-ids}
 use Rattle.multibody.proofs.Agrees.{of-set-before, agree_after}
@@ -64,7 +64,7 @@ module _ {sys : System} (laws : Laws sys) where
     built-read j e = own-rule laws 10 (read_rows j) m rows e
 
     -- a build that reads the rows of the last one is of a model marked built
-    built-build : (warm : Warmstart) (substep : ℕ) → refusal (rules_of sys (build warm substep) m rows) ≡ 0 → reads_rows warm substep ≡ true → m.built ≡ true
+    built-build : (warm : Option Float) (substep : ℕ) → refusal (rules_of sys (build warm substep) m rows) ≡ 0 → reads_rows warm substep ≡ true → m.built ≡ true
     unfolding seeds_rule
     built-build warm substep e r =
         let t = own-rule laws 10 (build warm substep) m rows e in
@@ -205,7 +205,7 @@ module _ {sys : System} (laws : Laws sys) where
       ok' : Sound store m'
       ok' = sound-held laws m' b.held'
 
-      build-next : ((j : ℕ) (id : WritebackId) → Memᴰ id (joint_ids store m.words j) → named j id) → (warm : Warmstart) (substep : ℕ) → refusal (rules_of sys (build warm substep) m rows) ≡ 0
+      build-next : ((j : ℕ) (id : WritebackId) → Memᴰ id (joint_ids store m.words j) → named j id) → (warm : Option Float) (substep : ℕ) → refusal (rules_of sys (build warm substep) m rows) ≡ 0
           → Next set named m (build warm substep) (granted_of sys (build warm substep) m rows) (granted_of sys (build warm substep) m' rows')
       unfolding granted_of
       build-next gives warm substep z = record {

@@ -1,5 +1,6 @@
 -- No call reads a stored first row (document 02, R-10). Two models that differ in first rows alone are refused alike (`refused-same`), and every call answers them alike and leaves them, and the row storage, equal but for first rows
 -- (`unread`). What "differ in first rows alone" says is a kind's own: a relation of words that no definition tells apart, and that new masks and stored first rows keep (`Unread`).
+use Rattle.std.specs.Prelude.{Option}
 use Prim.Native.Nat.{ℕ, zero, suc, ◌+◌}
 use mathlib.Core.Path.{◌≡◌, refl, sym, ap, ◌∙◌}
 use mathlib.Core.Bool.{Bool, true, false, false≢true}
@@ -9,15 +10,14 @@ use native.Mathlib.Omega.{arith}
 use borrow.Author.Tests.{eqb-true, eqb-false}
 use lib.Dec.{eqb}
 use lib.Ieee.{Float}
-use Rattle.rows.specs.declared.joint_constraint_builder.Warmstart.{Warmstart}
 use Rattle.multibody.specs.Rules.{Rule, refusal, all}
 use Rattle.multibody.specs.Model.{Model, with_words}
 use Rattle.multibody.specs.Store.{Store}
 use Rattle.multibody.specs.System.{System}
-use Rattle.multibody.specs.JointRows.{State, state, joint_ids, row_count, built_rows, build_joint, write_back_joint}
-use Rattle.multibody.specs.Counts.{joint_count, rows_before, total_rows, store_firsts}
+use Rattle.multibody.specs.JointRows.{State, state, row_count, built_rows, build_joint, write_back_joint}
+use Rattle.multibody.specs.Counts.{joint_count, total_rows, store_firsts}
 use Rattle.multibody.specs.Refusals.{bodies_present, bodies_apart, finite_joint, model_rules_with, storage_rule, built_rule, seeds_rule, body_rule, joint_rule}
-use Rattle.multibody.specs.Calls.{Call, Outcome, Asked, Own, Change, outcome, fit_change, changed, own_rule, call_table, asked_rules, handed_rules, own_rules, rules_of, granted_of, run, each_joint, rounds, build_one, warmstart_one, sweep_one, sweep_round, remove_bias_one, write_back_one, rows_of, count_one, count_round, sweep_counts}
+use Rattle.multibody.specs.Calls.{Call, Outcome, Asked, Own, Change, outcome, changed, own_rule, call_table, asked_rules, handed_rules, own_rules, rules_of, granted_of, run, each_joint, rounds, build_one, warmstart_one, sweep_one, sweep_round, remove_bias_one, write_back_one, rows_of, count_one, count_round, sweep_counts}
 use Rattle.multibody.specs.Calls.Call.{load, place, build, warm_start, sweep, remove_bias, write_back, read_rows, read_velocity, set_masks, further}
 use Rattle.multibody.specs.Calls.Change.{none, given}
 use Rattle.multibody.specs.Calls.Own.{few_rounds, after_build, rows_to_read}
@@ -203,7 +203,7 @@ module _ {sys : System} {laws : Laws sys} (u : Unread laws) (m : Model) {w : Lis
 
   -- ---- what is granted
 
-  build-kept : (warm : Warmstart) (substep j : ℕ) (t : List Float) → build_one store other warm substep j t ≡ build_one store m warm substep j t
+  build-kept : (warm : Option Float) (substep j : ℕ) (t : List Float) → build_one store other warm substep j t ≡ build_one store m warm substep j t
   unfolding build_one build_joint built_rows
   build-kept warm substep j t =
       let r = s.reworded in

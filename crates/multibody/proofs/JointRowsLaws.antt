@@ -1,6 +1,7 @@
 -- The ids of a joint's rows: those of its masks where it is enabled, and none where it is not. As many rows are made as the joint has ids (`length-built_rows`), and last impulses count only where the
 -- build reads them (`last-impulses`). A step meets the same bound from the same row and velocities (`sides-same`).
 -- And a joint's rows in storage one turn of a loop at a time: what is left of the work at a turn is the turn's row and what is left at the next one, and at the end nothing is left.
+use Rattle.std.specs.Prelude.{Option}
 use Prim.Native.Nat.{ℕ, zero, suc, ◌+◌, ◌*◌, ◌-◌, ◌≤◌, ◌<◌}
 use mathlib.Core.Path.{◌≡◌, refl, sym, ap, ◌∙◌}
 use mathlib.Core.Bool.{Bool, true, false}
@@ -17,7 +18,6 @@ use Rattle.rows.specs.RowIds.{no_masks, filled}
 use Rattle.rows.specs.declared.integration_parameters.IntegrationParameters.{IntegrationParameters}
 use Rattle.rows.specs.declared.generic_joint.Masks.{Masks}
 use Rattle.rows.specs.declared.generic_joint.JointEnabled.{JointEnabled}
-use Rattle.rows.specs.declared.joint_constraint_builder.Warmstart.{Warmstart}
 use Rattle.rows.specs.declared.joint_velocity_constraint.WritebackId.{WritebackId}
 use Rattle.rows.proofs.Filled.{set-filled}
 use Rattle.rows.proofs.RowIdsLaws.{no-ids}
@@ -96,7 +96,7 @@ module _ (store : Store) where
     no-masks {masks} off m = rw (read-disabled off) m
 
   -- a joint's rows made anew, from what is read and stored in turn
-  pub build_steps : (params : IntegrationParameters) (substep : ℕ) (warm : Warmstart) (bodies : List Float) (words : List ℕ) (numbers : List Float) (j : ℕ)
+  pub build_steps : (params : IntegrationParameters) (substep : ℕ) (warm : Option Float) (bodies : List Float) (words : List ℕ) (numbers : List Float) (j : ℕ)
       (rows : List Float) (first : ℕ) {n i1 i2 : ℕ} {body1 body2 : SolverPose} {joint : ImpulseJoint} {prevs : List Float} {made : List JointConstraint} {rows' : List Float}
       → is_enabled (enabled_at words j) ≡ true → n ≡ row_count store words j → prevs ≡ filled most_rows (bits 0) (impulses_at store rows first n) → joint ≡ joint_at words numbers j
       → i1 ≡ body1_at words j → body1 ≡ solver_pose_at bodies i1 → i2 ≡ body2_at words j → body2 ≡ solver_pose_at bodies i2
@@ -106,7 +106,7 @@ module _ (store : Store) where
   build_steps params substep warm bodies words numbers j rows first on c p e i1 b1 i2 b2 m s = s ∙ rw (m, b1, i1, b2, i2, p, e, c, on)
 
   -- where it is not enabled, nothing is stored
-  pub build-disabled : (params : IntegrationParameters) (substep : ℕ) (warm : Warmstart) (bodies : List Float) (words : List ℕ) (numbers : List Float) (j first : ℕ)
+  pub build-disabled : (params : IntegrationParameters) (substep : ℕ) (warm : Option Float) (bodies : List Float) (words : List ℕ) (numbers : List Float) (j first : ℕ)
       (rows : List Float) → is_enabled (enabled_at words j) ≡ false → rows ≡ build_joint store params bodies words numbers j first warm substep rows
   unfolding build_joint built_rows put_rows
   build-disabled params substep warm bodies words numbers j first rows off = rw off
@@ -187,7 +187,7 @@ module _ {sys : System} (laws : Laws sys) where
   same-ids m m' j s = rw (laws.same-masks m.words m'.words m.numbers m'.numbers j s, laws.same-enabled m.words m'.words m.numbers m'.numbers j s)
 
   -- as many rows are made as the joint has ids
-  pub length-built_rows : (params : IntegrationParameters) (substep : ℕ) (warm : Warmstart) (bodies : List Float) (words : List ℕ) (numbers : List Float) (j : ℕ) (last : List Float)
+  pub length-built_rows : (params : IntegrationParameters) (substep : ℕ) (warm : Option Float) (bodies : List Float) (words : List ℕ) (numbers : List Float) (j : ℕ) (last : List Float)
       → length (built_rows store params bodies words numbers j warm substep last) ≡ row_count store words j
   unfolding built_rows row_count joint_ids
   length-built_rows params substep warm bodies words numbers j last =
@@ -202,7 +202,7 @@ module _ {sys : System} (laws : Laws sys) where
       rw e (by_cases (is_enabled (enabled_at words j)) (λ on. rw (masks-enabled words j on) (laws.few-ids words j)) (λ off. rw (ids-disabled words j off) (omega arith)))
 
   -- the rows of an enabled joint
-  pub count-built : (params : IntegrationParameters) (substep : ℕ) (warm : Warmstart) (body1 body2 : SolverPose) (words : List ℕ) (numbers : List Float) (j : ℕ)
+  pub count-built : (params : IntegrationParameters) (substep : ℕ) (warm : Option Float) (body1 body2 : SolverPose) (words : List ℕ) (numbers : List Float) (j : ℕ)
       {joint : ImpulseJoint} (prevs : List Float) → is_enabled (enabled_at words j) ≡ true → joint ≡ joint_at words numbers j → length (builder_update_of params substep warm body1 body2 joint prevs) ≡ row_count store words j
   unfolding row_count joint_ids
   count-built params substep warm body1 body2 words numbers j prevs on e =
@@ -215,7 +215,7 @@ module _ {sys : System} (laws : Laws sys) where
       fill-turn (bits 0) (impulses_at store s k) (λ n. impulse_of (row_at s (k + n))) (length-impulses_at store s k) (impulses-snoc store s k) most_rows i h e (sym (laws.impulse-first s (k + i)))
 
   -- last impulses count only where the build reads them
-  pub last-impulses : (params : IntegrationParameters) (b1 b2 : SolverPose) (a : ImpulseJoint) (warm : Warmstart) (substep : ℕ) (ps qs : List Float) → (reads_rows warm substep ≡ true → ps ≡ qs)
+  pub last-impulses : (params : IntegrationParameters) (b1 b2 : SolverPose) (a : ImpulseJoint) (warm : Option Float) (substep : ℕ) (ps qs : List Float) → (reads_rows warm substep ≡ true → ps ≡ qs)
       → builder_update_of params substep warm b1 b2 a ps ≡ builder_update_of params substep warm b1 b2 a qs
   last-impulses params b1 b2 a warm substep ps qs h =
       by_cases (reads_rows warm substep) (λ r. rw (h r)) (λ r. laws.reads-no-row params substep warm b1 b2 a ps qs r)

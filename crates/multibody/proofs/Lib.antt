@@ -19,6 +19,7 @@ pub mod CallLocality
 pub mod RefusalLaws
 pub mod Rewording
 pub mod CallLaws
+pub mod AnswerLaws
 pub mod MaskLaws
 pub mod RefusedExactly
 pub mod Keeps

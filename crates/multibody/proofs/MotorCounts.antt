@@ -16,10 +16,9 @@ use Rattle.rows.specs.declared.joint_velocity_constraint.WritebackId.TheVariants
 use Rattle.rows.proofs.Filled.{over-blank}
 use Rattle.rows.proofs.RowIdsLaws.{All, IsMotor, IsRest, group-one, group-two, ids-groups}
 use Rattle.multibody.specs.Store.{Store}
-use Rattle.multibody.specs.System.{System}
 use Rattle.multibody.specs.JointRows.{State, row_masks_at, joint_ids, row_count, motor_count, sweep_row, sweep_joint, sweep_side, at_bound, motor_at_bound, count_ids, count_row, count_rows}
 use Rattle.multibody.specs.Counts.{rows_before}
-use Rattle.multibody.specs.Calls.{each_joint, rounds, sweep_one, sweep_round, count_one, count_round, sweep_counts, Counted, counted, counted_one, counted_round}
+use Rattle.multibody.specs.Calls.{each_joint, rounds, sweep_one, sweep_round, count_one, count_round, sweep_counts, counted, counted_one, counted_round}
 use Rattle.multibody.proofs.JointRowsLaws.{less, none}
 
 all-zero : (n m : ℕ) → n ≤ m → replicate {A = ℕ} m 0 ≡ filled m 0 (replicate n 0)

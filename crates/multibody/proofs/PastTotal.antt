@@ -1,4 +1,5 @@
 -- Storage past the total is never written: whatever the call and whatever it is handed, the row storage from the row after the total on stays as it was.
+use Rattle.std.specs.Prelude.{Option}
 use Prim.Native.Nat.{ℕ, zero, suc, ◌+◌, ◌*◌, ◌≤◌, ◌<◌}
 use mathlib.Core.Path.{◌≡◌, refl, ◌∙◌}
 use mathlib.Core.List.{List, [], ◌∷◌}
@@ -7,7 +8,6 @@ use lib.ListN.{length, drop}
 use lib.Ieee.{Float}
 use Rattle.floats.specs.Operators.{bits}
 use Rattle.rows.specs.RowIds.{filled}
-use Rattle.rows.specs.declared.joint_constraint_builder.Warmstart.{Warmstart}
 use Rattle.multibody.specs.System.{System}
 use Rattle.multibody.specs.JointRows.{State, state, row_count, put_rows, impulses_at, build_joint, sweep_row, sweep_joint, remove_bias_joint, built_rows}
 use Rattle.multibody.specs.Model.{Model}
@@ -71,7 +71,7 @@ module _ {sys : System} (laws : Laws sys) where
     ends : (j : ℕ) → j < joint_count store m.words m.numbers → rows_before store m.words j + row_count store m.words j ≤ total
     ends j h = rows_before-mono store m.words j (joint_count store m.words m.numbers) h
 
-    build-past : (warm : Warmstart) (substep j : ℕ) (s : List Float) → j < joint_count store m.words m.numbers → Past total s (build_one store m warm substep j s)
+    build-past : (warm : Option Float) (substep j : ℕ) (s : List Float) → j < joint_count store m.words m.numbers → Past total s (build_one store m warm substep j s)
     unfolding build_one build_joint
     build-past warm substep j s h =
         let last = impulses_at store s (rows_before store m.words j) (row_count store m.words j) in

@@ -3,19 +3,18 @@
 -- (`firsts_same`) are such a change, which no count, no id and no contents tells; new masks of a joint are one (`masks-reworded`).
 use Prim.Native.Nat.{ℕ, zero, suc, ◌+◌, ◌<◌, ◌≤◌}
 use mathlib.Core.Path.{◌≡◌, refl, sym, ap, ◌∙◌}
-use mathlib.Core.Bool.{Bool, true, false}
+use mathlib.Core.Bool.{Bool, true}
 use mathlib.Core.List.{List}
 use native.Mathlib.Omega.{arith}
 use borrow.Author.Tests.{eqb-true, eqb-false}
 use lib.Dec.{eqb}
-use lib.ListN.{length}
 use lib.Ieee.{Float}
 use Rattle.rows.specs.declared.joint_velocity_constraint.WritebackId.{WritebackId}
 use Rattle.multibody.specs.Model.{Model, with_words}
 use Rattle.multibody.specs.System.{System}
 use Rattle.multibody.specs.JointRows.{row_masks_at, joint_ids, row_count}
 use Rattle.multibody.specs.Counts.{joint_count, rows_before, total_rows, store_firsts}
-use Rattle.multibody.specs.Refusals.{present_or_world, bodies_present, bodies_apart, finite_joint}
+use Rattle.multibody.specs.Refusals.{bodies_present, bodies_apart, finite_joint}
 use Rattle.multibody.specs.Studies.{Ties, OfSet, Agree}
 use Rattle.multibody.proofs.Tests.{by_cases}
 use Rattle.multibody.proofs.RuleLaws.{Hold, all-cong}

@@ -1,5 +1,6 @@
 -- What a build gives a joint's rows of its two bodies, as their inverse masses, and what no step, bias removal or new pose changes (`Carries`), the rows of every built study have: a build makes them
 -- so, and every call keeps it (`run-kept`); of any calls that keep it (`CallsKeep`), it holds after every list (`study-carried`). Then every step of a sweep finds it in its row (`sweep-carried`). Assumes nothing.
+use Rattle.std.specs.Prelude.{Option}
 use mathlib.Core.Path.{◌≡◌, refl, sym, ap, ◌∙◌, subst}
 use mathlib.Core.Logic.{◌≢◌, inl, inr}
 use mathlib.Core.Bool.{Bool, true, false, cond, false≢true}
@@ -12,7 +13,6 @@ use lib.ListN.{length, get_or}
 use lib.Ieee.{Float}
 use Rattle.rows.specs.GenericJoint.{is_enabled}
 use Rattle.rows.specs.declared.integration_parameters.IntegrationParameters.{IntegrationParameters}
-use Rattle.rows.specs.declared.joint_constraint_builder.Warmstart.{Warmstart}
 use Rattle.multibody.specs.Rules.{refusal}
 use Rattle.multibody.specs.Model.{Model, model}
 use Rattle.multibody.specs.System.{System}
@@ -23,7 +23,7 @@ use Rattle.multibody.specs.Calls.{Call, first_rules, own_rules, rules_of, grante
 use Rattle.multibody.specs.Calls.Call.{load, place, build, warm_start, sweep, remove_bias, write_back, read_rows, read_velocity, set_masks, further}
 use Rattle.multibody.specs.Traces.{Study, Given, handed, after_calls}
 use Rattle.multibody.specs.Studies.{Calls, model_calls, machine, Loaded}
-use Rattle.multibody.specs.SweepSteps.{RowStep, joint_steps, joints_steps, round_steps, repeated, sweep_steps, after_step, EachStep}
+use Rattle.multibody.specs.SweepSteps.{RowStep, joint_steps, joints_steps, round_steps, sweep_steps, after_step, EachStep}
 use Rattle.multibody.proofs.RuleLaws.{granted-append}
 use Rattle.multibody.proofs.Laws.{Laws}
 use Rattle.multibody.proofs.CountLaws.{rows_fit, same-joints}
@@ -66,7 +66,7 @@ module _ {sys : System} (laws : Laws sys) where
     pub mass_of : SolverPose → Mass
     pub RowHas : Mass → Mass → JointConstraint → Type 0
     pub blank : JointConstraint
-    pub built : (params : IntegrationParameters) (substep : ℕ) (warm : Warmstart) (b1 b2 : SolverPose) (a : ImpulseJoint) (last : List Float) (i : ℕ)
+    pub built : (params : IntegrationParameters) (substep : ℕ) (warm : Option Float) (b1 b2 : SolverPose) (a : ImpulseJoint) (last : List Float) (i : ℕ)
         → i < length (builder_update_of params substep warm b1 b2 a last) → RowHas (mass_of b1) (mass_of b2) (get_or (builder_update_of params substep warm b1 b2 a last) i blank)
     pub stepped : (a b : Mass) (r : JointConstraint) (v1 v2 : SolverVel) → RowHas a b r → RowHas a b (step_of r v1 v2).row
     pub freed : (a b : Mass) (r : JointConstraint) → RowHas a b r → RowHas a b (remove_bias_of r)
@@ -80,7 +80,7 @@ module _ {sys : System} (laws : Laws sys) where
       abbrev pub Own : List Float → ℕ → ℕ → Type 0
       Own s q i = RowHas (mass_of (pose1 laws m q)) (mass_of (pose2 laws m q)) (row_at s (rows_before store m.words q + i))
 
-      module _ (warm : Warmstart) (substep : ℕ) (rows : List Float) (room : Room store m rows) where
+      module _ (warm : Option Float) (substep : ℕ) (rows : List Float) (room : Room store m rows) where
         built-length : (j : ℕ) (s : List Float) → length (build_one store m warm substep j s) ≡ length s
         unfolding build_one build_joint
         built-length j s = length-put_rows laws (made_of laws m warm substep j s) s (rows_before store m.words j)
@@ -120,7 +120,7 @@ module _ {sys : System} (laws : Laws sys) where
     abbrev pub Carried : Model → List Float → Type 0
     Carried m s = (q i : ℕ) → q < joint_count store m.words m.numbers → i < row_count store m.words q → Own m s q i
 
-    build-carried : (m : Model) (rows : List Float) (warm : Warmstart) (substep : ℕ) → Room store m rows
+    build-carried : (m : Model) (rows : List Float) (warm : Option Float) (substep : ℕ) → Room store m rows
         → Carried m (each_joint (build_one store m warm substep) 0 (joint_count store m.words m.numbers) rows)
     build-carried m rows warm substep room =
         λ q i h c. each-own m warm substep rows room (joint_count store m.words m.numbers) 0 rows refl (omega arith) (λ q' i' h' c'. absurd (omega arith)) q i (omega arith) c

@@ -1,11 +1,10 @@
 -- A list of calls that change no joint's words: no load among them and no new masks. Whatever they answer, ids and totals stay as they were before the list. So a joint names only what
 -- its masks gave it then (`named-before`), row storage that held both totals then is enough at each position (`enough-before`), and no call of the list must be granted or refused alike (`no-alike`).
 use Prim.Native.Nat.{ℕ, ◌/◌, ◌≤◌}
-use mathlib.Core.Path.{◌≡◌, refl, sym, ap, ◌∙◌, subst}
+use mathlib.Core.Path.{◌≡◌, refl, sym, ap, subst}
 use mathlib.Core.Logic.{◌⊎◌, inl, inr, ⊎_elim}
 use mathlib.Core.Bool.{Bool, true, false, cond}
 use mathlib.Core.List.{List, [], ◌∷◌, Memᴰ}
-use lib.ListN.{length}
 use lib.Ieee.{Float}
 use Rattle.rows.specs.declared.joint_velocity_constraint.WritebackId.{WritebackId}
 use Rattle.multibody.specs.Model.{Model}

@@ -9,6 +9,11 @@ use Rattle.rows.specs.declared.generic_joint.JointEnabled.{JointEnabled}
 use Rattle.rows.specs.declared.generic_joint.JointEnabled.TheVariants.{Enabled, DisabledByAttachedBody, Disabled}
 use Rattle.rows.specs.declared.joint_velocity_constraint.WritebackId.{WritebackId}
 use Rattle.rows.specs.declared.joint_velocity_constraint.WritebackId.TheVariants.{Dof, Limit, Motor}
+use Rattle.multibody.specs.declared.records.Six.{Six}
+
+-- of a record whose number c is f c, the six from number j on
+abbrev pub six_of : (ℕ → Float) → ℕ → Six
+six_of f j = record { n0 = f j; n1 = f (j + 1); n2 = f (j + 2); n3 = f (j + 3); n4 = f (j + 4); n5 = f (j + 5) }
 
 -- the limits in the three numbers from number o on
 abbrev pub limits_of : (ℕ → Float) → ℕ → JointLimits

@@ -1,9 +1,8 @@
 -- What bodies, joints and rows are in a kind of multibody system, how they stand in flat storage, and what is done to one row: its numbers of linear and angular axes, types, widths, reads and stores. The
 -- plane has two linear axes and one angular, space has three of each. The names are the Rust's, which has the same in dim2 and in dim3.
-use Rattle.std.specs.Prelude.{ℕ, List, Float}
+use Rattle.std.specs.Prelude.{ℕ, List, Float, Option}
 use Rattle.floats.specs.declared.scalar.Side.{Side}
 use Rattle.rows.specs.declared.integration_parameters.IntegrationParameters.{IntegrationParameters}
-use Rattle.rows.specs.declared.joint_constraint_builder.Warmstart.{Warmstart}
 use Rattle.rows.specs.declared.generic_joint.Masks.{Masks}
 use Rattle.rows.specs.declared.generic_joint.JointEnabled.{JointEnabled}
 use Rattle.rows.specs.declared.joint_velocity_constraint.WritebackId.{WritebackId}
@@ -51,7 +50,7 @@ pub record Store : Type 1 where
   -- a joint's first row stored among its words (document 02, R-10); a kind that stores none leaves the words as they are
   pub put_first : List ℕ → ℕ → ℕ → List ℕ
   -- a joint's rows; what is done to one row; a stored impulse; equal contents, unnamed numbers aside
-  pub builder_update_of : IntegrationParameters → ℕ → Warmstart → SolverPose → SolverPose → ImpulseJoint → List Float → List JointConstraint
+  pub builder_update_of : IntegrationParameters → ℕ → Option Float → SolverPose → SolverPose → ImpulseJoint → List Float → List JointConstraint
   pub impulse_of : JointConstraint → Float
   pub step_of : JointConstraint → SolverVel → SolverVel → Stepped JointConstraint SolverVel
   pub warmstart_of : JointConstraint → SolverVel → SolverVel → Warmed SolverVel

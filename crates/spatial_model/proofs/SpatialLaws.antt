@@ -1,4 +1,5 @@
 -- The spatial model has the laws of a multibody system (`spatial-laws`), and so demand 1 (`spatial-refused-exactly`) and demand 3 (`spatial-two-studies`).
+use Rattle.std.specs.Prelude.{Option, Some, None}
 use Prim.Native.Nat.{ℕ, zero, suc, ◌≤◌}
 use mathlib.Core.Path.{◌≡◌, refl, sym, ap, ◌∙◌}
 use mathlib.Core.Bool.{false, true≢false}
@@ -10,8 +11,6 @@ use lib.ListN.{length}
 use lib.Ieee.{Float}
 use Rattle.rows.specs.RowIds.{row_ids}
 use Rattle.rows.specs.declared.integration_parameters.IntegrationParameters.{IntegrationParameters}
-use Rattle.rows.specs.declared.joint_constraint_builder.Warmstart.{Warmstart}
-use Rattle.rows.specs.declared.joint_constraint_builder.Warmstart.TheVariants.{Cold, Warm}
 use Rattle.rows.specs.declared.joint_velocity_constraint.WritebackId.{WritebackId}
 use Rattle.spatial_floats.specs.declared.pose.Pose.{Pose}
 use Rattle.spatial_rows.specs.Builder.{builder_update_of}
@@ -76,20 +75,20 @@ few : (words : List ℕ) (j : ℕ) → length (row_ids 3 3 (masks_at words j)) �
 unfolding masks_at
 few words j = at-most-nine (masks_of (word words_width words j) masks_place)
 
-update-length : (params : IntegrationParameters) (substep : ℕ) (warm : Warmstart) (b1 b2 : SolverPose) (words : List ℕ) (n : List Float) (j : ℕ) (last : List Float)
+update-length : (params : IntegrationParameters) (substep : ℕ) (warm : Option Float) (b1 b2 : SolverPose) (words : List ℕ) (n : List Float) (j : ℕ) (last : List Float)
     → length (builder_update_of params substep warm b1 b2 (joint_at words n j) last) ≡ length (row_ids 3 3 (masks_at words j))
 unfolding joint_at masks_at
 update-length params substep warm b1 b2 words n j last = length-builder_update_of params substep warm b1 b2 (joint_at words n j) last ∙ ap (λ k. length (row_ids 3 3 k)) (masks_at-spatial words j)
 
-no-row-read : (params : IntegrationParameters) (substep : ℕ) (warm : Warmstart) (b1 b2 : SolverPose) (a : ImpulseJoint) (last last' : List Float) → reads_rows warm substep ≡ false
+no-row-read : (params : IntegrationParameters) (substep : ℕ) (warm : Option Float) (b1 b2 : SolverPose) (a : ImpulseJoint) (last last' : List Float) → reads_rows warm substep ≡ false
     → builder_update_of params substep warm b1 b2 a last ≡ builder_update_of params substep warm b1 b2 a last'
 unfolding reads_rows
-no-row-read params substep Cold b1 b2 a last last' e = cold params b1 b2 substep a last ∙ sym (cold params b1 b2 substep a last')
-no-row-read params zero (Warm c) b1 b2 a last last' e = first-reads-no-row params b1 b2 (Warm c) a last last'
-no-row-read params (suc substep) (Warm c) b1 b2 a last last' e = absurd (true≢false (sym (lt-ltb 0 (suc substep) (omega arith)) ∙ e))
+no-row-read params substep None b1 b2 a last last' e = cold params b1 b2 substep a last ∙ sym (cold params b1 b2 substep a last')
+no-row-read params zero (Some c) b1 b2 a last last' e = first-reads-no-row params b1 b2 (Some c) a last last'
+no-row-read params (suc substep) (Some c) b1 b2 a last last' e = absurd (true≢false (sym (lt-ltb 0 (suc substep) (omega arith)) ∙ e))
 
 -- the masks that a joint names by are those that it is read with
-named-rows : (params : IntegrationParameters) (substep : ℕ) (warm : Warmstart) (b1 b2 : SolverPose) (words words' : List ℕ) (n n' : List Float) (j : ℕ) (last : List Float)
+named-rows : (params : IntegrationParameters) (substep : ℕ) (warm : Option Float) (b1 b2 : SolverPose) (words words' : List ℕ) (n n' : List Float) (j : ℕ) (last : List Float)
     → SameJoint space (Given space words j) words n words' n' j
     → builder_update_of params substep warm b1 b2 (joint_at words n j) last ≡ builder_update_of params substep warm b1 b2 (joint_at words' n' j) last
 unfolding joint_at masks_at

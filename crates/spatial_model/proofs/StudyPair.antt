@@ -2,6 +2,7 @@
 -- the one study and the angular ones in the other, and stands elsewhere in each. The set's joint has another target velocity of its first motor in each (`motors-differ`), which it does not name. The list builds cold, which is
 -- granted in both (`builds`), warm starts, sweeps, writes back, removes the bias, and builds again with a coefficient.
 -- The studies before it are computed; what they come to later is not, since no call of the list changes a joint's words (`WordsKept`).
+use Rattle.std.specs.Prelude.{Some, None}
 use Prim.Native.Nat.{ℕ, zero, suc}
 use mathlib.Core.Path.{◌≡◌, refl, sym, ap, ◌∙◌}
 use mathlib.Core.Logic.{◌≢◌, inl, ⊎_elim}
@@ -18,7 +19,6 @@ use Rattle.floats.specs.Scalar.{is_finite}
 use Rattle.floats.specs.Sign.{abs_of}
 use Rattle.rows.specs.RowIds.{has_axis, row_ids}
 use Rattle.rows.specs.declared.integration_parameters.IntegrationParameters.{IntegrationParameters}
-use Rattle.rows.specs.declared.joint_constraint_builder.Warmstart.TheVariants.{Cold, Warm}
 use Rattle.rows.specs.declared.joint_velocity_constraint.WritebackId.{WritebackId}
 use Rattle.rows.specs.declared.joint_velocity_constraint.WritebackId.TheVariants.{Dof, Limit, Motor}
 use Rattle.spatial_rows.specs.Named.{SameNamed}
@@ -97,7 +97,7 @@ abbrev lending : Call spatial → Turn spatial_calls
 lending c = record { call = c; lent = storage; lent' = storage }
 
 abbrev ts : List (Turn spatial_calls)
-ts = map lending (build Cold 0 ∷ warm_start ∷ sweep 4 ∷ write_back ∷ remove_bias ∷ build (Warm one) 0 ∷ sweep 1 ∷ [])
+ts = map lending (build None 0 ∷ warm_start ∷ sweep 4 ∷ write_back ∷ remove_bias ∷ build (Some one) 0 ∷ sweep 1 ∷ [])
 
 abbrev set : ℕ → Bool
 set i = ltb i 2
@@ -106,7 +106,7 @@ set i = ltb i 2
 
 -- every rule of a load, and of a build, holds
 abbrev Granted : Model → Type 0
-Granted n = (refusal (rules_of spatial load n storage) ≡ 0) × (refusal (rules_of spatial (build Cold 0) n storage) ≡ 0)
+Granted n = (refusal (rules_of spatial load n storage) ≡ 0) × (refusal (rules_of spatial (build None 0) n storage) ≡ 0)
 
 both-granted : Granted m × Granted m'
 unfolding rules_of refusal all model_rules_with storage_rule seeds_rule reads_rows masks_fit linear_alone present_or_world bodies_present bodies_apart passes passes_from finite_params finite_warm finite_body finite_joint abs_of is_finite is_nan lt of_bits body_count joint_count row_capacity rows_before row_count joint_ids row_masks_at enabled_at masks_at body1_at body2_at has_axis row_ids
@@ -243,8 +243,8 @@ pub shared : Noninterference spatial_calls set (recorded spatial_calls ts s s') 
 shared = spatial-two-studies set (recorded spatial_calls ts s s') s s' same_numbers compared
 
 -- rows are made in both, by the first call
-pub builds : MakesRows spatial_calls (build Cold 0) (run spatial (build Cold 0) m storage) × MakesRows spatial_calls (build Cold 0) (run spatial (build Cold 0) m' storage)
-builds = ((refl, told spatial-laws (build Cold 0) m storage ∙ granted.1), (refl, told spatial-laws (build Cold 0) m' storage ∙ granted'.1))
+pub builds : MakesRows spatial_calls (build None 0) (run spatial (build None 0) m storage) × MakesRows spatial_calls (build None 0) (run spatial (build None 0) m' storage)
+builds = ((refl, told spatial-laws (build None 0) m storage ∙ granted.1), (refl, told spatial-laws (build None 0) m' storage ∙ granted'.1))
 
 -- and the set's joint differs in a motor
 pub motors-differ : (motor_at (joint_at m.words m.numbers 0).«data» 0).target_vel ≢ (motor_at (joint_at m'.words m'.numbers 0).«data» 0).target_vel

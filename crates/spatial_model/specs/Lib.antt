@@ -1,5 +1,4 @@
 pub mod Layout
-pub mod Records
 pub mod Store
 pub mod JointRows
 pub mod Model
@@ -8,3 +7,4 @@ pub mod Spatial
 pub mod SingleRecords
 pub mod Answers
 pub mod Studies
+pub mod Kind

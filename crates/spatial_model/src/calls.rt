@@ -1,70 +1,30 @@
-// Document 01's calls on a spatial model. Each takes whatever it is lent, of any length and contents, and answers what is granted or the number of the refusal; a
-// refused call changes nothing.
-ghost use Rattle.std.specs.Prelude.{◌≡◌, true, []};
+// Document 01's calls on a spatial model. Each takes whatever it is lent, of any length and contents; a refused call changes nothing.
+ghost use Rattle.std.specs.Prelude.{◌≡◌};
 ghost use Rattle.spatial_model.specs.Model.{model_of};
 ghost use Rattle.multibody.specs.Counts.{joint_count};
 ghost use Rattle.multibody.specs.Calls.{outcome, run};
 ghost use Rattle.multibody.specs.Calls.Call.{load, place, build, warm_start, sweep, remove_bias, write_back, read_rows, read_velocity};
 ghost use Rattle.multibody.specs.JointRows.{row_masks_at};
 ghost use Rattle.spatial_model.specs.Spatial.{space, spatial};
-ghost use Rattle.spatial_model.specs.Answers.{WithoutRows, load_answer, load_header, plain_answer, build_answer, build_header, rows_answer, no_rows, rows_answer_of, velocity_answer, sweep_answer, swept_as, sweep_answer_of};
+ghost use Rattle.multibody.specs.Answers.{WithoutRows, Filled, plain_answer, load_header, build_answer, build_header, velocity_answer, sweep_answer};
+ghost use Rattle.spatial_model.specs.Answers.{rows_answer, RowsFilled};
 
-use crate::all_joints::{
-    build_all, remove_bias_all, rows_from, sweep_all, warmstart_all, write_back_all,
-};
-use crate::counts::{body_count, joint_count, rows_before};
-use crate::header::Header;
-use crate::joint_rows::{count_at, ids_at, no_masks, reads_rows};
-use crate::refusals::{finite_pose, finite_warm, model_refusal, storage_refusal};
+use crate::joint_rows::{ids_at, rows_from};
+use crate::refusals::{finite_pose, model_refusal, storage_refusal};
+use crate::space::Space;
 use crate::store::{put_pose, vel_at};
-use rows::joint_constraint_builder::Warmstart;
+use multibody::all_joints::{build_all, remove_bias_all, sweep_all, warmstart_all, write_back_all};
+use multibody::counts::{body_count, joint_count, rows_before};
+use multibody::header::Header;
+use multibody::joint_rows::{count_at, reads_rows};
+use multibody::refusal::Refusal;
+use multibody::refusals::finite_warm;
 use spatial_floats::pose::Pose;
-use spatial_rows::joint_velocity_constraint::{Rows, SolverVel, blank_row};
-use spatial_rows::row_ids::{RowIds, row_ids};
+use spatial_rows::joint_velocity_constraint::{Rows, SolverVel};
+use spatial_rows::row_ids::RowIds;
 
 // Rule 9: a sweep has at most so many rounds.
 pub const MOST_ROUNDS: u32 = 64;
-
-// The answer of a call that has nothing to tell.
-#[derive(Clone, Copy)]
-pub enum Plain {
-    Granted,
-    Refused(u32),
-}
-
-#[derive(Clone, Copy)]
-pub enum LoadAnswer {
-    Loaded(Header),
-    Refused(u32),
-}
-
-// The built model's header, and the number of its rows.
-#[derive(Clone, Copy)]
-pub enum BuildAnswer {
-    Built(Header, usize),
-    Refused(u32),
-}
-
-// One joint's ids and rows beside the answer, none where it is a refusal.
-#[derive(Clone, Copy)]
-pub struct RowsAnswer {
-    pub answer: Plain,
-    pub ids: RowIds,
-    pub rows: Rows,
-}
-
-// For each joint, how many of its motor rows the last round found low or high, beside the answer; zeros past the joints, and where it is a refusal.
-#[derive(Clone, Copy)]
-pub struct SweepAnswer {
-    pub answer: Plain,
-    pub counts: [u8; 128],
-}
-
-#[derive(Clone, Copy)]
-pub enum VelocityAnswer {
-    Velocity(SolverVel),
-    Refused(u32),
-}
 
 // Checks the model, and marks it not built.
 pub fn load(
@@ -73,17 +33,13 @@ pub fn load(
     words: &[u32],
     numbers: &[f32],
     rows: &[f32],
-) -> LoadAnswer
-    ensures { outcome (load_answer result) (model_of (load_header header result) bodies.now words.now numbers.now) rows.now ≡ run spatial load (model_of header bodies.now words.now numbers.now) rows.now }
+) -> Result<Header, Refusal>
+    ensures { outcome (plain_answer result) (model_of (load_header header result) bodies.now words.now numbers.now) rows.now ≡ run spatial load (model_of header bodies.now words.now numbers.now) rows.now }
 {
-    let k = storage_refusal(header, bodies, words, numbers, rows, true);
-    if k != 0 {
-        return LoadAnswer::Refused(k);
-    }
-    let params = header.params;
-    LoadAnswer::Loaded(Header {
-        params: params,
+    storage_refusal(header, bodies, words, numbers, rows, true)?;
+    Ok(Header {
         built: false,
+        ..header
     })
 }
 
@@ -95,52 +51,39 @@ pub fn place(
     numbers: &[f32],
     body: u32,
     pose: Pose,
-) -> Plain
+) -> Result<(), Refusal>
     ensures { WithoutRows (outcome (plain_answer result) (model_of header bodies.new words.now numbers.now)) (run spatial (place body pose) (model_of header bodies.old words.now numbers.now)) }
 {
-    let finite = finite_pose(pose);
-    let k = model_refusal(header, bodies, words, numbers, finite);
-    if k != 0 {
-        return Plain::Refused(k);
-    }
-    if (body as usize) >= body_count(bodies) {
-        return Plain::Refused(11);
+    model_refusal(header, bodies, words, numbers, finite_pose(pose))?;
+    if (body as usize) >= body_count::<Space>(bodies) {
+        return Err(Refusal::NoSuchIndex);
     }
     put_pose(bodies, body, pose);
-    Plain::Granted
+    Ok(())
 }
 
-// Makes all rows, and marks the model built.
+// Makes all rows, and marks the model built: its header, and the number of the rows.
 pub fn build(
     header: Header,
     bodies: &[f32],
     words: &[u32],
     numbers: &[f32],
     rows: &mut [f32],
-    warmstart: Warmstart,
+    warmstart: Option<f32>,
     substep_id: u32,
-) -> BuildAnswer
+) -> Result<(Header, usize), Refusal>
     ensures { outcome (build_answer result) (model_of (build_header header result) bodies.now words.now numbers.now) rows.new ≡ run spatial (build warmstart substep_id) (model_of header bodies.now words.now numbers.now) rows.old }
 {
-    let finite = finite_warm(warmstart);
-    let k = storage_refusal(header, bodies, words, numbers, rows, finite);
-    if k != 0 {
-        return BuildAnswer::Refused(k);
+    storage_refusal(header, bodies, words, numbers, rows, finite_warm(warmstart))?;
+    if !header.built && reads_rows(warmstart, substep_id) {
+        return Err(Refusal::NotBuilt);
     }
-    if !header.built {
-        if reads_rows(warmstart, substep_id) {
-            return BuildAnswer::Refused(10);
-        }
-    }
-    let total = build_all(header, bodies, words, numbers, rows, warmstart, substep_id);
-    let params = header.params;
-    BuildAnswer::Built(
-        Header {
-            params: params,
-            built: true,
-        },
-        total,
-    )
+    let total = build_all::<Space>(header, bodies, words, numbers, rows, warmstart, substep_id);
+    let built = Header {
+        built: true,
+        ..header
+    };
+    Ok((built, total))
 }
 
 // The warm start of every row.
@@ -150,32 +93,18 @@ pub fn warm_start(
     words: &[u32],
     numbers: &[f32],
     rows: &[f32],
-) -> Plain
+) -> Result<(), Refusal>
     ensures { outcome (plain_answer result) (model_of header bodies.new words.now numbers.now) rows.now ≡ run spatial warm_start (model_of header bodies.old words.now numbers.now) rows.now }
 {
-    let k = storage_refusal(header, bodies, words, numbers, rows, true);
-    if k != 0 {
-        return Plain::Refused(k);
-    }
+    storage_refusal(header, bodies, words, numbers, rows, true)?;
     if !header.built {
-        return Plain::Refused(10);
+        return Err(Refusal::NotBuilt);
     }
-    warmstart_all(header, bodies, words, numbers, rows);
-    Plain::Granted
+    warmstart_all::<Space>(header, bodies, words, numbers, rows);
+    Ok(())
 }
 
-// A refusal, with zeros for counts.
-fn no_counts(k: u32) -> SweepAnswer
-    ensures { result ≡ swept_as (Plain.Refused k) [] }
-{
-    let counts = [0u8; 128];
-    SweepAnswer {
-        answer: Plain::Refused(k),
-        counts: counts,
-    }
-}
-
-// n rounds over all joints, ascending, and their rows in order: the call's answer, and how the array of counts is filled up.
+// n rounds over all joints, ascending, and their rows in order. It tells of each joint how many of its motor rows the last round found low or high; past the joints are zeros.
 pub fn sweep(
     header: Header,
     bodies: &mut [f32],
@@ -183,26 +112,20 @@ pub fn sweep(
     numbers: &[f32],
     rows: &mut [f32],
     n: u32,
-) -> SweepAnswer
+) -> Result<[u8; 128], Refusal>
     ensures rows_after { outcome (sweep_answer (joint_count space words.now numbers.now) result) (model_of header bodies.new words.now numbers.now) rows.new ≡ run spatial (sweep n) (model_of header bodies.old words.now numbers.now) rows.old }
-    ensures value { result ≡ sweep_answer_of (run spatial (sweep n) (model_of header bodies.old words.now numbers.now) rows.old).answer }
+    ensures filled { Filled (joint_count space words.now numbers.now) result }
 {
-    let k = storage_refusal(header, bodies, words, numbers, rows, true);
-    if k != 0 {
-        return no_counts(k);
-    }
+    storage_refusal(header, bodies, words, numbers, rows, true)?;
     if n > MOST_ROUNDS {
-        return no_counts(9);
+        return Err(Refusal::TooManyRounds);
     }
     if !header.built {
-        return no_counts(10);
+        return Err(Refusal::NotBuilt);
     }
     let mut counts = [0u8; 128];
-    sweep_all(header, bodies, words, numbers, rows, &mut counts, n);
-    SweepAnswer {
-        answer: Plain::Granted,
-        counts: counts,
-    }
+    sweep_all::<Space>(header, bodies, words, numbers, rows, &mut counts, n);
+    Ok(counts)
 }
 
 // Takes the bias off every row.
@@ -212,18 +135,15 @@ pub fn remove_bias(
     words: &[u32],
     numbers: &[f32],
     rows: &mut [f32],
-) -> Plain
+) -> Result<(), Refusal>
     ensures { outcome (plain_answer result) (model_of header bodies.now words.now numbers.now) rows.new ≡ run spatial remove_bias (model_of header bodies.now words.now numbers.now) rows.old }
 {
-    let k = storage_refusal(header, bodies, words, numbers, rows, true);
-    if k != 0 {
-        return Plain::Refused(k);
-    }
+    storage_refusal(header, bodies, words, numbers, rows, true)?;
     if !header.built {
-        return Plain::Refused(10);
+        return Err(Refusal::NotBuilt);
     }
-    remove_bias_all(header, bodies, words, numbers, rows);
-    Plain::Granted
+    remove_bias_all::<Space>(header, bodies, words, numbers, rows);
+    Ok(())
 }
 
 // Stores every row's impulse by its id.
@@ -233,35 +153,18 @@ pub fn write_back(
     words: &[u32],
     numbers: &mut [f32],
     rows: &[f32],
-) -> Plain
+) -> Result<(), Refusal>
     ensures { outcome (plain_answer result) (model_of header bodies.now words.now numbers.new) rows.now ≡ run spatial write_back (model_of header bodies.now words.now numbers.old) rows.now }
 {
-    let k = storage_refusal(header, bodies, words, numbers, rows, true);
-    if k != 0 {
-        return Plain::Refused(k);
-    }
+    storage_refusal(header, bodies, words, numbers, rows, true)?;
     if !header.built {
-        return Plain::Refused(10);
+        return Err(Refusal::NotBuilt);
     }
-    write_back_all(header, bodies, words, numbers, rows);
-    Plain::Granted
+    write_back_all::<Space>(header, bodies, words, numbers, rows);
+    Ok(())
 }
 
-// A refusal, with no ids and no rows.
-fn no_rows(k: u32) -> RowsAnswer
-    ensures { result ≡ no_rows (Plain.Refused k) }
-{
-    let none = no_masks();
-    let blank = blank_row();
-    let rows = [blank; 9];
-    RowsAnswer {
-        answer: Plain::Refused(k),
-        ids: row_ids(none),
-        rows: Rows { rows: rows, len: 0 },
-    }
-}
-
-// One joint's rows, with their ids: the call's answer, and how the arrays are filled up.
+// One joint's ids and rows; past their counts the arrays are filled up with blank ones.
 pub fn read_rows(
     header: Header,
     bodies: &[f32],
@@ -269,26 +172,24 @@ pub fn read_rows(
     numbers: &[f32],
     rows: &[f32],
     joint: u32,
-) -> RowsAnswer
+) -> Result<(RowIds, Rows), Refusal>
     ensures rows_value { outcome (rows_answer result) (model_of header bodies.now words.now numbers.now) rows.now ≡ run spatial (read_rows joint) (model_of header bodies.now words.now numbers.now) rows.now }
-    ensures value { result ≡ rows_answer_of (row_masks_at space words.now joint) (run spatial (read_rows joint) (model_of header bodies.now words.now numbers.now) rows.now).answer }
+    ensures filled { RowsFilled (row_masks_at space words.now joint) result }
 {
-    let k = storage_refusal(header, bodies, words, numbers, rows, true);
-    if k != 0 {
-        return no_rows(k);
-    }
+    storage_refusal(header, bodies, words, numbers, rows, true)?;
     if !header.built {
-        return no_rows(10);
+        return Err(Refusal::NotBuilt);
     }
     let j = joint as usize;
-    if j >= joint_count(words, numbers) {
-        return no_rows(11);
+    if j >= joint_count::<Space>(words, numbers) {
+        return Err(Refusal::NoSuchIndex);
     }
-    RowsAnswer {
-        answer: Plain::Granted,
-        ids: ids_at(words, j),
-        rows: rows_from(rows, rows_before(words, j), count_at(words, j)),
-    }
+    let read = rows_from(
+        rows,
+        rows_before::<Space>(words, j),
+        count_at::<Space>(words, j),
+    );
+    Ok((ids_at(words, j), read))
 }
 
 // One body's velocity.
@@ -298,15 +199,13 @@ pub fn read_velocity(
     words: &[u32],
     numbers: &[f32],
     body: u32,
-) -> VelocityAnswer
-    ensures { WithoutRows (outcome (velocity_answer result) (model_of header bodies.now words.now numbers.now)) (run spatial (read_velocity body) (model_of header bodies.now words.now numbers.now)) }
+) -> Result<SolverVel, Refusal>
+    ensures { WithoutRows (outcome (velocity_answer space result) (model_of header bodies.now words.now numbers.now)) (run spatial (read_velocity body) (model_of header bodies.now words.now numbers.now)) }
 {
-    let k = model_refusal(header, bodies, words, numbers, true);
-    if k != 0 {
-        return VelocityAnswer::Refused(k);
+    model_refusal(header, bodies, words, numbers, true)?;
+    if (body as usize) >= body_count::<Space>(bodies) {
+        Err(Refusal::NoSuchIndex)
+    } else {
+        Ok(vel_at(bodies, body))
     }
-    if (body as usize) >= body_count(bodies) {
-        return VelocityAnswer::Refused(11);
-    }
-    VelocityAnswer::Velocity(vel_at(bodies, body))
 }

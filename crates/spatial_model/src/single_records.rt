@@ -3,9 +3,10 @@
 ghost use Rattle.std.specs.Prelude.{◌≡◌};
 ghost use Rattle.spatial_model.specs.SingleRecords.{row_if_there, put_row_if_there, pose_if_there, vel_if_there, put_pose_if_there, blank_joint, joint_if_there, put_seed_if_there};
 
-use crate::counts::{body_count, joint_count, row_capacity};
 use crate::layout::NUMBERS_WIDTH;
+use crate::space::Space;
 use crate::store::{joint_at, put_pose, put_row, put_seed, row_at, solver_pose_at, vel_at};
+use multibody::counts::{body_count, joint_count, row_capacity};
 use rows::generic_joint::{JointEnabled, JointLimits, JointMotor, Masks};
 use rows::integration_parameters::SpringCoefficients;
 use rows::joint_velocity_constraint::WritebackId;
@@ -20,7 +21,7 @@ use spatial_rows::joint_velocity_constraint::{JointConstraint, SolverVel, blank_
 pub fn read_row(rows: &[f32], k: usize) -> JointConstraint
     ensures { result ≡ row_if_there rows.now k }
 {
-    if k < row_capacity(rows) {
+    if k < row_capacity::<Space>(rows) {
         return row_at(rows, k);
     }
     blank_row()
@@ -29,7 +30,7 @@ pub fn read_row(rows: &[f32], k: usize) -> JointConstraint
 pub fn write_row(rows: &mut [f32], k: usize, row: JointConstraint)
     ensures { rows.new ≡ put_row_if_there rows.old k row }
 {
-    if k < row_capacity(rows) {
+    if k < row_capacity::<Space>(rows) {
         put_row(rows, k, row);
     }
 }
@@ -37,7 +38,7 @@ pub fn write_row(rows: &mut [f32], k: usize, row: JointConstraint)
 pub fn read_pose(bodies: &[f32], i: u32) -> Pose
     ensures { result ≡ pose_if_there bodies.now i }
 {
-    if (i as usize) < body_count(bodies) {
+    if (i as usize) < body_count::<Space>(bodies) {
         return solver_pose_at(bodies, i).pose;
     }
     Pose {
@@ -58,7 +59,7 @@ pub fn read_pose(bodies: &[f32], i: u32) -> Pose
 pub fn read_vel(bodies: &[f32], i: u32) -> SolverVel
     ensures { result ≡ vel_if_there bodies.now i }
 {
-    if (i as usize) < body_count(bodies) {
+    if (i as usize) < body_count::<Space>(bodies) {
         return vel_at(bodies, i);
     }
     let zeros = Vector {
@@ -75,7 +76,7 @@ pub fn read_vel(bodies: &[f32], i: u32) -> SolverVel
 pub fn write_pose(bodies: &mut [f32], i: u32, pose: Pose)
     ensures { bodies.new ≡ put_pose_if_there bodies.old i pose }
 {
-    if (i as usize) < body_count(bodies) {
+    if (i as usize) < body_count::<Space>(bodies) {
         put_pose(bodies, i, pose);
     }
 }
@@ -137,7 +138,7 @@ fn blank_joint() -> ImpulseJoint
 pub fn read_joint(words: &[u32], numbers: &[f32], j: usize) -> ImpulseJoint
     ensures { result ≡ joint_if_there words.now numbers.now j }
 {
-    if j < joint_count(words, numbers) {
+    if j < joint_count::<Space>(words, numbers) {
         return joint_at(words, numbers, j);
     }
     blank_joint()

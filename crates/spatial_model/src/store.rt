@@ -4,7 +4,6 @@ ghost use Rattle.multibody.specs.Records.{num_from, num, word, puts};
 ghost use Rattle.multibody.specs.JointRecords.{limits_of, motor_model_of, motor_of, enabled_of, axis_of};
 ghost use Rattle.multibody.specs.Counts.{Present};
 ghost use Rattle.spatial_model.specs.Layout.{row_width, body_width, words_width, numbers_width};
-ghost use Rattle.spatial_model.specs.Records.{six_of};
 ghost use Rattle.spatial_model.specs.Store.{row_at, put_row, pose_of, inertia_of, solver_pose_at, vel_at, put_vel, put_pose, body1_at, body2_at, masks_at, all_limits_of, all_motors_of, data_of, dofs_of, joint_at, seed_axes, seed_index, put_seed, enabled_at};
 ghost use Rattle.spatial_model.specs.Spatial.{space};
 
@@ -15,10 +14,12 @@ use crate::layout::{
     MOTOR_Y, MOTOR_Z, NATURAL_FREQUENCY, NUMBERS_WIDTH, POSE, ROW_WIDTH, VELOCITY, WORDS_WIDTH,
     WORLD,
 };
+use crate::space::Space;
+use multibody::kind::Kind;
+use multibody::records::{axis, limits_at, motor_at, put6, six_at};
 use rows::generic_joint::{JointEnabled, JointLimits, JointMotor, Masks};
 use rows::integration_parameters::SpringCoefficients;
 use rows::joint_velocity_constraint::WritebackId;
-use rows::motor_model::MotorModel;
 use spatial_floats::angular_inertia_ops::SdpMatrix3;
 use spatial_floats::pose::Pose;
 use spatial_floats::rotation_ops::Rotation;
@@ -28,33 +29,6 @@ use spatial_rows::joint_constraint_builder::{ImpulseJoint, SolverPose};
 use spatial_rows::joint_velocity_constraint::{JointConstraint, SolverVel};
 
 // ---- rows
-
-// Six numbers one after the other.
-#[derive(Clone, Copy)]
-struct Six {
-    n0: f32,
-    n1: f32,
-    n2: f32,
-    n3: f32,
-    n4: f32,
-    n5: f32,
-}
-
-// The six numbers from number c on of the record that starts at place o.
-fn six_at(s: &[f32], o: usize, c: usize) -> Six
-    requires { o + c + 6 ≤ length s.now }
-    ensures { result ≡ six_of (num_from s.now o) c }
-{
-    let i = o + c;
-    Six {
-        n0: s[i],
-        n1: s[i + 1],
-        n2: s[i + 2],
-        n3: s[i + 3],
-        n4: s[i + 4],
-        n5: s[i + 5],
-    }
-}
 
 // Row k of the storage. (Number 23 is read twice.)
 pub fn row_at(s: &[f32], k: usize) -> JointConstraint
@@ -112,19 +86,6 @@ pub fn row_at(s: &[f32], k: usize) -> JointConstraint
             z: e.n5,
         },
     }
-}
-
-// Six numbers from place o on.
-fn put6(s: &mut [f32], o: usize, a: f32, b: f32, c: f32, d: f32, e: f32, f: f32)
-    requires { o + 6 ≤ length s.old }
-    ensures { s.new ≡ puts s.old o 0 (a ∷ b ∷ c ∷ d ∷ e ∷ f ∷ []) }
-{
-    s[o] = a;
-    s[o + 1] = b;
-    s[o + 2] = c;
-    s[o + 3] = d;
-    s[o + 4] = e;
-    s[o + 5] = f;
 }
 
 // Five numbers from place o on.
@@ -351,96 +312,6 @@ pub fn put_pose(b: &mut [f32], i: u32, p: Pose)
 
 // ---- joints
 
-// The first and the second body of joint j.
-pub fn body1_at(words: &[u32], j: usize) -> u32
-    requires { j * words_width + words_width ≤ length words.now }
-    ensures { result ≡ body1_at words.now j }
-{
-    words[j * WORDS_WIDTH + BODY1]
-}
-
-pub fn body2_at(words: &[u32], j: usize) -> u32
-    requires { j * words_width + words_width ≤ length words.now }
-    ensures { result ≡ body2_at words.now j }
-{
-    words[j * WORDS_WIDTH + BODY2]
-}
-
-// The masks of joint j, without the bits that rules 3 and 17 refuse.
-pub fn masks_at(words: &[u32], j: usize) -> Masks
-    requires { j * words_width + words_width ≤ length words.now }
-    ensures { result ≡ masks_at words.now j }
-{
-    let o = j * WORDS_WIDTH;
-    spatial_masks(Masks {
-        locked_axes: words[o + LOCKED_AXES],
-        limit_axes: words[o + LIMIT_AXES],
-        motor_axes: words[o + MOTOR_AXES],
-        coupled_axes: words[o + COUPLED_AXES],
-    })
-}
-
-// An axis's limits, in three numbers from number c on of the record that starts at place o.
-fn limits_at(s: &[f32], o: usize, c: usize) -> JointLimits
-    requires { o + c + 3 ≤ length s.now }
-    ensures { result ≡ limits_of (num_from s.now o) c }
-{
-    let a = o + c;
-    JointLimits {
-        min: s[a],
-        max: s[a + 1],
-        impulse: s[a + 2],
-    }
-}
-
-// 0 is acceleration based, and every other number force based.
-fn motor_model_of(m: u32) -> MotorModel
-    ensures { result ≡ motor_model_of m }
-{
-    if m == 0 {
-        return MotorModel::AccelerationBased;
-    }
-    MotorModel::ForceBased
-}
-
-// The Rust's kinds in the order of its declaration; every other number is `Disabled`.
-fn enabled_of(e: u32) -> JointEnabled
-    ensures { result ≡ enabled_of e }
-{
-    if e == 0 {
-        return JointEnabled::Enabled;
-    }
-    if e == 1 {
-        return JointEnabled::DisabledByAttachedBody;
-    }
-    JointEnabled::Disabled
-}
-
-// Whether joint j is enabled.
-pub fn enabled_at(words: &[u32], j: usize) -> JointEnabled
-    requires { j * words_width + words_width ≤ length words.now }
-    ensures { result ≡ enabled_at words.now j }
-{
-    enabled_of(words[j * WORDS_WIDTH + ENABLED])
-}
-
-// An axis's motor, in six numbers likewise, and the number of its model.
-fn motor_at(s: &[f32], o: usize, c: usize, m: u32) -> JointMotor
-    requires { o + c + 6 ≤ length s.now }
-    ensures { result ≡ motor_of (num_from s.now o) c m }
-{
-    let a = six_at(s, o, c);
-    JointMotor {
-        target_vel: a.n0,
-        target_pos: a.n1,
-        stiffness: a.n2,
-        damping: a.n3,
-        max_force: a.n4,
-        impulse: a.n5,
-        model: motor_model_of(m),
-    }
-}
-
 // The limits of the three linear axes of joint j, and their motors.
 fn all_limits_at(numbers: &[f32], j: usize) -> [JointLimits; 3]
     requires { j * numbers_width + numbers_width ≤ length numbers.now }
@@ -476,14 +347,14 @@ fn data_at(words: &[u32], numbers: &[f32], j: usize) -> GenericJoint
     GenericJoint {
         local_frame1: pose_at(numbers, o, FRAME1),
         local_frame2: pose_at(numbers, o, FRAME2),
-        masks: masks_at(words, j),
+        masks: Space::masks_at(words, j),
         limits: all_limits_at(numbers, j),
         motors: all_motors_at(words, numbers, j),
         softness: SpringCoefficients {
             natural_frequency: numbers[o + NATURAL_FREQUENCY],
             damping_ratio: numbers[o + DAMPING_RATIO],
         },
-        enabled: enabled_at(words, j),
+        enabled: Space::enabled_at(words, j),
     }
 }
 
@@ -504,21 +375,7 @@ pub fn joint_at(words: &[u32], numbers: &[f32], j: usize) -> ImpulseJoint
 {
     let data = data_at(words, numbers, j);
     let impulses = dofs_at(numbers, j);
-    ImpulseJoint {
-        data: data,
-        impulses: impulses,
-    }
-}
-
-// The axis that an id is of.
-fn axis(id: WritebackId) -> usize
-    ensures { result ≡ axis_of id }
-{
-    match id {
-        WritebackId::Dof(i) => i,
-        WritebackId::Limit(i) => i,
-        WritebackId::Motor(i) => i,
-    }
+    ImpulseJoint { data, impulses }
 }
 
 // How many axes have a stored impulse of its kind.

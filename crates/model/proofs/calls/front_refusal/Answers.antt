@@ -2,4 +2,4 @@
 use Rattle.model.proofs.calls.front_refusal.Goals as goal
 
 pub returns : goal.returns
-returns c = rw c.finite_warm-finite.ensures at c.storage_refusal.ensures
+returns c = rw c.finite_warm.ensures at c.storage_refusal.ensures

@@ -1,26 +1,28 @@
 -- `read_velocity` meets its contract, whatever row storage there is.
-use mathlib.Core.Path.{◌∙◌}
+use mathlib.Core.Path.{refl, ◌∙◌}
 use native.Mathlib.Omega.{arith}
 use Rattle.multibody.specs.Calls.{granted_of}
 use Rattle.model.specs.Planar.{plane}
 use Rattle.multibody.proofs.CountLaws.{body-there}
 use Rattle.multibody.proofs.RuleLaws.{no-rules}
+use Rattle.multibody.proofs.AnswerLaws.{not-granted, passed-on}
 use Rattle.multibody.proofs.CallLaws.{refused-early, refused-late, granted-late, no_body, some-body}
 use Rattle.model.proofs.PlanarLaws.{planar-laws}
 use Rattle.model.proofs.calls.read_velocity.Goals as goal
 
-pub returns-then-k-ne0 : goal.returns-then-k-ne0
-returns-then-k-ne0 c rows = refused-early planar-laws _ _ _ c.model_refusal-k.ensures c.if-k-ne0.true
+pub returns-in_err-model_refusal : goal.returns-in_err-model_refusal
+returns-in_err-model_refusal c rows =
+    rw (passed-on _ c.from_residual.ensures.1) (refused-early planar-laws _ _ _ c.in_err-model_refusal.ensures (not-granted _))
 
 pub returns-then-body-body_count : goal.returns-then-body-body_count
 returns-then-body-body_count c rows =
-    refused-late planar-laws _ _ _ c.model_refusal-k.ensures c.if-k-ne0.false (no_body plane _ _ _ c.body_count.ensures c.if-body-body_count.true) (omega arith)
+    refused-late planar-laws _ _ _ c.in_ok-model_refusal.ensures refl (no_body plane _ _ _ c.body_count.ensures c.if-body-body_count.true) (omega arith)
 
 pub vel_at-requires : goal.vel_at-requires
 vel_at-requires c ne = body-there plane _ _ (rw c.body_count.ensures at c.if-body-body_count.false)
 
-pub returns : goal.returns
+pub returns-else-body-body_count : goal.returns-else-body-body_count
 unfolding granted_of
-returns c rows =
+returns-else-body-body_count c rows =
     rw c.vel_at.ensures
-    (granted-late planar-laws _ _ _ c.model_refusal-k.ensures c.if-k-ne0.false (some-body plane _ _ _ c.body_count.ensures c.if-body-body_count.false ∙ no-rules))
+    (granted-late planar-laws _ _ _ c.in_ok-model_refusal.ensures refl (some-body plane _ _ _ c.body_count.ensures c.if-body-body_count.false ∙ no-rules))

@@ -1,40 +1,36 @@
 -- `sweep` meets its contract.
-use Rattle.model.specs.Model.{model_of}
-use mathlib.Core.Path.{sym, ◌∙◌}
+use mathlib.Core.Path.{refl, sym, ◌∙◌}
 use native.Mathlib.Omega.{arith}
 use Rattle.multibody.proofs.RuleLaws.{no-rules}
-use Rattle.multibody.proofs.CallLaws.{refused-early, refused-late, granted-late, too_many, few-rounds, not-built, is-built, call-sound, call-few-joints, call-room}
-use Rattle.model.proofs.CallLaws.{sweep-refused, sweep-granted}
+use Rattle.multibody.proofs.AnswerLaws.{not-granted, passed-on}
+use Rattle.multibody.proofs.CallLaws.{refused-early, refused-late, granted-late, too_many, few-rounds, not-built, is-built, call-sound, call-few-joints, call-room, sweep-counted}
+use Rattle.model.specs.Model.{model_of}
+use Rattle.model.specs.Planar.{planar}
 use Rattle.model.proofs.PlanarLaws.{planar-laws}
 use borrow.Author.Tests.{not-true, not-false}
 use Rattle.model.proofs.calls.sweep.Goals as goal
 
-pub returns-then-k-ne0 : goal.returns-then-k-ne0
-returns-then-k-ne0 c =
-    let both = (sweep-refused c.args.n (model_of c.args.header c.args.bodies.now c.args.words.now c.args.numbers.now) c.args.rows.now c.no_counts.ensures (refused-early planar-laws _ _ _ c.storage_refusal-k.ensures c.if-k-ne0.true)) in
-    record { rows_after = both.0; value = both.1 }
+pub returns-in_err-storage_refusal : goal.returns-in_err-storage_refusal
+returns-in_err-storage_refusal c =
+    let e = passed-on _ c.from_residual.ensures.1 in
+    record { rows_after = rw e (refused-early planar-laws _ _ _ c.in_err-storage_refusal.ensures (not-granted _)); filled = rw e tt }
 
 pub returns-then-n-gt-MOST_ROUNDS : goal.returns-then-n-gt-MOST_ROUNDS
 returns-then-n-gt-MOST_ROUNDS c =
-    let both = (sweep-refused c.args.n (model_of c.args.header c.args.bodies.now c.args.words.now c.args.numbers.now) c.args.rows.now c.no_counts-then-n-gt-MOST_ROUNDS.ensures
-    (refused-late planar-laws _ _ _ c.storage_refusal-k.ensures c.if-k-ne0.false (too_many _ _ c.if-n-gt-MOST_ROUNDS.true) (omega arith))) in
-    record { rows_after = both.0; value = both.1 }
+    record { rows_after = refused-late planar-laws _ _ _ c.in_ok-storage_refusal.ensures refl (too_many _ _ c.if-n-gt-MOST_ROUNDS.true) (omega arith); filled = tt }
 
 pub returns-then-not-header : goal.returns-then-not-header
 returns-then-not-header c =
-    let both = (sweep-refused c.args.n (model_of c.args.header c.args.bodies.now c.args.words.now c.args.numbers.now) c.args.rows.now c.no_counts-then-not-header.ensures
-    (refused-late planar-laws _ _ _ c.storage_refusal-k.ensures c.if-k-ne0.false
-    (not-built _ _ (not-true _ c.if-not-header.true) ∙ sym (few-rounds _ _ c.if-n-gt-MOST_ROUNDS.false)) (omega arith))) in
-    record { rows_after = both.0; value = both.1 }
+    record { rows_after = refused-late planar-laws _ _ _ c.in_ok-storage_refusal.ensures refl (not-built _ _ (not-true _ c.if-not-header.true) ∙ sym (few-rounds _ _ c.if-n-gt-MOST_ROUNDS.false)) (omega arith); filled = tt }
 
 pub sweep_all-requires : goal.sweep_all-requires
 sweep_all-requires c =
-    let e = c.storage_refusal-k.ensures in
-    record { fact = call-sound planar-laws _ _ _ e c.if-k-ne0.false; fact_2 = call-room planar-laws _ _ _ e c.if-k-ne0.false; numbers_in_bounds = call-few-joints planar-laws _ _ _ e c.if-k-ne0.false }
+    let e = c.in_ok-storage_refusal.ensures in
+    record { fact = call-sound planar-laws _ _ _ e refl; fact_2 = call-room planar-laws _ _ _ e refl; numbers_in_bounds = call-few-joints planar-laws _ _ _ e refl }
 
 pub returns : goal.returns
 returns c =
-    let e = c.storage_refusal-k.ensures in
-    let both = (sweep-granted c.args.n (model_of c.args.header c.args.bodies.now c.args.words.now c.args.numbers.now) c.args.rows.now (call-few-joints planar-laws _ _ _ e c.if-k-ne0.false) c.sweep_all.ensures
-    (granted-late planar-laws _ _ _ e c.if-k-ne0.false (few-rounds _ _ c.if-n-gt-MOST_ROUNDS.false ∙ is-built _ _ (not-false _ c.if-not-header.false) ∙ no-rules))) in
-    record { rows_after = both.0; value = both.1 }
+    let e = c.in_ok-storage_refusal.ensures in
+    let p = sweep-counted planar c.args.n (model_of c.args.header c.args.bodies.now c.args.words.now c.args.numbers.now) c.args.rows.now (call-few-joints planar-laws _ _ _ e refl) c.sweep_all.ensures
+    (granted-late planar-laws _ _ _ e refl (few-rounds _ _ c.if-n-gt-MOST_ROUNDS.false ∙ is-built _ _ (not-false _ c.if-not-header.false) ∙ no-rules)) in
+    record { rows_after = p.0; filled = p.1 }

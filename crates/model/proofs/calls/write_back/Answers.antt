@@ -1,22 +1,24 @@
 -- `write_back` meets its contract.
 use mathlib.Core.Path.{refl}
 use Rattle.multibody.specs.Calls.{granted_of}
+use Rattle.multibody.proofs.AnswerLaws.{not-granted, passed-on}
 use Rattle.multibody.proofs.CallLaws.{refused-early, refused-unbuilt, granted-built, call-room}
 use Rattle.model.proofs.PlanarLaws.{planar-laws}
 use Rattle.model.proofs.calls.write_back.Goals as goal
 
-pub returns-then-k-ne0 : goal.returns-then-k-ne0
-returns-then-k-ne0 c = refused-early planar-laws _ _ _ c.storage_refusal-k.ensures c.if-k-ne0.true
+pub returns-in_err-storage_refusal : goal.returns-in_err-storage_refusal
+returns-in_err-storage_refusal c =
+    rw (passed-on _ c.from_residual.ensures.1) (refused-early planar-laws _ _ _ c.in_err-storage_refusal.ensures (not-granted _))
 
 pub returns-then-not-header : goal.returns-then-not-header
 returns-then-not-header c =
-    refused-unbuilt planar-laws _ _ _ c.storage_refusal-k.ensures c.if-k-ne0.false refl c.if-not-header.true
+    refused-unbuilt planar-laws _ _ _ c.in_ok-storage_refusal.ensures refl refl c.if-not-header.true
 
 pub write_back_all-requires : goal.write_back_all-requires
 write_back_all-requires c =
-    call-room planar-laws _ _ _ c.storage_refusal-k.ensures c.if-k-ne0.false
+    call-room planar-laws _ _ _ c.in_ok-storage_refusal.ensures refl
 
 pub returns : goal.returns
 unfolding granted_of
 returns c =
-    rw c.write_back_all.ensures (granted-built planar-laws _ _ _ c.storage_refusal-k.ensures c.if-k-ne0.false refl c.if-not-header.false)
+    rw c.write_back_all.ensures (granted-built planar-laws _ _ _ c.in_ok-storage_refusal.ensures refl refl c.if-not-header.false)

@@ -24,7 +24,7 @@ count_at-first-requires c = simp length-set (omega (arith, c.loop-j-test.true, c
 
 pub overflow_add-first : goal.overflow_add-first
 overflow_add-first c =
-    omega (arith, first_small planar-laws _ _ _ _ c.loop-j.invariant.2 c.loop-j-test.true c.requires.n_le_most_joints, few-rows planar-laws _ _ c.count_at-first.ensures)
+    omega (arith, first_small planar-laws _ _ _ _ c.loop-j.invariant.2 c.loop-j-test.true c.requires.n_le_most_joints, few-rows planar-laws _ _ c.count_at-first.ensures.value)
 
 pub loop-j-preserved : goal.loop-j-preserved
 unfolding put_first
@@ -32,7 +32,7 @@ loop-j-preserved c =
     let v = c.loop-j.invariant in (
       omega (arith, c.loop-j-test.true),
       simp length-set v.1,
-      first_next planar-laws _ _ _ _ v.2 c.count_at-first.ensures,
+      first_next planar-laws _ _ _ _ v.2 c.count_at-first.ensures.value,
       sym (next-first plane _ _ _ c.loop-j-test.true v.2) ∙ v.3,
     )
 

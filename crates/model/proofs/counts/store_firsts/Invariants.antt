@@ -9,6 +9,3 @@ use Rattle.model.proofs.counts.store_firsts.Given as goal
 abbrev pub invariant-loop-j : goal.invariant-loop-j
 invariant-loop-j l =
     (l.j ≤ l.n) × (length l.words ≡ length l.initial.words) × (l.first ≡ rows_before plane l.words l.j) × (store_firsts plane l.j (l.n - l.j) l.words ≡ store_firsts plane 0 l.n l.initial.words)
-
-abbrev pub decreases-loop-j : goal.decreases-loop-j
-decreases-loop-j l = l.n - l.j

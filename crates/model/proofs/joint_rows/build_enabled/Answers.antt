@@ -10,7 +10,7 @@ use Rattle.model.proofs.joint_rows.build_enabled.Goals as goal
 
 pub last_impulses-prevs-requires : goal.last_impulses-prevs-requires
 last_impulses-prevs-requires c =
-    let e = c.count_at-n.ensures in
+    let e = c.count_at-n.ensures.value in
     record { n_bound = few-rows planar-laws _ _ e; row_width_in_bounds = omega (arith, e, c.requires.row_width_in_bounds) }
 
 pub solver_pose_at-body1-requires : goal.solver_pose_at-body1-requires
@@ -32,7 +32,7 @@ pub returns : goal.returns
 returns c =
     let on = c.requires.j_value in
     let made = built-rows _ _ _ _ _ _ _ _ _ on c.joint_at-joint.ensures (c.update-made.ensures ∙ ap rows_array (c.last_impulses-prevs.ensures _ _ _ _)) in (
-      c.count_at-n.ensures,
-      build_steps plane _ _ _ _ _ _ _ _ _ on c.count_at-n.ensures refl c.joint_at-joint.ensures c.body1_at.ensures c.solver_pose_at-body1.ensures c.body2_at.ensures c.solver_pose_at-body2.ensures made
+      c.count_at-n.ensures.value,
+      build_steps plane _ _ _ _ _ _ _ _ _ on c.count_at-n.ensures.value refl c.joint_at-joint.ensures c.body1_at.ensures c.solver_pose_at-body1.ensures c.body2_at.ensures c.solver_pose_at-body2.ensures made
           c.put_rows.ensures,
     )

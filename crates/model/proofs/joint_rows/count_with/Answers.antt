@@ -8,7 +8,7 @@ use Rattle.model.specs.Planar.{plane}
 use Rattle.model.proofs.joint_rows.count_with.Goals as goal
 
 pub returns-then-i-j : goal.returns-then-i-j
-returns-then-i-j c = c.count_at.ensures ∙ sym (count-apart planar-laws _ _ _ _ c.if-i-j.true)
+returns-then-i-j c = c.count_at.ensures.value ∙ sym (count-apart planar-laws _ _ _ _ c.if-i-j.true)
 
 pub returns-then-is_enabled : goal.returns-then-is_enabled
 returns-then-is_enabled c =

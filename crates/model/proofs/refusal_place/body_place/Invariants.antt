@@ -1,5 +1,4 @@
 -- `body_place` meets its contract. Before turn c, the body's numbers from number c on decide.
-use Prim.Native.Nat.{◌-◌}
 use lib.ListN.{get_or}
 use Rattle.multibody.specs.Finite.{passes}
 use Rattle.multibody.specs.Finite.Asks.{free}
@@ -13,6 +12,3 @@ use Rattle.model.proofs.refusal_place.body_place.Given as goal
 
 abbrev pub invariant-loop-c : goal.invariant-loop-c
 invariant-loop-c l = Unfound (λ c. at (BodyNumber l.i c) (passes (get_or body_asks c free) (num body_width l.bodies l.i c))) (body_tests l.bodies l.i) body_width l.c
-
-abbrev pub decreases-loop-c : goal.decreases-loop-c
-decreases-loop-c l = body_width - l.c

@@ -1,5 +1,4 @@
 -- `number_place` meets its contract. Before turn c, the joint's numbers from number c on decide.
-use Prim.Native.Nat.{◌-◌}
 use lib.ListN.{get_or}
 use Rattle.multibody.specs.Finite.{passes}
 use Rattle.multibody.specs.Finite.Asks.{free}
@@ -14,6 +13,3 @@ use Rattle.model.proofs.refusal_place.number_place.Given as goal
 abbrev pub invariant-loop-c : goal.invariant-loop-c
 invariant-loop-c l =
     Unfound (λ c. at (JointNumber l.j c) (passes (get_or (planar.joint_asks l.words l.j) c free) (num numbers_width l.numbers l.j c))) (number_tests l.words l.numbers l.j) numbers_width l.c
-
-abbrev pub decreases-loop-c : goal.decreases-loop-c
-decreases-loop-c l = numbers_width - l.c

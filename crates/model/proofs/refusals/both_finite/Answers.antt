@@ -1,11 +1,9 @@
-use mathlib.Core.Bool.{not}
-use mathlib.Core.Path.{ap}
-use Rattle.multibody.proofs.RuleLaws.{holds, fails}
+-- `both_finite` meets its contract: each test is tried where those before it hold.
+use mathlib.Core.Path.{sym, ◌∙◌}
 use Rattle.model.proofs.refusals.both_finite.Goals as goal
 
-pub returns-then-not-is_finite : goal.returns-then-not-is_finite
-returns-then-not-is_finite c = rw (fails c.is_finite.ensures (ap not c.if-not-is_finite.true))
+pub returns-then-is_finite : goal.returns-then-is_finite
+returns-then-is_finite c = rw (sym c.is_finite.ensures ∙ c.if-is_finite.true) c.is_finite-then-is_finite.ensures
 
-pub returns : goal.returns
-returns c =
-    rw (holds c.is_finite.ensures (ap not c.if-not-is_finite.false)) c.is_finite-2.ensures
+pub returns-else-is_finite : goal.returns-else-is_finite
+returns-else-is_finite c = rw (sym c.is_finite.ensures ∙ c.if-is_finite.false) c.if-is_finite.false

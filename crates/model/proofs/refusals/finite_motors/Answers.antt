@@ -1,17 +1,18 @@
 -- `finite_motors` meets its contract: each test is tried where those before it hold.
-use mathlib.Core.Bool.{not}
-use mathlib.Core.Path.{ap}
-use Rattle.multibody.proofs.RuleLaws.{holds, fails}
+use mathlib.Core.Path.{sym, ◌∙◌}
+use mathlib.Core.Bool.{false≢true}
 use Rattle.model.proofs.Tried.{drives-tried}
 use Rattle.model.proofs.refusals.finite_motors.Goals as goal
+use Rattle.model.proofs.refusals.finite_motors.Goals.{then-finite_motor, else-finite_motor}
 
-pub returns-then-not-finite_motor : goal.returns-then-not-finite_motor
-returns-then-not-finite_motor c = rw (drives-tried, fails c.finite_motor.ensures (ap not c.if-not-finite_motor.true))
+pub returns-then-finite_motor-2 : goal.returns-then-finite_motor-2
+returns-then-finite_motor-2 c = elim c.if-finite_motor.branch [
+  | then-finite_motor w1 ↦ rw (drives-tried, sym w1.if-finite_motor.ensures, sym w1.finite_motor-then-finite_motor.ensures ∙ sym w1.value-is ∙ c.if-finite_motor-2.true) c.finite_motor-then-finite_motor-2.ensures
+  | else-finite_motor w1 ↦ absurd (false≢true (sym w1.if-finite_motor.false ∙ sym w1.value-is ∙ c.if-finite_motor-2.true))
+]
 
-pub returns-then-not-finite_motor-2 : goal.returns-then-not-finite_motor-2
-returns-then-not-finite_motor-2 c =
-    rw (drives-tried, holds c.finite_motor.ensures (ap not c.if-not-finite_motor.false), fails c.finite_motor-2.ensures (ap not c.if-not-finite_motor-2.true))
-
-pub returns : goal.returns
-returns c =
-    rw (drives-tried, holds c.finite_motor.ensures (ap not c.if-not-finite_motor.false), holds c.finite_motor-2.ensures (ap not c.if-not-finite_motor-2.false)) c.finite_motor-3.ensures
+pub returns-else-finite_motor-2 : goal.returns-else-finite_motor-2
+returns-else-finite_motor-2 c = elim c.if-finite_motor.branch [
+  | then-finite_motor w1 ↦ rw (drives-tried, sym w1.if-finite_motor.ensures, sym w1.finite_motor-then-finite_motor.ensures ∙ sym w1.value-is ∙ c.if-finite_motor-2.false) c.if-finite_motor-2.false
+  | else-finite_motor w1 ↦ rw (drives-tried, sym w1.if-finite_motor.ensures) c.if-finite_motor-2.false
+]

@@ -1,5 +1,5 @@
 -- `impulses_at` meets its contract. Before turn i the array holds the first i impulses, filled up to six.
-use Prim.Native.Nat.{◌-◌, ◌≤◌}
+use Prim.Native.Nat.{◌≤◌}
 use mathlib.Core.Path.{◌≡◌}
 use lib.ListN.{length}
 use Rattle.floats.specs.Operators.{bits}
@@ -10,6 +10,3 @@ use Rattle.spatial_model.proofs.joint_rows.impulses_at.Given as goal
 
 abbrev pub invariant-loop-i : goal.invariant-loop-i
 invariant-loop-i l = (l.i ≤ l.n) × (length l.out ≡ 9) × (l.out ≡ filled 9 (bits 0) (impulses_at space l.rows l.k l.i))
-
-abbrev pub decreases-loop-i : goal.decreases-loop-i
-decreases-loop-i l = l.n - l.i

@@ -1,26 +1,29 @@
 -- `finite_rotation` meets its contract: each test is tried where those before it hold.
-use mathlib.Core.Bool.{not}
-use mathlib.Core.Path.{ap}
-use Rattle.multibody.proofs.RuleLaws.{holds, fails}
+use mathlib.Core.Path.{sym, ◌∙◌}
+use mathlib.Core.Bool.{false≢true}
 use Rattle.spatial_model.specs.Refusals.{finite_rotation}
 use Rattle.spatial_model.proofs.refusals.finite_rotation.Goals as goal
+use Rattle.spatial_model.proofs.refusals.finite_rotation.Goals.{then-is_finite, else-is_finite, then-is_finite-2, else-is_finite-2}
 
-pub returns-then-not-is_finite : goal.returns-then-not-is_finite
+pub returns-then-is_finite-3 : goal.returns-then-is_finite-3
 unfolding finite_rotation
-returns-then-not-is_finite c =
-    rw (fails c.is_finite.ensures (ap not c.if-not-is_finite.true))
+returns-then-is_finite-3 c = elim c.if-is_finite-2.branch [
+  | then-is_finite-2 w2 ↦ elim c.if-is_finite.branch [
+    | then-is_finite w1 ↦ rw (sym w1.if-is_finite.ensures, sym w1.is_finite-then-is_finite.ensures ∙ sym w1.value-is ∙ w2.if-is_finite-2.true, sym w2.is_finite-then-is_finite-2.ensures ∙ sym w2.value-is ∙ c.if-is_finite-3.true) c.is_finite-then-is_finite-3.ensures
+    | else-is_finite w1 ↦ absurd (false≢true (sym w1.if-is_finite.false ∙ sym w1.value-is ∙ w2.if-is_finite-2.true))
+  ]
+  | else-is_finite-2 w2 ↦ absurd (false≢true (sym w2.if-is_finite-2.false ∙ sym w2.value-is ∙ c.if-is_finite-3.true))
+]
 
-pub returns-then-not-is_finite-2 : goal.returns-then-not-is_finite-2
+pub returns-else-is_finite-3 : goal.returns-else-is_finite-3
 unfolding finite_rotation
-returns-then-not-is_finite-2 c =
-    rw (holds c.is_finite.ensures (ap not c.if-not-is_finite.false), fails c.is_finite-2.ensures (ap not c.if-not-is_finite-2.true))
-
-pub returns-then-not-is_finite-3 : goal.returns-then-not-is_finite-3
-unfolding finite_rotation
-returns-then-not-is_finite-3 c =
-    rw (holds c.is_finite.ensures (ap not c.if-not-is_finite.false), holds c.is_finite-2.ensures (ap not c.if-not-is_finite-2.false), fails c.is_finite-3.ensures (ap not c.if-not-is_finite-3.true))
-
-pub returns : goal.returns
-unfolding finite_rotation
-returns c =
-    rw (holds c.is_finite.ensures (ap not c.if-not-is_finite.false), holds c.is_finite-2.ensures (ap not c.if-not-is_finite-2.false), holds c.is_finite-3.ensures (ap not c.if-not-is_finite-3.false)) c.is_finite-4.ensures
+returns-else-is_finite-3 c = elim c.if-is_finite-2.branch [
+  | then-is_finite-2 w2 ↦ elim c.if-is_finite.branch [
+    | then-is_finite w1 ↦ rw (sym w1.if-is_finite.ensures, sym w1.is_finite-then-is_finite.ensures ∙ sym w1.value-is ∙ w2.if-is_finite-2.true, sym w2.is_finite-then-is_finite-2.ensures ∙ sym w2.value-is ∙ c.if-is_finite-3.false) c.if-is_finite-3.false
+    | else-is_finite w1 ↦ absurd (false≢true (sym w1.if-is_finite.false ∙ sym w1.value-is ∙ w2.if-is_finite-2.true))
+  ]
+  | else-is_finite-2 w2 ↦ elim c.if-is_finite.branch [
+    | then-is_finite w1 ↦ rw (sym w1.if-is_finite.ensures, sym w1.is_finite-then-is_finite.ensures ∙ sym w1.value-is ∙ w2.if-is_finite-2.false) c.if-is_finite-3.false
+    | else-is_finite w1 ↦ rw (sym w1.if-is_finite.ensures) c.if-is_finite-3.false
+  ]
+]

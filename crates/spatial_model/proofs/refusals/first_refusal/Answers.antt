@@ -1,19 +1,20 @@
--- `first_refusal` meets its contract: it tries rules 1 and 2, then 3, 17, 4 and 5 together, then 6, 7 and 8, and answers the first that fails.
+-- `first_refusal` meets its contract: it tries rules 1 and 2, then 3, 17, 4 and 5 together, then 6 and 7, and answers the first that fails.
 use Prim.Native.Nat.{ℕ, ◌≤◌, ◌<◌}
 use mathlib.Core.Path.{◌≡◌, refl, sym, ap, ◌∙◌}
-use mathlib.Core.Bool.{Bool, true, false, not, ◌&&◌, ◌||◌}
+use mathlib.Core.Bool.{Bool, true, false, not, ◌&&◌}
 use mathlib.Core.List.{List, [], ◌∷◌, ◌++◌}
 use mathlib.Core.Logic.{◌≢◌}
 use native.Mathlib.Omega.{arith}
-use borrow.Author.Tests.{lt-ltb, le-ltb, not-true, not-false}
+use borrow.Author.Tests.{lt-ltb, le-ltb}
 use lib.Ieee.{Float, lt}
 use Rattle.floats.specs.Operators.{bits}
 use Rattle.spatial_model.specs.Model.{model_of}
 use Rattle.multibody.specs.Model.{most_bodies, most_joints, Model}
-use Rattle.multibody.specs.Counts.{body_count, joint_count, rows_before, total_rows}
-use Rattle.multibody.specs.Rules.{Rule, rule, refusal, all, at_most}
+use Rattle.multibody.specs.Counts.{body_count, joint_count}
+use Rattle.multibody.specs.Rules.{Rule, rule, refusal, all}
 use Rattle.multibody.specs.Refusals.{finite_params, finite_body, finite_joint, all_finite, model_rules, model_rules_with}
 use Rattle.spatial_model.specs.Spatial.{joint_rules, space, spatial}
+use Rattle.multibody.proofs.AnswerLaws.{not-granted, passed-on}
 use Rattle.multibody.proofs.CountLaws.{bodies-fit, joints-words, joints-numbers}
 use Rattle.multibody.proofs.RuleLaws.{holds, fails, no-rules, rule-holds, rule-fails, granted-append, refused-append}
 use Rattle.spatial_model.proofs.refusals.first_refusal.Goals as goal
@@ -29,12 +30,9 @@ together true false true false = refl
 together true false false j = refl
 
 -- the rules in turn, from the counts that the code has
-module _ (m : Model) (arguments handed : Bool) (room : ℕ) {n joints : ℕ} (b : n ≡ body_count space m.bodies) (j : joints ≡ joint_count space m.words m.numbers) where
-  abbrev eighth : Rule
-  eighth = rule 8 (not handed || at_most room (total_rows space m.words m.numbers))
-
+module _ (m : Model) (arguments : Bool) {n joints : ℕ} (b : n ≡ body_count space m.bodies) (j : joints ≡ joint_count space m.words m.numbers) where
   abbrev rules : List Rule
-  rules = model_rules spatial m arguments ++ (eighth ∷ [])
+  rules = model_rules spatial m arguments
 
   many-bodies : most_bodies < n → 1 ≡ refusal rules
   unfolding model_rules_with
@@ -46,7 +44,7 @@ module _ (m : Model) (arguments handed : Bool) (room : ℕ) {n joints : ℕ} (b 
 
   last : List Rule
   last =
-      rule 6 (all_finite spatial m.params m.bodies n m.words m.numbers joints arguments) ∷ rule 7 (not (lt m.params.dt (bits 0))) ∷ eighth ∷ []
+      rule 6 (all_finite spatial m.params m.bodies n m.words m.numbers joints arguments) ∷ rule 7 (not (lt m.params.dt (bits 0))) ∷ []
 
   module _ (h : n ≤ most_bodies) (g : joints ≤ most_joints) {k : ℕ} (e : k ≡ refusal (joint_rules m.bodies m.words joints)) where
     few : refusal rules ≡ refusal (joint_rules m.bodies m.words joints ++ last)
@@ -68,7 +66,7 @@ module _ (m : Model) (arguments handed : Bool) (room : ℕ) {n joints : ℕ} (b 
       unfolding last
       not_finite q = sym (joints-hold ∙ rule-fails _ _ (fails sixth q))
 
-      finite : not t ≡ false → refusal rules ≡ refusal (rule 7 (not (lt m.params.dt (bits 0))) ∷ eighth ∷ [])
+      finite : not t ≡ false → refusal rules ≡ refusal (rule 7 (not (lt m.params.dt (bits 0))) ∷ [])
       unfolding last
       finite q = joints-hold ∙ rule-holds _ _ (holds sixth q)
 
@@ -76,34 +74,23 @@ module _ (m : Model) (arguments handed : Bool) (room : ℕ) {n joints : ℕ} (b 
         negative : lt dt (bits 0) ≡ true → 7 ≡ refusal rules
         negative l = sym (finite q ∙ rule-fails _ _ (ap not (rw d at l)))
 
-        positive : lt dt (bits 0) ≡ false → refusal rules ≡ refusal (eighth ∷ [])
-        positive l = finite q ∙ rule-holds _ _ (ap not (rw d at l))
-
-        module _ (l : lt dt (bits 0) ≡ false) where
-          not-handed : handed ≡ false → 0 ≡ refusal rules
-          not-handed y = sym (positive l ∙ rule-holds _ _ (rw y) ∙ no-rules)
-
-          module _ (y : handed ≡ true) {total : ℕ} (w : total ≡ rows_before space m.words joints) where
-            no_room : room < total → 8 ≡ refusal rules
-            no_room s = sym (positive l ∙ rule-fails _ _ (rw y (ap not (lt-ltb _ _ (rw (w, j) at s)))))
-
-            granted : total ≤ room → 0 ≡ refusal rules
-            granted s = sym (positive l ∙ rule-holds _ _ (rw y (ap not (le-ltb _ _ (rw (w, j) at s)))) ∙ no-rules)
+        positive : lt dt (bits 0) ≡ false → 0 ≡ refusal rules
+        positive l = sym (finite q ∙ rule-holds _ _ (ap not (rw d at l)) ∙ no-rules)
 
 pub returns-then-n-gt-MOST_BODIES : goal.returns-then-n-gt-MOST_BODIES
 returns-then-n-gt-MOST_BODIES c header arguments d f =
-    many-bodies (model_of header c.args.bodies.now c.args.words.now c.args.numbers.now) arguments c.args.handed c.args.room c.body_count-n.ensures c.joint_count-joints.ensures c.if-n-gt-MOST_BODIES.true
+    many-bodies (model_of header c.args.bodies.now c.args.words.now c.args.numbers.now) arguments c.body_count-n.ensures c.joint_count-joints.ensures c.if-n-gt-MOST_BODIES.true
 
 pub returns-then-joints-gt-MOST_JOINTS : goal.returns-then-joints-gt-MOST_JOINTS
 returns-then-joints-gt-MOST_JOINTS c header arguments d f =
-    many-joints (model_of header c.args.bodies.now c.args.words.now c.args.numbers.now) arguments c.args.handed c.args.room c.body_count-n.ensures c.joint_count-joints.ensures c.if-n-gt-MOST_BODIES.false c.if-joints-gt-MOST_JOINTS.true
+    many-joints (model_of header c.args.bodies.now c.args.words.now c.args.numbers.now) arguments c.body_count-n.ensures c.joint_count-joints.ensures c.if-n-gt-MOST_BODIES.false c.if-joints-gt-MOST_JOINTS.true
 
-pub joints_refusal-k-requires : goal.joints_refusal-k-requires
-joints_refusal-k-requires c = rw c.joint_count-joints.ensures (joints-words space _ _)
+pub joints_refusal-requires : goal.joints_refusal-requires
+joints_refusal-requires c = rw c.joint_count-joints.ensures (joints-words space _ _)
 
-pub returns-then-k-ne0 : goal.returns-then-k-ne0
-returns-then-k-ne0 c header arguments d f =
-    joints-fail (model_of header c.args.bodies.now c.args.words.now c.args.numbers.now) arguments c.args.handed c.args.room c.body_count-n.ensures c.joint_count-joints.ensures c.if-n-gt-MOST_BODIES.false c.if-joints-gt-MOST_JOINTS.false c.joints_refusal-k.ensures c.if-k-ne0.true
+pub returns-in_err-joints_refusal : goal.returns-in_err-joints_refusal
+returns-in_err-joints_refusal c header arguments d f =
+    rw (passed-on _ c.from_residual.ensures.1) (joints-fail (model_of header c.args.bodies.now c.args.words.now c.args.numbers.now) arguments c.body_count-n.ensures c.joint_count-joints.ensures c.if-n-gt-MOST_BODIES.false c.if-joints-gt-MOST_JOINTS.false c.in_err-joints_refusal.ensures (not-granted _))
 
 pub all_finite-requires : goal.all_finite-requires
 all_finite-requires c =
@@ -111,23 +98,12 @@ all_finite-requires c =
 
 pub returns-then-not-all_finite : goal.returns-then-not-all_finite
 returns-then-not-all_finite c header arguments d f =
-    not_finite (model_of header c.args.bodies.now c.args.words.now c.args.numbers.now) arguments c.args.handed c.args.room c.body_count-n.ensures c.joint_count-joints.ensures c.if-n-gt-MOST_BODIES.false c.if-joints-gt-MOST_JOINTS.false c.joints_refusal-k.ensures c.if-k-ne0.false f c.all_finite.ensures (ap not c.if-not-all_finite.true)
+    not_finite (model_of header c.args.bodies.now c.args.words.now c.args.numbers.now) arguments c.body_count-n.ensures c.joint_count-joints.ensures c.if-n-gt-MOST_BODIES.false c.if-joints-gt-MOST_JOINTS.false c.in_ok-joints_refusal.ensures refl f c.all_finite.ensures (ap not c.if-not-all_finite.true)
 
 pub returns-then-dt : goal.returns-then-dt
 returns-then-dt c header arguments d f =
-    negative (model_of header c.args.bodies.now c.args.words.now c.args.numbers.now) arguments c.args.handed c.args.room c.body_count-n.ensures c.joint_count-joints.ensures c.if-n-gt-MOST_BODIES.false c.if-joints-gt-MOST_JOINTS.false c.joints_refusal-k.ensures c.if-k-ne0.false f c.all_finite.ensures (ap not c.if-not-all_finite.false) d c.if-dt.true
-
-pub returns-then-not-handed : goal.returns-then-not-handed
-returns-then-not-handed c header arguments d f =
-    not-handed (model_of header c.args.bodies.now c.args.words.now c.args.numbers.now) arguments c.args.handed c.args.room c.body_count-n.ensures c.joint_count-joints.ensures c.if-n-gt-MOST_BODIES.false c.if-joints-gt-MOST_JOINTS.false c.joints_refusal-k.ensures c.if-k-ne0.false f c.all_finite.ensures (ap not c.if-not-all_finite.false) d c.if-dt.false (not-true c.args.handed (ap not c.if-not-handed.true))
-
-pub rows_before-requires : goal.rows_before-requires
-rows_before-requires c = rw c.joint_count-joints.ensures (joints-words space _ _)
-
-pub returns-then-rows_before-room : goal.returns-then-rows_before-room
-returns-then-rows_before-room c header arguments d f =
-    no_room (model_of header c.args.bodies.now c.args.words.now c.args.numbers.now) arguments c.args.handed c.args.room c.body_count-n.ensures c.joint_count-joints.ensures c.if-n-gt-MOST_BODIES.false c.if-joints-gt-MOST_JOINTS.false c.joints_refusal-k.ensures c.if-k-ne0.false f c.all_finite.ensures (ap not c.if-not-all_finite.false) d c.if-dt.false (not-false c.args.handed (ap not c.if-not-handed.false)) c.rows_before.ensures c.if-rows_before-room.true
+    negative (model_of header c.args.bodies.now c.args.words.now c.args.numbers.now) arguments c.body_count-n.ensures c.joint_count-joints.ensures c.if-n-gt-MOST_BODIES.false c.if-joints-gt-MOST_JOINTS.false c.in_ok-joints_refusal.ensures refl f c.all_finite.ensures (ap not c.if-not-all_finite.false) d c.if-dt.true
 
 pub returns : goal.returns
 returns c header arguments d f =
-    granted (model_of header c.args.bodies.now c.args.words.now c.args.numbers.now) arguments c.args.handed c.args.room c.body_count-n.ensures c.joint_count-joints.ensures c.if-n-gt-MOST_BODIES.false c.if-joints-gt-MOST_JOINTS.false c.joints_refusal-k.ensures c.if-k-ne0.false f c.all_finite.ensures (ap not c.if-not-all_finite.false) d c.if-dt.false (not-false c.args.handed (ap not c.if-not-handed.false)) c.rows_before.ensures c.if-rows_before-room.false
+    positive (model_of header c.args.bodies.now c.args.words.now c.args.numbers.now) arguments c.body_count-n.ensures c.joint_count-joints.ensures c.if-n-gt-MOST_BODIES.false c.if-joints-gt-MOST_JOINTS.false c.in_ok-joints_refusal.ensures refl f c.all_finite.ensures (ap not c.if-not-all_finite.false) d c.if-dt.false

@@ -9,6 +9,3 @@ use Rattle.spatial_model.proofs.refusals.masks_fit.Given as goal
 
 abbrev pub invariant-loop-c : goal.invariant-loop-c
 invariant-loop-c l = (l.c ≤ four_masks) × (all (masks_place + l.c) (four_masks - l.c) (λ c'. at_most all_axes (word words_width l.words l.j c')) ≡ masks_fit l.words l.j)
-
-abbrev pub decreases-loop-c : goal.decreases-loop-c
-decreases-loop-c l = four_masks - l.c

@@ -1,7 +1,0 @@
-use borrow.Author.Rules.{rules}
-use Rattle.multibody.specs.Counts.{body_count}
-use Rattle.model.proofs.counts.body_count.Goals as goal
-
-pub returns : goal.returns
-unfolding body_count
-returns c = search rules

@@ -1,5 +1,0 @@
-use native.Mathlib.Nat.{add_assoc}
-use Rattle.model.proofs.store.six_at.Goals as goal
-
-pub returns : goal.returns
-returns c = simp add_assoc

@@ -1,0 +1,12 @@
+-- `rows_from` meets its contract. Before turn i the array holds the first i rows, filled up to six.
+use Prim.Native.Nat.{◌≤◌}
+use mathlib.Core.Path.{◌≡◌}
+use lib.ListN.{length}
+use Rattle.rows.specs.RowIds.{filled}
+use Rattle.spatial_rows.specs.Update.{blank_row}
+use Rattle.multibody.specs.Calls.{rows_from}
+use Rattle.spatial_model.specs.Spatial.{space}
+use Rattle.spatial_model.proofs.joint_rows.rows_from.Given as goal
+
+abbrev pub invariant-loop-i : goal.invariant-loop-i
+invariant-loop-i l = (l.i ≤ l.n) × (length l.out ≡ 9) × (l.out ≡ filled 9 blank_row (rows_from space l.rows l.k l.i))

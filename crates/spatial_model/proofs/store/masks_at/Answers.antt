@@ -1,6 +1,0 @@
-use Rattle.spatial_model.specs.Store.{masks_at}
-use Rattle.spatial_model.proofs.store.masks_at.Goals as goal
-
-pub returns : goal.returns
-unfolding masks_at
-returns c = c.spatial_masks.ensures
