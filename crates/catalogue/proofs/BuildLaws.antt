@@ -1,5 +1,6 @@
 -- After a granted build each joint's rows in storage are those that the build makes of it (`built-rows`): what it makes of a joint depends on that joint's own rows
 -- alone, and no other joint's turn writes them.
+use Rattle.std.specs.Prelude.{Option}
 use Prim.Native.Nat.{ℕ, zero, suc, ◌+◌, ◌-◌, ◌≤◌, ◌<◌}
 use mathlib.Core.Path.{◌≡◌, refl, sym, ap, ◌∙◌}
 use mathlib.Core.Logic.{◌≢◌}
@@ -11,7 +12,6 @@ use lib.Ieee.{Float}
 use Rattle.floats.specs.Operators.{bits}
 use Rattle.rows.specs.RowIds.{filled}
 use Rattle.rows.specs.Update.{blank_row}
-use Rattle.rows.specs.declared.joint_constraint_builder.Warmstart.{Warmstart}
 use Rattle.rows.specs.declared.joint_velocity_constraint.JointConstraint.{JointConstraint}
 use Rattle.model.specs.Store.{row_at}
 use Rattle.multibody.specs.JointRows.{impulses_at, row_count, built_rows}
@@ -49,7 +49,7 @@ module _ {S Row Vel : Type 0} {l : Layout} (a : Side S Row Vel l) where
   others_keep j i c (suc d) q s h =
       others_keep j i c d (q + 1) (a.work q s) (λ p l u. h p (omega arith) (omega arith)) ∙ a.row_kept q j i s c (h q (omega arith) (omega arith))
 
-module _ (m : Model) (warm : Warmstart) (substep : ℕ) (rows : List Float) (room : Room plane m rows) (j : ℕ) (h : j < joint_count plane m.words m.numbers) where
+module _ (m : Model) (warm : Option Float) (substep : ℕ) (rows : List Float) (room : Room plane m rows) (j : ℕ) (h : j < joint_count plane m.words m.numbers) where
   abbrev work : ℕ → List Float → List Float
   work = build_one plane m warm substep
 

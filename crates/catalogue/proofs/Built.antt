@@ -1,4 +1,5 @@
 -- The listed ids are those that a build gives an enabled joint (`gives`), and each enabled joint of a model that a build does not refuse has its line (`catalogued`).
+use Rattle.std.specs.Prelude.{Option}
 use Prim.Native.Nat.{ℕ, ◌+◌, ◌≤◌, ◌<◌}
 use mathlib.Core.Path.{◌≡◌, refl, sym, ap, ◌∙◌}
 use mathlib.Core.Bool.{true, not}
@@ -13,7 +14,6 @@ use Rattle.rows.specs.Update.{row_of, update_of}
 use Rattle.rows.specs.Builder.{warmed_all, builder_update_of}
 use Rattle.rows.specs.declared.generic_joint.GenericJoint.{GenericJoint}
 use Rattle.rows.specs.declared.generic_joint.Masks.{Masks}
-use Rattle.rows.specs.declared.joint_constraint_builder.Warmstart.{Warmstart}
 use Rattle.rows.proofs.WarmedRows.{context-joint}
 use Rattle.model.specs.Layout.{words_width, masks_place}
 use Rattle.model.specs.Records.{word}
@@ -56,7 +56,7 @@ hold-both (q ∷ qs) rs h k = (h.0, hold-both qs rs h.1 k)
 
 -- ---- a build that is not refused
 
-module _ (m : Model) (warm : Warmstart) (substep : ℕ) (rows : List Float) (granted : refusal_of (run planar (build warm substep) m rows).answer ≡ 0) where
+module _ (m : Model) (warm : Option Float) (substep : ℕ) (rows : List Float) (granted : refusal_of (run planar (build warm substep) m rows).answer ≡ 0) where
   no-rule : refusal (rules_of planar (build warm substep) m rows) ≡ 0
   no-rule = sym (told planar-laws (build warm substep) m rows) ∙ granted
 

@@ -1,5 +1,6 @@
 -- Every line of the catalogue is some joint's: between a body and the world a joint with the line's masks is built (`every-line`), so that `catalogued` says something
 -- of each line.
+use Rattle.std.specs.Prelude.{None}
 use Prim.Native.Nat.{ℕ, ◌<◌}
 use mathlib.Core.Path.{◌≡◌, refl, ap, ◌∙◌}
 use mathlib.Core.Bool.{false, not}
@@ -13,7 +14,6 @@ use Rattle.floats.specs.Scalar.{is_finite}
 use Rattle.floats.specs.Sign.{abs_of}
 use Rattle.rows.specs.declared.generic_joint.Masks.{Masks}
 use Rattle.rows.specs.declared.integration_parameters.IntegrationParameters.{IntegrationParameters}
-use Rattle.rows.specs.declared.joint_constraint_builder.Warmstart.TheVariants.{Cold}
 use Rattle.model.specs.Store.{world, masks_at, enabled_at, body1_at, body2_at, center_at}
 use Rattle.multibody.specs.Model.{Model, model}
 use Rattle.multibody.specs.Counts.{body_count, joint_count, row_capacity, rows_before, Room}
@@ -74,17 +74,17 @@ module _ (k : Masks) (h : Legal k) where
   unfolding joint_count row_capacity rows_before
   room = omega (arith, few-rows planar-laws (sample k).words 0 refl)
 
-  granted : Hold (rules_of planar (build Cold 0) (sample k) storage)
+  granted : Hold (rules_of planar (build None 0) (sample k) storage)
   unfolding rules_of storage_rule seeds_rule reads_rows finite_warm
   granted =
-      hold-both (first_rules planar (build Cold 0) (sample k) storage) (own_rules planar (build Cold 0) (sample k))
+      hold-both (first_rules planar (build None 0) (sample k) storage) (own_rules planar (build None 0) (sample k))
       (hold-both (model_rules planar (sample k) _) (storage_rule plane (sample k) storage ∷ [])
       (all_hold (model_rules planar (sample k) _) (model-numbered planar-laws (sample k) _ _) (rules-granted planar-laws (sample k) _ rules refl)) (ap not (le-ltb _ _ room), tt))
       (refl, tt)
 
-pub every-line : (n : ℕ) → n < length choices → (refusal_of (run planar (build Cold 0) (sample (entry n)) storage).answer ≡ 0) × OnLine (sample (entry n)) 0 n
+pub every-line : (n : ℕ) → n < length choices → (refusal_of (run planar (build None 0) (sample (entry n)) storage).answer ≡ 0) × OnLine (sample (entry n)) 0 n
 unfolding joint_count enabled_at masks_at
 every-line n h = (
-  told planar-laws (build Cold 0) (sample (entry n)) storage ∙ hold-granted (rules_of planar (build Cold 0) (sample (entry n)) storage) (granted (entry n) (legal n h)),
+  told planar-laws (build None 0) (sample (entry n)) storage ∙ hold-granted (rules_of planar (build None 0) (sample (entry n)) storage) (granted (entry n) (legal n h)),
   record { there = omega arith; enabled = refl; masks = refl },
 )

@@ -1,4 +1,4 @@
--- Texts of a list's elements written one after the other; an id's kind in a table; a joint's ids as the code holds them; lines.
+-- Texts of a list's elements written one after the other; an id: its kind and its axis; a joint's ids as the code holds them; lines.
 use Prim.Native.Nat.{ℕ, zero, suc, ◌+◌, ◌≤◌, ◌<◌}
 use mathlib.Core.Path.{◌≡◌, refl, sym, ap, ◌∙◌}
 use mathlib.Core.List.{List, [], ◌∷◌, ◌++◌, map, flat_map}
@@ -15,11 +15,11 @@ use Rattle.rows.proofs.Filled.{length-filled}
 use Rattle.rows.proofs.RowIdsCount.{at-most-six}
 use Rattle.rows.proofs.RowArrays.{row_ids_array-len, row_ids_array-ids}
 use Rattle.model.specs.Store.{axis_of}
-use Rattle.texts.specs.Ascii.{ascii, LF, SPACE}
-use Rattle.texts.specs.Sink.{Appended, entry as word}
+use Rattle.texts.specs.Ascii.{LF, SPACE}
+use Rattle.texts.specs.Sink.{Appended}
 use Rattle.texts.proofs.SinkLaws.{appended-none, appended_then, appended-text}
 use Rattle.catalogue.specs.Choices.{choices, choice_of, entry, Legal}
-use Rattle.catalogue.specs.Text.{axis_digit, kind_index, id_text, spaced_id, ids_text, head_text, line_text, catalogue_text, line_at}
+use Rattle.catalogue.specs.Text.{axis_digit, kind_text, id_text, spaced_id, ids_text, head_text, line_text, catalogue_text, line_at}
 use Rattle.catalogue.proofs.FlatLaws.{flat-turn, flat-none}
 use Rattle.catalogue.proofs.ChoicesLaws.{choices-length, entry_at, legal-choice}
 
@@ -40,16 +40,10 @@ module _ {A : Type 0} (f : A → List ℕ) (l : List A) {out : List ℕ} {at : �
 
 -- ---- an id
 
-pub id-entry : (id : WritebackId) (i d : ℕ) → i ≡ kind_index id → d ≡ axis_digit (axis_of id) → {out : List ℕ} {at : ℕ} {out' : List ℕ} {r : ℕ}
-    → Appended out at (word i (ascii "Dof\nLimit\nMotor\n") ++ d ∷ []) out' r → Appended out at (id_text id) out' r
-unfolding word
-id-entry id i d e f s =
-    appended-text (ap (λ (n : ℕ). word n (ascii "Dof\nLimit\nMotor\n") ++ d ∷ []) e ∙ ap (λ (m : ℕ). word (kind_index id) (ascii "Dof\nLimit\nMotor\n") ++ m ∷ []) f ∙ go id) s
-  where
-    go : (id : WritebackId) → word (kind_index id) (ascii "Dof\nLimit\nMotor\n") ++ axis_digit (axis_of id) ∷ [] ≡ id_text id
-    go (Dof i) = refl
-    go (Limit i) = refl
-    go (Motor i) = refl
+pub id-words : (id : WritebackId) → kind_text id ++ axis_digit (axis_of id) ∷ [] ≡ id_text id
+id-words (Dof i) = refl
+id-words (Limit i) = refl
+id-words (Motor i) = refl
 
 -- ---- a joint's ids in the array that the code holds
 

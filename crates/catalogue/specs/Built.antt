@@ -1,12 +1,11 @@
 -- Request R-8: "The listed ids are shown to be those that a build gives an enabled joint for any numbers that pass the check."
-use Rattle.std.specs.Prelude.{ℕ, ◌<◌, ◌≡◌, true, List, ◌++◌, map, length, Float}
+use Rattle.std.specs.Prelude.{ℕ, ◌<◌, ◌≡◌, true, List, ◌++◌, map, length, Float, Option}
 use Rattle.floats.specs.Operators.{bits}
 use Rattle.rows.specs.GenericJoint.{is_enabled}
 use Rattle.rows.specs.RowIds.{row_ids, filled}
 use Rattle.rows.specs.Finalize.{finalize_of}
 use Rattle.rows.specs.Update.{row_of}
 use Rattle.rows.specs.Builder.{joint_context_of, warmed_all}
-use Rattle.rows.specs.declared.joint_constraint_builder.Warmstart.{Warmstart}
 use Rattle.rows.specs.declared.joint_velocity_constraint.JointConstraint.{JointConstraint}
 use Rattle.rows.specs.declared.joint_velocity_constraint.RowContext.{RowContext}
 use Rattle.rows.specs.declared.joint_velocity_constraint.WritebackId.{WritebackId}
@@ -40,7 +39,7 @@ abbrev pub last_at : Model → ℕ → List Float → List Float
 last_at m j rows = filled 6 (bits 0) (impulses_at plane rows (rows_before plane m.words j) (row_count plane m.words j))
 
 -- The build gives joint j these ids.
-pub record Gives (m : Model) (warm : Warmstart) (substep : ℕ) (rows : List Float) (j : ℕ) (ids : List WritebackId) : Type 0 where
+pub record Gives (m : Model) (warm : Option Float) (substep : ℕ) (rows : List Float) (j : ℕ) (ids : List WritebackId) : Type 0 where
   -- the ids of its two groups, one after the other
   pub one : List WritebackId
   pub two : List WritebackId
@@ -56,7 +55,7 @@ pub record Gives (m : Model) (warm : Warmstart) (substep : ℕ) (rows : List Flo
       run planar (read_rows j) o.after o.rows ≡ outcome (rows_read ids made) o.after o.rows
 
 -- joint j's line, and its ids are what the build gives the joint
-pub record HasLine (m : Model) (warm : Warmstart) (substep : ℕ) (rows : List Float) (j : ℕ) : Type 0 where
+pub record HasLine (m : Model) (warm : Option Float) (substep : ℕ) (rows : List Float) (j : ℕ) : Type 0 where
   pub line : ℕ
   pub inside : line < length choices
   pub on : OnLine m j line
@@ -65,5 +64,5 @@ pub record HasLine (m : Model) (warm : Warmstart) (substep : ℕ) (rows : List F
 -- Whatever a model and its numbers are: where a build is not refused, each enabled joint has its line.
 abbrev pub Catalogued : Type 0
 Catalogued =
-    (m : Model) (warm : Warmstart) (substep : ℕ) (rows : List Float) → refusal_of (run planar (build warm substep) m rows).answer ≡ 0
+    (m : Model) (warm : Option Float) (substep : ℕ) (rows : List Float) → refusal_of (run planar (build warm substep) m rows).answer ≡ 0
     → (j : ℕ) → j < joint_count plane m.words m.numbers → is_enabled (enabled_at m.words j) ≡ true → HasLine m warm substep rows j

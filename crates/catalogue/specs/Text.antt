@@ -21,11 +21,11 @@ id_text (Dof i) = ascii "Dof" ++ axis_digit i ∷ []
 id_text (Limit i) = ascii "Limit" ++ axis_digit i ∷ []
 id_text (Motor i) = ascii "Motor" ++ axis_digit i ∷ []
 
--- where a program finds the kind in its table
-abbrev pub kind_index : WritebackId → ℕ
-kind_index (Dof i) = 0
-kind_index (Limit i) = 1
-kind_index (Motor i) = 2
+-- its kind alone
+abbrev pub kind_text : WritebackId → List ℕ
+kind_text (Dof i) = ascii "Dof"
+kind_text (Limit i) = ascii "Limit"
+kind_text (Motor i) = ascii "Motor"
 
 -- a blank, and an id
 unfoldable pub spaced_id : WritebackId → List ℕ

@@ -5,35 +5,33 @@ ghost use Rattle.rows.specs.RowIds.{row_ids};
 ghost use Rattle.model.specs.Store.{axis_of};
 ghost use Rattle.texts.specs.Sink.{Appended, Wrote};
 ghost use Rattle.catalogue.specs.Choices.{choice_of};
-ghost use Rattle.catalogue.specs.Text.{axis_digit, kind_index, id_text, ids_text, head_text, line_text, catalogue_text, line_at};
+ghost use Rattle.catalogue.specs.Text.{axis_digit, kind_text, id_text, ids_text, head_text, line_text, catalogue_text, line_at};
 
 use crate::choices::{CHOICES, choice};
 use rows::generic_joint::Masks;
 use rows::joint_velocity_constraint::WritebackId;
 use rows::row_ids::{row_count, row_ids};
-use texts::sink::{has_room, length_to, put_byte, put_entry, put_text};
+use texts::sink::{has_room, length_to, put_byte, put_text};
 
 // ---- an id
 
 fn axis_digit(axis: usize) -> u8
     ensures { result ≡ axis_digit axis }
 {
-    if axis == 0 {
-        return b'0';
+    match axis {
+        0 => b'0',
+        1 => b'1',
+        _ => b'2',
     }
-    if axis == 1 {
-        return b'1';
-    }
-    b'2'
 }
 
-pub fn kind_index(id: WritebackId) -> usize
-    ensures { result ≡ kind_index id }
+pub fn kind_text(id: WritebackId) -> &'static [u8]
+    ensures { result.now ≡ kind_text id }
 {
     match id {
-        WritebackId::Dof(_) => 0,
-        WritebackId::Limit(_) => 1,
-        WritebackId::Motor(_) => 2,
+        WritebackId::Dof(_) => b"Dof",
+        WritebackId::Limit(_) => b"Limit",
+        WritebackId::Motor(_) => b"Motor",
     }
 }
 
@@ -41,19 +39,15 @@ pub fn axis_of(id: WritebackId) -> usize
     ensures { result ≡ axis_of id }
 {
     match id {
-        WritebackId::Dof(axis) => axis,
-        WritebackId::Limit(axis) => axis,
-        WritebackId::Motor(axis) => axis,
+        WritebackId::Dof(axis) | WritebackId::Limit(axis) | WritebackId::Motor(axis) => axis,
     }
 }
 
 pub fn put_id(out: &mut [u8], at: usize, id: WritebackId) -> usize
     ensures { Appended out.old at (id_text id) out.new result }
 {
-    let kind = kind_index(id);
-    let digit = axis_digit(axis_of(id));
-    let a = put_entry(&mut *out, at, b"Dof\nLimit\nMotor\n", kind);
-    put_byte(&mut *out, a, digit)
+    let a = put_text(out, at, kind_text(id));
+    put_byte(out, a, axis_digit(axis_of(id)))
 }
 
 // ---- a line
@@ -61,17 +55,11 @@ pub fn put_id(out: &mut [u8], at: usize, id: WritebackId) -> usize
 fn put_ids(out: &mut [u8], at: usize, k: Masks) -> usize
     ensures { Appended out.old at (ids_text (row_ids 2 1 k)) out.new result }
 {
-    let ids = row_ids(k);
-    let all = ids.ids;
-    let count = ids.len;
-    let mut next: usize = 0;
+    let made = row_ids(k);
     let mut end = at;
-    while next < count {
-        let named = all[next];
-        let id = named.id;
-        let a = put_byte(&mut *out, end, b' ');
-        end = put_id(&mut *out, a, id);
-        next += 1;
+    for next in 0..made.len {
+        let a = put_byte(out, end, b' ');
+        end = put_id(out, a, made.ids[next].id);
     }
     end
 }
@@ -91,7 +79,7 @@ fn put_head(out: &mut [u8], at: usize, k: Masks, count: usize) -> usize
         b' ',
         48 + count as u8,
     ];
-    put_text(&mut *out, at, &head)
+    put_text(out, at, &head)
 }
 
 fn put_line(out: &mut [u8], at: usize, n: u32) -> usize
@@ -99,29 +87,24 @@ fn put_line(out: &mut [u8], at: usize, n: u32) -> usize
     ensures { Appended out.old at (line_text (choice_of n)) out.new result }
 {
     let k = choice(n);
-    let first = put_head(&mut *out, at, k, row_count(k));
-    let last = put_ids(&mut *out, first, k);
-    put_byte(&mut *out, last, b'\n')
+    let first = put_head(out, at, k, row_count(k));
+    let last = put_ids(out, first, k);
+    put_byte(out, last, b'\n')
 }
 
 // Line n, if there is one.
 fn put_line_at(out: &mut [u8], n: u32) -> usize
     ensures { Appended out.old 0 (line_at n) out.new result }
 {
-    if n < CHOICES {
-        return put_line(&mut *out, 0, n);
-    }
-    0
+    if n < CHOICES { put_line(out, 0, n) } else { 0 }
 }
 
 fn put_catalogue(out: &mut [u8]) -> usize
     ensures { Appended out.old 0 catalogue_text out.new result }
 {
-    let mut n: u32 = 0;
-    let mut end: usize = 0;
-    while n < CHOICES {
-        end = put_line(&mut *out, end, n);
-        n += 1;
+    let mut end = 0;
+    for n in 0..CHOICES {
+        end = put_line(out, end, n);
     }
     end
 }
@@ -136,9 +119,10 @@ pub fn write_line(n: u32, out: &mut [u8]) -> usize
     let mut none = [0u8; 1];
     let len = put_line_at(&mut none, n);
     if has_room(len, out.len()) {
-        return put_line_at(&mut *out, n);
+        put_line_at(out, n)
+    } else {
+        length_to(len)
     }
-    length_to(len)
 }
 
 // The same with all lines, one after the other.
@@ -148,7 +132,8 @@ pub fn write_catalogue(out: &mut [u8]) -> usize
     let mut none = [0u8; 1];
     let len = put_catalogue(&mut none);
     if has_room(len, out.len()) {
-        return put_catalogue(&mut *out);
+        put_catalogue(out)
+    } else {
+        length_to(len)
     }
-    length_to(len)
 }

@@ -1,9 +1,7 @@
 -- A frame's substeps keep the joints, the number of bodies and all past the total (`steps-kept`). So everything reverts: what a frame's substeps leave past the total is as it was, so that the first numbers put back make the whole.
-use Rattle.std.proofs.Common.{◌≡◌, ℕ, zero, suc, ◌+◌, ◌-◌, ◌*◌, ◌/◌, ◌≤◌, Bool, true, false, cond, ltb, List, ◌++◌, length, take, drop, sym, refl, ap, ◌∙◌, arith, take-append-drop, length-take-le, drop-drop, take_at, ltb-false}
-use mathlib.Core.Bool.{false≢true}
+use Rattle.std.proofs.Common.{◌≡◌, ℕ, zero, suc, ◌+◌, ◌-◌, ◌*◌, ◌/◌, ◌≤◌, Bool, true, false, cond, ltb, List, ◌++◌, length, take, drop, sym, refl, ap, ◌∙◌, arith, take-append-drop, length-take-le, drop-drop, take_at, ltb-false, Option}
 use lib.Seq.{drop-length}
 use lib.Ieee.{Float}
-use Rattle.rows.specs.declared.joint_constraint_builder.Warmstart.{Warmstart}
 use Rattle.multibody.specs.Model.{Model}
 use Rattle.multibody.specs.Counts.{body_count, joint_count, total_rows, Room}
 use Rattle.multibody.specs.Calls.{Call, Outcome, granted_of, run}
@@ -16,8 +14,7 @@ use Rattle.model.specs.Planar.{plane, planar}
 use Rattle.multibody.proofs.PastTotal.{past-total}
 use Rattle.model.proofs.PlanarLaws.{planar-laws}
 use Rattle.frames.proofs.MovedLaws.{length_moved}
-use Rattle.frames.specs.Frames.{Moment, moment, leaves, moved_moment, Progress, progress, before_move, move_of, after_move, substep, substeps, steps_of, Reaches, OrBack}
-use Rattle.frames.specs.declared.frame.Reached.{Reached}
+use Rattle.frames.specs.Frames.{Moment, moment, leaves, moved_moment, Progress, progress, before_move, move_of, after_move, substep, substeps, steps_of}
 
 -- ---- the first k numbers put back
 
@@ -67,7 +64,7 @@ module _ (words : List ℕ) (numbers rows : List Float) (bodies : ℕ) where
         count = (run-counts planar-laws m s.rows c).bodies ∙ k.count;
       }
 
-  build-joints : (warm : Warmstart) (i : ℕ) → Joints (build warm i)
+  build-joints : (warm : Option Float) (i : ℕ) → Joints (build warm i)
   unfolding granted_of
   build-joints warm i m r = run-cases planar-laws (build warm i) m r (λ (o : Outcome plane). (o.after.words ≡ m.words) × (o.after.numbers ≡ m.numbers)) (λ _. (refl, refl)) (refl, refl)
 
@@ -83,7 +80,7 @@ module _ (words : List ℕ) (numbers rows : List Float) (bodies : ℕ) where
   unfolding granted_of
   bias-joints m r = run-cases planar-laws remove_bias m r (λ (o : Outcome plane). (o.after.words ≡ m.words) × (o.after.numbers ≡ m.numbers)) (λ _. (refl, refl)) (refl, refl)
 
-  module _ (warm : Warmstart) (sweeps : ℕ) where
+  module _ (warm : Option Float) (sweeps : ℕ) where
     before-kept : (i : ℕ) (s : Moment) → Kept s → Kept (before_move warm sweeps i s)
     unfolding before_move
     before-kept i s k =
@@ -157,31 +154,18 @@ few_joints words numbers h = go (length words / 12) (length numbers / 42) (omega
 
 -- ---- bodies and rows put back
 
-module _ (joints : ℕ) (warm : Warmstart) (sweeps n : ℕ) (m : Model) (rows : List Float) where
-  pub rows_back : (other saved left : List Float) (k : ℕ) (p : Progress) → p ≡ steps_of warm sweeps n (moment m rows) → joint_count plane m.words m.numbers ≤ joints → Room plane m rows
-      → (k ≤ length rows) × (k ≤ joints * 108) × ((t : ℕ) → t ≤ length rows → t ≤ joints * 108 → t ≤ k) → saved ≡ take k rows ++ drop k other → left ≡ take k saved ++ drop k p.left.rows → left ≡ rows
-  rows_back other saved left k p e few room bounds copied put =
+module _ (joints : ℕ) (warm : Option Float) (sweeps n : ℕ) (m : Model) (rows : List Float) where
+  pub rows_back : (other saved left moved : List Float) (k : ℕ) → (steps_of warm sweeps n (moment m rows)).left.rows ≡ moved → joint_count plane m.words m.numbers ≤ joints → Room plane m rows
+      → (k ≤ length rows) × (k ≤ joints * 108) × ((t : ℕ) → t ≤ length rows → t ≤ joints * 108 → t ≤ k) → saved ≡ take k rows ++ drop k other → left ≡ take k saved ++ drop k moved → left ≡ rows
+  rows_back other saved left moved k e few room bounds copied put =
       let fits = total-fits joints m rows few room in
       let end = total_rows plane m.words m.numbers * row_width in
       let kept = steps-kept m.words m.numbers rows (body_count plane m.bodies) warm sweeps n (moment m rows) (record { words-kept = refl; numbers-kept = refl; past = refl; count = refl }) in
-      let past : drop end p.left.rows ≡ drop end rows = rw e kept.past in
-      put ∙ put_back rows other p.left.rows saved k bounds.0 copied (drop-later p.left.rows rows end k (bounds.2 end fits.0 fits.1) past)
+      let past : drop end moved ≡ drop end rows = rw e at kept.past in
+      put ∙ put_back rows other moved saved k bounds.0 copied (drop-later moved rows end k (bounds.2 end fits.0 fits.1) past)
 
 pub bodies-back : (count : ℕ) (bodies other moved saved left : List Float) (k : ℕ) → body_count plane bodies ≤ count → length moved ≡ length bodies
     → (k ≤ length bodies) × (k ≤ count * 10 + 9) × ((t : ℕ) → t ≤ length bodies → t ≤ count * 10 + 9 → t ≤ k) → saved ≡ take k bodies ++ drop k other → left ≡ take k saved ++ drop k moved → left ≡ bodies
 bodies-back count bodies other moved saved left k few size bounds copied put =
     let all : length bodies ≤ k = bounds.2 (length bodies) (omega arith) (bodies-fit-copy count bodies few) in
     put ∙ put_back bodies other moved saved k bounds.0 copied (drop-end moved bodies k size all)
-
--- ---- what is left of substeps
-
-module _ {joints : ℕ} {r : Reached} {bodies : List Float} {words : List ℕ} {numbers rows : List Float} {all : Progress} (bodies₀ rows₀ : List Float) where
-  pub went-through : Reaches joints r bodies words numbers rows all → r.finite ≡ true → OrBack joints r bodies words numbers rows all bodies₀ rows₀
-  went-through e f =
-      let d : r.finite ≡ all.finite = ap (λ (p : Progress). p.finite) e.progress in
-      record { finite = d; through = λ _. e; back = λ g. absurd (false≢true (sym g ∙ sym d ∙ f)) }
-
-  pub put-all-back : {reached : Progress} → reached ≡ all → reached.finite ≡ false → r.finite ≡ false → bodies ≡ bodies₀ → rows ≡ rows₀ → OrBack joints r bodies words numbers rows all bodies₀ rows₀
-  put-all-back e f g b d =
-      let stop : all.finite ≡ false = ap (λ (p : Progress). p.finite) (sym e) ∙ f in
-      record { finite = g ∙ sym stop; through = λ t. absurd (false≢true (sym stop ∙ t)); back = λ _. (b, d) }

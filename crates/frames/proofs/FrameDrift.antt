@@ -1,8 +1,7 @@
 -- Document 02, R-13, in lists that mix the model's calls with frames: a frame keeps that the rows have their bodies' inverse masses (`frame-kept`), so that a granted sweep after any such list moves the exact momentum sum
 -- by at most its steps' bounds together (`moving-drift`). Assumes nothing.
-use Rattle.std.proofs.Common.{◌≡◌, ℕ, zero, suc, ◌+◌, ◌-◌, Bool, true, false, cond, eqb, List, refl, ◌∙◌}
+use Rattle.std.proofs.Common.{◌≡◌, ℕ, zero, suc, ◌+◌, ◌-◌, Bool, true, false, cond, eqb, List, refl, ◌∙◌, Option}
 use lib.Ieee.{Float}
-use Rattle.rows.specs.declared.joint_constraint_builder.Warmstart.{Warmstart}
 use Rattle.multibody.specs.Rules.{refusal}
 use Rattle.multibody.specs.Model.{Model}
 use Rattle.multibody.specs.Counts.{body_count}
@@ -48,7 +47,7 @@ moved-kept s k b =
     same-masses planar-laws planar-carries s.model s.model.params s.model.built (move_of s).bodies s.model.numbers s.rows refl
     (move-masses s.model.params.dt (body_count plane s.model.bodies) 0 s.model.bodies) (k b)
 
-module _ (warm : Warmstart) (sweeps : ℕ) where
+module _ (warm : Option Float) (sweeps : ℕ) where
   before-kept : (i : ℕ) (s : Moment) → KeptAt s → KeptAt (before_move warm sweeps i s)
   unfolding before_move
   before-kept i s k =

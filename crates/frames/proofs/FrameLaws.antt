@@ -1,8 +1,7 @@
 -- A frame's parts as the program runs them: a substep by its calls, the loop over the substeps, and the frame's rules.
-use Rattle.std.proofs.Common.{◌≡◌, ℕ, zero, suc, ◌+◌, ◌-◌, ◌<◌, ◌≤◌, Bool, true, false, ◌≢◌, List, [], ◌∷◌, length, pos, sym, ap, ◌∙◌, arith, le-ltb, lt-ltb, eq-eqb, ne_eqb}
+use Rattle.std.proofs.Common.{◌≡◌, ℕ, zero, suc, ◌+◌, ◌-◌, ◌<◌, ◌≤◌, Bool, true, false, ◌≢◌, List, [], ◌∷◌, length, pos, refl, sym, ap, ◌∙◌, arith, le-ltb, lt-ltb, eq-eqb, ne_eqb, Option}
 use lib.Ieee.{Float, binary32, of_int}
 use Rattle.floats.specs.Operators.{◌⊘◌}
-use Rattle.rows.specs.declared.joint_constraint_builder.Warmstart.{Warmstart}
 use Rattle.multibody.specs.Rules.{Rule, rule, refusal}
 use Rattle.multibody.specs.Model.{Model, most_bodies, with_bodies}
 use Rattle.multibody.specs.Counts.{body_count}
@@ -16,15 +15,11 @@ use Rattle.multibody.proofs.RefusalLaws.{first-numbered}
 use Rattle.multibody.proofs.CountLaws.{same-bodies}
 use Rattle.model.specs.Planar.{plane, planar}
 use Rattle.model.specs.Model.{model_of}
-use Rattle.model.specs.Answers.{sweep_answer, swept_as, sweep_answer_of}
-use Rattle.model.specs.declared.calls.Plain.{Plain}
-use Rattle.model.specs.declared.calls.SweepAnswer.{SweepAnswer}
 use Rattle.multibody.proofs.CallLaws.{too_many, few-rounds}
 use Rattle.model.proofs.PlanarLaws.{planar-laws}
-use Rattle.model.specs.declared.header.Header.{Header}
-use Rattle.frames.specs.declared.frame.FrameAnswer.{FrameAnswer}
+use Rattle.multibody.specs.declared.header.Header.{Header}
 use Rattle.frames.specs.Moving.{moved, move_from}
-use Rattle.frames.specs.Frames.{most_substeps, with_dt, substep_of, Moment, moment, leaves, Progress, progress, before_move, move_of, after_move, substep, substeps, steps_of, all_substeps, substeps_rule, own_rules, finite_frame, frame_rules, granted_frame, run_frame, Filled, header_with_dt, refused_frame, frame_answer, frame_counts, is_step}
+use Rattle.frames.specs.Frames.{most_substeps, with_dt, substep_of, Moment, moment, leaves, Progress, progress, before_move, move_of, after_move, substep, substeps, steps_of, all_substeps, substeps_rule, own_rules, finite_frame, frame_rules, granted_frame, run_frame, header_with_dt, is_step}
 
 -- ---- one substep
 
@@ -32,7 +27,7 @@ use Rattle.frames.specs.Frames.{most_substeps, with_dt, substep_of, Moment, mome
 abbrev left_by : Outcome plane → Moment
 left_by o = moment o.after o.rows
 
-module _ (warm : Warmstart) (sweeps i : ℕ) (s : Moment) where
+module _ (warm : Option Float) (sweeps i : ℕ) (s : Moment) where
   pub before-move : {m1 m2 m3 : Model} {r1 r2 r3 : List Float} {a1 a2 a3 : Answer plane} → outcome a1 m1 r1 ≡ run planar (build warm i) s.model s.rows
       → outcome a2 m2 r2 ≡ run planar warm_start m1 r1 → outcome a3 m3 r3 ≡ run planar (sweep sweeps) m2 r2 → moment m3 r3 ≡ before_move warm sweeps i s
   unfolding before_move
@@ -55,29 +50,14 @@ unfolding after_move
 after-move sweeps rows e1 e2 =
     ap (λ (o : Outcome plane). progress true (left_by o) o.answer) (e2 ∙ ap (λ (t : Moment). run planar (sweep sweeps) t.model t.rows) (ap left_by e1))
 
--- what a sweep answers is filled up, by both its promises
-pub last-filled : (joints : ℕ) {r : SweepAnswer} {m : Model} {rows : List Float} {o : Outcome plane} → outcome (sweep_answer joints r) m rows ≡ o → r ≡ sweep_answer_of o.answer → Filled joints r
-last-filled joints e d = d ∙ ap (λ (o : Outcome plane). sweep_answer_of o.answer) (sym e)
-
--- and so is what stands for the sweep that a substep with a new pose which is not finite does not make
-pub none_filled : (joints : ℕ) {r : SweepAnswer} → r ≡ swept_as (Plain.Refused 6) [] → Filled joints r
-unfolding sweep_answer_of
-none_filled joints e = rw e
-
 -- ---- the loop over the substeps
 
-module _ (warm : Warmstart) (sweeps i n : ℕ) (p : Progress) where
+module _ (warm : Option Float) (sweeps i n : ℕ) (p : Progress) where
   pub no-substep : n ≤ i → substeps warm sweeps i (n - i) p ≡ p
   unfolding substeps
   no-substep g =
       let z : n - i ≡ 0 = omega arith in
       rw z
-
-  pub stopped : i < n → p.finite ≡ false → substeps warm sweeps i (n - i) p ≡ p
-  unfolding substeps
-  stopped g f =
-      let z : n - i ≡ suc (n - (i + 1)) = omega arith in
-      rw (z, f)
 
   pub next-substep : i < n → p.finite ≡ true → {q : Progress} → q ≡ substep warm sweeps i p.left
       → substeps warm sweeps i (n - i) p ≡ substeps warm sweeps (i + 1) (n - (i + 1)) q
@@ -86,14 +66,25 @@ module _ (warm : Warmstart) (sweeps i n : ℕ) (p : Progress) where
       let z : n - i ≡ suc (n - (i + 1)) = omega arith in
       rw (z, f, e)
 
-module _ (warm : Warmstart) (sweeps : ℕ) where
-  -- what stopped stays stopped
+module _ (warm : Option Float) (sweeps : ℕ) where
+  -- what stopped stays as it is
+  pub stopped : (n i : ℕ) (p : Progress) → p.finite ≡ false → substeps warm sweeps i n p ≡ p
+  unfolding substeps
+  stopped zero i p e = refl
+  stopped (suc n) i p e = rw e
+
   pub once-stopped : (n i : ℕ) (p : Progress) → p.finite ≡ false → (substeps warm sweeps i n p).finite ≡ false
   unfolding substeps
   once-stopped zero i p e = e
   once-stopped (suc n) i p e = rw e
 
-pub first-substep : (warm : Warmstart) (sweeps n : ℕ) (s : Moment) {p : Progress} → p ≡ substep warm sweeps 0 s → substeps warm sweeps 1 (n - 1) p ≡ steps_of warm sweeps n s
+  -- so a substep that stops is the last
+  pub stops : (n i : ℕ) (p : Progress) {all : Progress} {rows : List Float} → substeps warm sweeps i n p ≡ all → p.finite ≡ false → p.left.rows ≡ rows → (all.finite ≡ false) × (all.left.rows ≡ rows)
+  stops n i p h f r =
+      let e = sym h ∙ stopped n i p f in
+      rw e (f, r)
+
+pub first-substep : (warm : Option Float) (sweeps n : ℕ) (s : Moment) {p : Progress} → p ≡ substep warm sweeps 0 s → substeps warm sweeps 1 (n - 1) p ≡ steps_of warm sweeps n s
 unfolding steps_of
 first-substep warm sweeps n s e = rw e
 
@@ -112,7 +103,7 @@ module _ (rest : List Rule) (n : ℕ) where
   unfolding substeps_rule
   some-substeps z g = rule-holds (substeps_rule n) rest (rw (ne_eqb n 0 z, le-ltb most_substeps n g))
 
-module _ (warm : Warmstart) (sweeps n : ℕ) (m : Model) (rows : List Float) where
+module _ (warm : Option Float) (sweeps n : ℕ) (m : Model) (rows : List Float) where
   abbrev front : List Rule
   front = handed_rules planar true m none (finite_warm warm) rows
 
@@ -149,6 +140,9 @@ module _ (warm : Warmstart) (sweeps n : ℕ) (m : Model) (rows : List Float) whe
             last-decides : refusal (frame_rules warm sweeps n m rows) ≡ refusal (rule 6 finite ∷ [])
             last-decides = own-decide z ∙ few-rounds _ sweeps f ∙ some-substeps _ n o g
 
+            pub rules-hold : finite ≡ true → refusal (frame_rules warm sweeps n m rows) ≡ 0
+            rules-hold d = last-decides ∙ rule-holds (rule 6 finite) [] d ∙ no-rules
+
             -- the first new pose that is not finite refuses the frame as 6 does
             pub refused-move : finite ≡ false → outcome (refused 6) m rows ≡ run_frame warm sweeps n m rows
             refused-move d = frame_refused (sym (rule-fails (rule 6 finite) [] d) ∙ sym last-decides) (omega arith)
@@ -156,7 +150,7 @@ module _ (warm : Warmstart) (sweeps n : ℕ) (m : Model) (rows : List Float) whe
             pub frame-granted : finite ≡ true → granted_frame warm sweeps n m rows ≡ run_frame warm sweeps n m rows
             unfolding run_frame
             frame-granted d =
-                let k : refusal (frame_rules warm sweeps n m rows) ≡ 0 = last-decides ∙ rule-holds (rule 6 finite) [] d ∙ no-rules in
+                let k = rules-hold d in
                 rw k
 
             -- its substep is no timestep; a new pose is not finite; neither
@@ -167,6 +161,9 @@ module _ (warm : Warmstart) (sweeps n : ℕ) (m : Model) (rows : List Float) whe
               pub refused-pose : (all_substeps warm sweeps n m rows).finite ≡ false → outcome (refused 6) m rows ≡ run_frame warm sweeps n m rows
               refused-pose d = refused-move (rw (step, d))
 
+              pub all-hold : (all_substeps warm sweeps n m rows).finite ≡ true → refusal (frame_rules warm sweeps n m rows) ≡ 0
+              all-hold d = rules-hold (rw (step, d))
+
               pub frame-grants : (all_substeps warm sweeps n m rows).finite ≡ true → granted_frame warm sweeps n m rows ≡ run_frame warm sweeps n m rows
               frame-grants d = frame-granted (rw (step, d))
 
@@ -176,30 +173,16 @@ still-few b b' e h = rw (same-bodies plane b b' e) h
 
 -- ---- a frame from its header
 
-module _ (warm : Warmstart) (sweeps n : ℕ) (header : Header) (bodies : List Float) (words : List ℕ) (numbers rows : List Float) where
+module _ (warm : Option Float) (sweeps n : ℕ) (header : Header) (bodies : List Float) (words : List ℕ) (numbers rows : List Float) where
   pub start-steps : {h : Header} {q : Float} → h ≡ header_with_dt header (header.params.dt ⊘ q) → q ≡ of_int binary32 (pos n)
       → steps_of warm sweeps n (moment (model_of h bodies words numbers) rows) ≡ all_substeps warm sweeps n (model_of header bodies words numbers) rows
   unfolding all_substeps
   start-steps e d =
       ap (λ (h : Header). steps_of warm sweeps n (moment (model_of h bodies words numbers) rows)) (e ∙ ap (λ (q : Float). header_with_dt header (header.params.dt ⊘ q)) d)
 
-pub granted-frame : (warm : Warmstart) (sweeps n : ℕ) (m : Model) (rows : List Float) {p : Progress} {a : Answer plane} {m2 : Model} {r2 : List Float} → p ≡ all_substeps warm sweeps n m rows
+pub granted-frame : (warm : Option Float) (sweeps n : ℕ) (m : Model) (rows : List Float) {p : Progress} {a : Answer plane} {m2 : Model} {r2 : List Float} → p ≡ all_substeps warm sweeps n m rows
     → outcome a m2 r2 ≡ run planar write_back p.left.model p.left.rows → outcome p.answer (with_dt m2 m.params.dt) r2 ≡ granted_frame warm sweeps n m rows
 unfolding granted_frame
 granted-frame warm sweeps n m rows {p} e d =
     ap (λ (o : Outcome plane). outcome p.answer (with_dt o.after m.params.dt) o.rows) d
     ∙ ap (λ (p : Progress). let t = leaves write_back p.left in outcome p.answer (with_dt t.model m.params.dt) t.rows) e
-
--- ---- both promises of a frame
-
--- where it is refused
-pub refused-promises : {r : FrameAnswer} {o : Outcome plane} (joints : ℕ) (header : Header) (k : ℕ) (bodies : List Float) (words : List ℕ) (numbers rows : List Float) → r ≡ refused_frame header k
-    → outcome (refused k) (model_of header bodies words numbers) rows ≡ o → record { rows_after : outcome (frame_answer joints r) (model_of r.header bodies words numbers) rows ≡ o; result_value : frame_counts r ≡ sweep_answer_of o.answer }
-unfolding sweep_answer_of
-refused-promises joints header k bodies words numbers rows e d =
-    record { rows_after = rw e d; result_value = rw e (ap (λ (o : Outcome plane). sweep_answer_of o.answer) d) }
-
--- where it is granted: its answer and counts are the last sweep's
-pub granted-promises : {o : Outcome plane} {m : Model} {rows : List Float} (joints : ℕ) (last : SweepAnswer) → Filled joints last → outcome (sweep_answer joints last) m rows ≡ o
-    → record { rows_after : outcome (sweep_answer joints last) m rows ≡ o; result_value : last ≡ sweep_answer_of o.answer }
-granted-promises joints last f e = record { rows_after = e; result_value = f ∙ ap (λ (o : Outcome plane). sweep_answer_of o.answer) e }

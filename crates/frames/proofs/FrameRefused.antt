@@ -1,11 +1,10 @@
 -- Demand 1 for frames: a frame is refused with k exactly if the rule of number k fails and every rule before it holds (`refused-exactly`, `exactly-refused`), and then it leaves model and row storage as they were (`refused-leaves`); its
 -- answer tells that number (`frame-told`). It is granted exactly if every rule holds (`granted-exactly`, `exactly-granted`). The order of the rules is 1 to 6, 12, 7, 8, 9, 16, and 6 of the moves (`frame-order`).
-use Rattle.std.proofs.Common.{◌≡◌, ℕ, ◌≤◌, true, not, eqb, ◌≢◌, List, [], ◌∷◌, map, sym, refl, ap, ◌∙◌, arith, ne_eqb, eqb-true}
+use Rattle.std.proofs.Common.{◌≡◌, ℕ, ◌≤◌, true, not, eqb, ◌≢◌, List, [], ◌∷◌, map, sym, refl, ap, ◌∙◌, arith, ne_eqb, eqb-true, Option}
 use borrow.Author.Tests.{eqb-false}
 use lib.Ieee.{Float, lt}
 use Rattle.floats.specs.Operators.{bits}
 use Rattle.floats.specs.Scalar.{is_finite}
-use Rattle.rows.specs.declared.joint_constraint_builder.Warmstart.{Warmstart}
 use Rattle.multibody.specs.Rules.{Rule, refusal}
 use Rattle.multibody.specs.Model.{Model}
 use Rattle.multibody.specs.Counts.{Room}
@@ -14,6 +13,9 @@ use Rattle.multibody.specs.Calls.{Outcome, outcome, refusal_of, handed_rules}
 use Rattle.multibody.specs.Calls.Call.{build}
 use Rattle.multibody.specs.Calls.Change.{none}
 use Rattle.multibody.specs.Calls.Answer.{refused}
+use Rattle.multibody.specs.Answers.{refusal_number}
+use Rattle.multibody.specs.declared.refusal.Refusal.{Refusal}
+use Rattle.multibody.proofs.AnswerLaws.{not-granted}
 use Rattle.multibody.proofs.Tests.{by_cases}
 use Rattle.multibody.proofs.RuleLaws.{both, Numbered, Hold, First, numbered-append, all_hold, hold-granted, refused-first, first-refused, hold-front, hold-last, at-most}
 use Rattle.multibody.proofs.RefusalLaws.{first-numbered, rules-hold, arguments-finite, room_of}
@@ -22,7 +24,7 @@ use Rattle.model.proofs.PlanarLaws.{planar-laws}
 use Rattle.frames.specs.Frames.{with_dt, moment, substep_of, is_step, substeps_rule, own_rules, finite_frame, all_substeps, frame_rules, granted_frame, run_frame}
 use Rattle.frames.proofs.InnerLaws.{Fine, Counts, dt-held, frame-answers}
 
-module _ (warm : Warmstart) (sweeps n : ℕ) (m : Model) (rows : List Float) where
+module _ (warm : Option Float) (sweeps n : ℕ) (m : Model) (rows : List Float) where
   abbrev rules : List Rule
   rules = frame_rules warm sweeps n m rows
 
@@ -115,3 +117,7 @@ module _ (warm : Warmstart) (sweeps n : ℕ) (m : Model) (rows : List Float) whe
 
   pub exactly-granted : Hold (frame_rules warm sweeps n m rows) → run_frame warm sweeps n m rows ≡ granted_frame warm sweeps n m rows
   exactly-granted h = sym (run-granted (hold-granted rules h))
+
+  -- no frame whose rules hold is refused by its last sweep
+  pub no-refusal : refusal (frame_rules warm sweeps n m rows) ≡ 0 → (e : Refusal) {t : Model} {r : List Float} → outcome (refused (refusal_number e)) t r ≡ granted_frame warm sweeps n m rows → ⊥
+  no-refusal z e o = not-granted e (ap (λ (o : Outcome plane). refusal_of o.answer) o ∙ (answers z).told)

@@ -1,13 +1,12 @@
 -- Two studies that move: what two related studies share, each call of a frame and each move keeps. So a frame that is granted in both leaves them related, and what
 -- it counts for a joint of the set's is the same (`frame-related`).
-use Rattle.std.proofs.Common.{◌≡◌, ℕ, zero, suc, ◌+◌, ◌-◌, ◌<◌, Bool, true, not, List, sym, refl, ap, ◌∙◌, arith}
+use Rattle.std.proofs.Common.{◌≡◌, ℕ, zero, suc, ◌+◌, ◌-◌, ◌<◌, Bool, true, not, List, sym, refl, ap, ◌∙◌, arith, Option}
 use mathlib.Core.Bool.{false≢true}
 use mathlib.Core.List.{Memᴰ}
 use lib.Ieee.{Float, lt}
 use Rattle.floats.specs.Operators.{bits}
 use Rattle.floats.specs.Scalar.{is_finite}
 use Rattle.rows.specs.declared.integration_parameters.IntegrationParameters.{IntegrationParameters}
-use Rattle.rows.specs.declared.joint_constraint_builder.Warmstart.{Warmstart}
 use Rattle.rows.specs.declared.joint_constraint_builder.SolverPose.{SolverPose}
 use Rattle.rows.specs.declared.joint_velocity_constraint.WritebackId.{WritebackId}
 use Rattle.multibody.specs.Model.{Model}
@@ -146,7 +145,7 @@ module _ (set : ℕ → Bool) {named : ℕ → WritebackId → Type 0} (w : List
     pub here : Here p.left p'.left
     pub counts : (j : ℕ) → Joint j → count_of j p.answer ≡ count_of j p'.answer
 
-  module _ (warm : Warmstart) (sweeps : ℕ) where
+  module _ (warm : Option Float) (sweeps : ℕ) where
     sweep-joints : Joints (sweep sweeps)
     unfolding granted_of
     sweep-joints = keeps-joints (sweep sweeps) (λ m r. (refl, refl))
@@ -226,7 +225,7 @@ module _ (set : ℕ → Bool) {named : ℕ → WritebackId → Type 0} (w : List
 -- ---- a frame that is granted in both
 
 module _ (set : ℕ → Bool) {named : ℕ → WritebackId → Type 0} (m m' : Model) (rows rows' : List Float) (r : Related planar-laws set named m m' rows rows') (room : Room plane m rows) (room' : Room plane m' rows')
-    (gives : (j : ℕ) (id : WritebackId) → Memᴰ id (joint_ids plane m.words j) → named j id) (warm : Warmstart) (sweeps n : ℕ)
+    (gives : (j : ℕ) (id : WritebackId) → Memᴰ id (joint_ids plane m.words j) → named j id) (warm : Option Float) (sweeps n : ℕ)
     (fine : is_finite (substep_of m.params.dt n) ≡ true) (forward : not (lt (substep_of m.params.dt n) (bits 0)) ≡ true) where
   start-here : Here set m.words m.numbers gives (moment (with_dt m (substep_of m.params.dt n)) rows) (moment (with_dt m' (substep_of m.params.dt n)) rows')
   start-here = record {

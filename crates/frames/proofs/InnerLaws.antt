@@ -1,12 +1,10 @@
 -- Within a frame no call is refused: where rules 1 to 7 and 12 hold of the model with the substep for its timestep, the row storage has room, the warm coefficient is finite
 -- and the rounds are few, each call of each substep is granted, and so is the write-back. So what a granted frame answers is a sweep's counts (`frame-answers`).
-use Rattle.std.proofs.Common.{◌≡◌, ℕ, zero, suc, ◌+◌, ◌-◌, ◌≤◌, Bool, true, false, not, ◌⊎◌, List, [], ◌∷◌, sym, refl, ap, ◌∙◌, inl, inr, le-ltb}
+use Rattle.std.proofs.Common.{◌≡◌, ℕ, zero, suc, ◌+◌, ◌-◌, ◌≤◌, Bool, true, false, not, ◌⊎◌, List, [], ◌∷◌, sym, refl, ap, ◌∙◌, inl, inr, le-ltb, Option, Some, None}
 use mathlib.Core.Bool.{false≢true}
 use lib.Ieee.{Float, lt}
 use Rattle.floats.specs.Operators.{bits}
 use Rattle.floats.specs.Scalar.{is_finite}
-use Rattle.rows.specs.declared.joint_constraint_builder.Warmstart.{Warmstart}
-use Rattle.rows.specs.declared.joint_constraint_builder.Warmstart.TheVariants.{Cold, Warm}
 use Rattle.multibody.specs.Rules.{refusal}
 use Rattle.multibody.specs.Model.{Model}
 use Rattle.multibody.specs.Counts.{row_capacity, total_rows, Room}
@@ -83,7 +81,7 @@ module _ (s : Moment) (f : Fine s) where
   front-fine : refusal (handed_rules planar true s.model none true s.rows) ≡ 0
   front-fine = front-holds s.model true s.rows f.held refl f.room
 
-  pub build-granted : (warm : Warmstart) (i : ℕ) → finite_warm warm ≡ true → (s.model.built ≡ true) ⊎ (reads_rows warm i ≡ false)
+  pub build-granted : (warm : Option Float) (i : ℕ) → finite_warm warm ≡ true → (s.model.built ≡ true) ⊎ (reads_rows warm i ≡ false)
       → run planar (build warm i) s.model s.rows ≡ granted_of planar (build warm i) s.model s.rows
   build-granted warm i w b =
       runs (build warm i) s.model s.rows (front-holds s.model (finite_warm warm) s.rows f.held w f.room) (seeds [] s.model warm i b ∙ no-rules)
@@ -102,10 +100,10 @@ module _ (s : Moment) (f : Fine s) where
     back-granted = runs write_back s.model s.rows front-fine (is-built [] s.model built ∙ no-rules)
 
 -- in substep 0 nothing is read of the last rows
-pub reads_none : (warm : Warmstart) → reads_rows warm 0 ≡ false
+pub reads_none : (warm : Option Float) → reads_rows warm 0 ≡ false
 unfolding reads_rows
-reads_none Cold = refl
-reads_none (Warm c) = refl
+reads_none None = refl
+reads_none (Some c) = refl
 
 -- ---- the substeps
 
@@ -117,7 +115,7 @@ pub record Counts (a : Answer plane) : Type 0 where
 abbrev pub Answered : Progress → Type 0
 Answered p = Built p.left × Counts p.answer
 
-module _ (warm : Warmstart) (sweeps : ℕ) (w : finite_warm warm ≡ true) (few : sweeps ≤ most_rounds) where
+module _ (warm : Option Float) (sweeps : ℕ) (w : finite_warm warm ≡ true) (few : sweeps ≤ most_rounds) where
   pub before-built : (i : ℕ) (s : Moment) → Fine s → (s.model.built ≡ true) ⊎ (reads_rows warm i ≡ false) → Built (before_move warm sweeps i s)
   unfolding before_move granted_of
   before-built i s f b =

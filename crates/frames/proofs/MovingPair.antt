@@ -1,13 +1,12 @@
 -- Two studies that differ and move, and meet every premise of demand 3 (`compared`): body 0 is the set, and moves; body 1 stands elsewhere in each. The list is a frame of two substeps, granted in both (`granted`), in which body 0 moves by its velocity times dt (`moves`). All of it is
 -- computed.
-use Rattle.std.proofs.Common.{◌≡◌, ℕ, zero, suc, ◌<◌, Bool, true, false, ltb, List, [], ◌∷◌, ◌++◌, pos, sym, refl, ◌∙◌, arith, lit≤, ltb-true}
+use Rattle.std.proofs.Common.{◌≡◌, ℕ, zero, suc, ◌<◌, Bool, true, false, ltb, List, [], ◌∷◌, ◌++◌, pos, sym, refl, ◌∙◌, arith, lit≤, ltb-true, None}
 use lib.Ieee.{Float, fin, lt, eq, is_nan, of_bits, of_int, add, sub, mul, div, round}
 use Rattle.floats.specs.Scalar.{is_finite}
 use Rattle.floats.specs.Vector.{add_of, mul_of, gdot_of, length_of}
 use Rattle.floats.specs.Sqrt.{sqrt_of}
 use Rattle.floats.specs.Bits.{units_of}
 use Rattle.rows.specs.declared.integration_parameters.IntegrationParameters.{IntegrationParameters}
-use Rattle.rows.specs.declared.joint_constraint_builder.Warmstart.TheVariants.{Cold}
 use Rattle.multibody.specs.Rules.{refusal, all}
 use Rattle.multibody.specs.Model.{Model, model}
 use Rattle.multibody.specs.Counts.{body_count, joint_count, row_capacity, rows_before, store_firsts}
@@ -56,7 +55,7 @@ abbrev pub s' : Study (machine moving_calls)
 s' = record { model = example two; rows = [] }
 
 abbrev pub ts : List (Turn moving_calls)
-ts = record { call = frame Cold 1 2; lent = []; lent' = [] } ∷ []
+ts = record { call = frame None 1 2; lent = []; lent' = [] } ∷ []
 
 abbrev pub set : ℕ → Bool
 set i = ltb i 1
@@ -67,7 +66,7 @@ pose_x bodies = (solver_pose_at bodies 0).pose.translation.x
 
 -- every rule of a load, and of the frame, holds
 abbrev Granted : Model → Type 0
-Granted m = (refusal (rules_of planar load m []) ≡ 0) × (refusal (frame_rules Cold 1 2 m []) ≡ 0)
+Granted m = (refusal (rules_of planar load m []) ≡ 0) × (refusal (frame_rules None 1 2 m []) ≡ 0)
 
 pub granted : Granted (example one) × Granted (example two)
 unfolding frame_rules rules_of refusal all model_rules_with storage_rule sweep_rule built_rule seeds_rule reads_rows substeps_rule masks_fit present_or_world bodies_present bodies_apart passes passes_from finite_params finite_warm finite_body finite_pose is_finite is_nan is_step lt eq of_bits of_int add sub mul div round body_count joint_count row_capacity rows_before all_substeps steps_of substeps substep before_move after_move move_of move_from new_pose moved_pose moved_rotation add_of mul_of gdot_of length_of sqrt_of units_of solver_pose_at vel_at put_pose run granted_of each_joint rounds sweep_round
@@ -85,8 +84,8 @@ enough = (λ e. (lit≤ tt, lit≤ tt), tt)
 alike : AtEach (GrantedAlike moving_calls) (recorded moving_calls ts s s') s s'
 unfolding AtEach recorded
 alike =
-    let t = frame-told Cold 1 2 (example one) [] ∙ granted.0.1 in
-    let t' = frame-told Cold 1 2 (example two) [] ∙ granted.1.1 in
+    let t = frame-told None 1 2 (example one) [] ∙ granted.0.1 in
+    let t' = frame-told None 1 2 (example two) [] ∙ granted.1.1 in
     ((λ e. t', λ e. t), tt)
 
 no-joints : (x : Float) (j : ℕ) → j < joint_count plane (example x).words (example x).numbers → ⊥
@@ -130,6 +129,6 @@ pub shared : Noninterference moving_calls set (recorded moving_calls ts s s') s 
 shared = moving-two-studies set (recorded moving_calls ts s s') s s' same_numbers compared
 
 -- it moves: in each of the two substeps by one, half its velocity
-pub moves : pose_x (run_frame Cold 1 2 (example one) []).after.bodies ≡ two
+pub moves : pose_x (run_frame None 1 2 (example one) []).after.bodies ≡ two
 unfolding run_frame granted_frame frame_rules rules_of refusal all model_rules_with storage_rule sweep_rule built_rule seeds_rule reads_rows substeps_rule masks_fit present_or_world bodies_present bodies_apart passes passes_from finite_params finite_warm finite_body finite_pose is_finite is_nan is_step lt eq of_bits of_int add sub mul div round body_count joint_count row_capacity rows_before all_substeps steps_of substeps substep before_move after_move move_of move_from new_pose moved_pose moved_rotation add_of mul_of gdot_of length_of sqrt_of units_of solver_pose_at vel_at put_pose run granted_of each_joint rounds sweep_round
 moves = refl

@@ -1,9 +1,8 @@
 -- Demand 3 for lists that mix the model's calls with frames (`moving-two-studies`): two studies can be compared in them (`moving-comparable`). A frame that is granted in both keeps what they share; one that is refused in both is refused with the
 -- same number and leaves all as it was. That each frame is granted in both or in neither is a premise.
-use Rattle.std.proofs.Common.{◌≡◌, ℕ, Bool, true, false, eqb, ◌≢◌, List, [], ◌∷◌, sym, refl, ap, ◌∙◌, append_assoc, eqb-true}
+use Rattle.std.proofs.Common.{◌≡◌, ℕ, Bool, true, false, eqb, ◌≢◌, List, [], ◌∷◌, sym, refl, ap, ◌∙◌, append_assoc, eqb-true, Option}
 use borrow.Author.Tests.{eqb-false}
 use lib.Ieee.{Float}
-use Rattle.rows.specs.declared.joint_constraint_builder.Warmstart.{Warmstart}
 use Rattle.rows.specs.declared.joint_velocity_constraint.WritebackId.{WritebackId}
 use Rattle.multibody.specs.Rules.{rule, refusal}
 use Rattle.multibody.specs.Model.{Model}
@@ -52,7 +51,7 @@ own-alike sweeps n f f' r r' =
     six true z = absurd (z (rule-holds (rule 6 true) [] refl ∙ no-rules))
     six false z = rule-fails (rule 6 false) [] refl
 
-module _ (warm : Warmstart) (sweeps n : ℕ) where
+module _ (warm : Option Float) (sweeps n : ℕ) where
   -- where the model's rules hold and there is room, a frame's own rules decide, but for its coefficient
   decided : (m : Model) (rows : List Float) → RulesHold planar-laws m → Room plane m rows → finite_warm warm ≡ true
       → refusal (frame_rules warm sweeps n m rows) ≡ refusal (own_rules sweeps n (finite_frame warm sweeps n m rows))
@@ -79,7 +78,7 @@ module _ (warm : Warmstart) (sweeps n : ℕ) where
 
 -- ---- one frame of two studies
 
-module _ (set : ℕ → Bool) (named : ℕ → WritebackId → Type 0) (warm : Warmstart) (sweeps n : ℕ) (m m' : Model) (rows rows' : List Float) (b : Related planar-laws set named m m' rows rows') where
+module _ (set : ℕ → Bool) (named : ℕ → WritebackId → Type 0) (warm : Option Float) (sweeps n : ℕ) (m m' : Model) (rows rows' : List Float) (b : Related planar-laws set named m m' rows rows') where
   abbrev call : MovingCall
   call = frame warm sweeps n
 
@@ -126,7 +125,7 @@ module _ (set : ℕ → Bool) (named : ℕ → WritebackId → Type 0) (warm : W
 
 -- ---- no frame changes a number of bodies or joints
 
-frame-numbers : (warm : Warmstart) (sweeps n : ℕ) (m : Model) (rows : List Float) → SameNumbers plane (run_frame warm sweeps n m rows).after m
+frame-numbers : (warm : Option Float) (sweeps n : ℕ) (m : Model) (rows : List Float) → SameNumbers plane (run_frame warm sweeps n m rows).after m
 unfolding granted_frame all_substeps
 frame-numbers warm sweeps n m rows =
     let z = refusal (frame_rules warm sweeps n m rows) in

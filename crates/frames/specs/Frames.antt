@@ -1,11 +1,9 @@
 -- Document 02, R-12: a frame, as a list of the model's calls with a move in each substep.
-use Rattle.std.specs.Prelude.{◌≡◌, ℕ, zero, suc, ◌+◌, ◌-◌, Bool, true, false, cond, not, ◌&&◌, List, [], ◌∷◌, ◌++◌, pos, ◌==◌, Float}
+use Rattle.std.specs.Prelude.{◌≡◌, ℕ, zero, suc, ◌+◌, ◌-◌, Bool, true, false, cond, not, ◌&&◌, List, [], ◌∷◌, ◌++◌, pos, ◌==◌, Float, Option, Some, None, Result, Ok, Err}
 use Rattle.std.specs.Float.{binary32}
 use Rattle.std.specs.Float.Ieee.{of_int, lt}
 use Rattle.floats.specs.Operators.{◌⊘◌, bits}
 use Rattle.floats.specs.Scalar.{is_finite}
-use Rattle.rows.specs.RowIds.{filled}
-use Rattle.rows.specs.declared.joint_constraint_builder.Warmstart.{Warmstart}
 use Rattle.multibody.specs.Rules.{Rule, rule, refusal, at_most}
 use Rattle.multibody.specs.Model.{Model, model, with_bodies}
 use Rattle.multibody.specs.Counts.{body_count}
@@ -16,13 +14,11 @@ use Rattle.multibody.specs.Calls.Change.{none}
 use Rattle.multibody.specs.Calls.Answer.{refused}
 use Rattle.model.specs.Planar.{plane, planar}
 use Rattle.model.specs.Model.{model_of}
-use Rattle.model.specs.Answers.{counts_answer, sweep_answer, sweep_answer_of}
-use Rattle.model.specs.declared.header.Header.{Header}
-use Rattle.model.specs.declared.calls.Plain.{Plain}
-use Rattle.model.specs.declared.calls.SweepAnswer.{SweepAnswer}
+use Rattle.multibody.specs.Answers.{sweep_answer, Filled}
+use Rattle.multibody.specs.declared.header.Header.{Header}
+use Rattle.multibody.specs.declared.refusal.Refusal.{Refusal}
 use Rattle.frames.specs.Moving.{Moved, move_from}
 use Rattle.frames.specs.declared.frame.Reached.{Reached}
-use Rattle.frames.specs.declared.frame.FrameAnswer.{FrameAnswer}
 
 -- at most so many substeps
 abbrev pub most_substeps : ℕ
@@ -60,7 +56,7 @@ abbrev pub progress : Bool → Moment → Answer plane → Progress
 progress f s a = record { finite = f; left = s; answer = a }
 
 -- "build with the substep's number from 0, warm start, sweep,
-unfoldable pub before_move : Warmstart → ℕ → ℕ → Moment → Moment
+unfoldable pub before_move : Option Float → ℕ → ℕ → Moment → Moment
 before_move warm sweeps i s = leaves (sweep sweeps) (leaves warm_start (leaves (build warm i) s))
 
 -- move,
@@ -77,22 +73,22 @@ after_move sweeps s =
     let o = run planar (sweep sweeps) t.model t.rows in
     progress true (moment o.after o.rows) o.answer
 
-unfoldable pub substep : Warmstart → ℕ → ℕ → Moment → Progress
+unfoldable pub substep : Option Float → ℕ → ℕ → Moment → Progress
 substep warm sweeps i s =
     let t = before_move warm sweeps i s in
     cond (move_of t).finite (after_move sweeps (moved_moment t)) (progress false (moved_moment t) (refused 6))
 
 -- n substeps from number i on, up to the first that meets a new pose which is not finite
-unfoldable pub substeps : Warmstart → ℕ → ℕ → ℕ → Progress → Progress
+unfoldable pub substeps : Option Float → ℕ → ℕ → ℕ → Progress → Progress
 substeps warm sweeps i zero p = p
 substeps warm sweeps i (suc n) p = cond p.finite (substeps warm sweeps (i + 1) n (substep warm sweeps i p.left)) p
 
 -- all n, of which there is one
-unfoldable pub steps_of : Warmstart → ℕ → ℕ → Moment → Progress
+unfoldable pub steps_of : Option Float → ℕ → ℕ → Moment → Progress
 steps_of warm sweeps n s = substeps warm sweeps 1 (n - 1) (substep warm sweeps 0 s)
 
 -- "n substeps of dt/n, the dt of their builds"
-unfoldable pub all_substeps : Warmstart → ℕ → ℕ → Model → List Float → Progress
+unfoldable pub all_substeps : Option Float → ℕ → ℕ → Model → List Float → Progress
 all_substeps warm sweeps n m rows = steps_of warm sweeps n (moment (with_dt m (substep_of m.params.dt n)) rows)
 
 -- The builds have a timestep as rules 6 and 7 ask. Of a binary32 timestep that is finite and not below zero dt/n is always so (`step_of_lem` in proofs/StepLaws).
@@ -108,45 +104,36 @@ substeps_rule n = rule 16 (not (n == 0) && at_most most_substeps n)
 abbrev pub own_rules : ℕ → ℕ → Bool → List Rule
 own_rules sweeps n finite = sweep_rule sweeps ∷ substeps_rule n ∷ rule 6 finite ∷ []
 
-abbrev pub finite_frame : Warmstart → ℕ → ℕ → Model → List Float → Bool
+abbrev pub finite_frame : Option Float → ℕ → ℕ → Model → List Float → Bool
 finite_frame warm sweeps n m rows = is_step (substep_of m.params.dt n) && (all_substeps warm sweeps n m rows).finite
 
-unfoldable pub frame_rules : Warmstart → ℕ → ℕ → Model → List Float → List Rule
+unfoldable pub frame_rules : Option Float → ℕ → ℕ → Model → List Float → List Rule
 frame_rules warm sweeps n m rows = handed_rules planar true m none (finite_warm warm) rows ++ own_rules sweeps n (finite_frame warm sweeps n m rows)
 
 -- "write back after the last"; "a granted frame returns its last sweep's counts, and the model keeps its dt"
-unfoldable pub granted_frame : Warmstart → ℕ → ℕ → Model → List Float → Outcome plane
+unfoldable pub granted_frame : Option Float → ℕ → ℕ → Model → List Float → Outcome plane
 granted_frame warm sweeps n m rows =
     let p = all_substeps warm sweeps n m rows in
     let t = leaves write_back p.left in
     outcome p.answer (with_dt t.model m.params.dt) t.rows
 
 -- a frame: refused with the number of the first rule that fails, and then "everything reverts to the frame's start, row storage too"
-unfoldable pub run_frame : Warmstart → ℕ → ℕ → Model → List Float → Outcome plane
+unfoldable pub run_frame : Option Float → ℕ → ℕ → Model → List Float → Outcome plane
 run_frame warm sweeps n m rows =
     let k = refusal (frame_rules warm sweeps n m rows) in
     cond (k == 0) (granted_frame warm sweeps n m rows) (outcome (refused k) m rows)
 
 -- ---- the program's answers
 
--- a frame so far, as the program has it
-abbrev pub progress_of : ℕ → Reached → List Float → List ℕ → List Float → List Float → Progress
-progress_of joints p bodies words numbers rows = progress p.finite (moment (model_of p.header bodies words numbers) rows) (sweep_answer joints p.last)
-
--- Past the joints an array of counts holds zeros, as a sweep's does.
-abbrev pub Filled : ℕ → SweepAnswer → Type 0
-Filled joints a = a ≡ sweep_answer_of (sweep_answer joints a)
-
--- the program has come so far
-pub record Reaches (joints : ℕ) (r : Reached) (bodies : List Float) (words : List ℕ) (numbers rows : List Float) (p : Progress) : Type 0 where
-  pub progress : progress_of joints r bodies words numbers rows ≡ p
-  pub last : Filled joints r.last
+-- the program has come so far; where a new pose is not finite, no further, and of that substep's row storage alone there is more to say
+abbrev pub Reaches : ℕ → Option Reached → List Float → List ℕ → List Float → List Float → Progress → Type 0
+Reaches joints (Some r) bodies words numbers rows p = (progress true (moment (model_of r.header bodies words numbers) rows) (sweep_answer joints r.last) ≡ p) × Filled joints r.last
+Reaches joints None bodies words numbers rows p = (p.finite ≡ false) × (p.left.rows ≡ rows)
 
 -- what is left of substeps: all of them, or bodies and rows as they were
-pub record OrBack (joints : ℕ) (r : Reached) (bodies : List Float) (words : List ℕ) (numbers rows : List Float) (all : Progress) (bodies₀ rows₀ : List Float) : Type 0 where
-  pub finite : r.finite ≡ all.finite
-  pub through : all.finite ≡ true → Reaches joints r bodies words numbers rows all
-  pub back : all.finite ≡ false → (bodies ≡ bodies₀) × (rows ≡ rows₀)
+abbrev pub OrBack : ℕ → Option Reached → List Float → List ℕ → List Float → List Float → Progress → List Float → List Float → Type 0
+OrBack joints (Some r) bodies words numbers rows all bodies₀ rows₀ = Reaches joints (Some r) bodies words numbers rows all
+OrBack joints None bodies words numbers rows all bodies₀ rows₀ = (all.finite ≡ false) × (bodies ≡ bodies₀) × (rows ≡ rows₀)
 
 -- a header with another timestep
 abbrev pub header_with_dt : Header → Float → Header
@@ -155,12 +142,10 @@ header_with_dt header h = record {
   built = header.built;
 }
 
-abbrev pub refused_frame : Header → ℕ → FrameAnswer
-refused_frame header k = record { answer = Plain.Refused k; header = header; counts = filled 128 0 [] }
+-- a frame's array of counts, which is filled up as a sweep's is, and its answer
+abbrev pub frame_counts : Result (Header × List ℕ) Refusal → Result (List ℕ) Refusal
+frame_counts (Ok r) = Ok r.1
+frame_counts (Err e) = Err e
 
-abbrev pub frame_answer : ℕ → FrameAnswer → Answer plane
-frame_answer joints r = counts_answer joints r.answer r.counts
-
--- a frame's answer and array of counts, which is filled up as a sweep's is
-abbrev pub frame_counts : FrameAnswer → SweepAnswer
-frame_counts r = record { answer = r.answer; counts = r.counts }
+abbrev pub frame_answer : ℕ → Result (Header × List ℕ) Refusal → Answer plane
+frame_answer joints r = sweep_answer joints (frame_counts r)

@@ -1,6 +1,5 @@
 -- Two studies that move: the calls of which their list is made are the model's and frames. The claim is multibody's `TwoStudies` of these.
-use Rattle.std.specs.Prelude.{ℕ, true, List, [], ◌∷◌, Float}
-use Rattle.rows.specs.declared.joint_constraint_builder.Warmstart.{Warmstart}
+use Rattle.std.specs.Prelude.{ℕ, true, List, [], ◌∷◌, Float, Option}
 use Rattle.multibody.specs.Model.{Model}
 use Rattle.multibody.specs.Refusals.{finite_warm}
 use Rattle.multibody.specs.Calls.{Call, CallEntry, Outcome, call_table, run}
@@ -15,7 +14,7 @@ use Rattle.frames.specs.Frames.{run_frame}
 -- a call on the model, or a frame: warm coefficient or none, how many rounds, how many substeps
 pub data MovingCall : Type 0 where
   plain : Call planar → MovingCall
-  frame : Warmstart → ℕ → ℕ → MovingCall
+  frame : Option Float → ℕ → ℕ → MovingCall
 
 -- What the table says of a frame: it is handed row storage, asks for nothing by index and makes rows; "two compared frames must be granted or refused alike". Rules 16 and the moves' 6, which no call has, stand in `frame_rules`.
 abbrev pub moving_entry : MovingCall → CallEntry planar

@@ -24,51 +24,38 @@ fn moved_rotation(old: Rotation, a: f32) -> Rotation
     };
     let length = new.simd_length();
     if length == 0.0 {
-        return old;
-    }
-    Rotation {
-        re: new.x / length,
-        im: new.y / length,
+        old
+    } else {
+        Rotation {
+            re: new.x / length,
+            im: new.y / length,
+        }
     }
 }
 
 fn moved_pose(pose: Pose, vel: SolverVel, h: f32) -> Pose
     ensures { result ≡ moved_pose pose vel h }
 {
-    let old = pose.rotation;
-    let at = pose.translation;
-    let linear = vel.linear;
-    let rotation = moved_rotation(old, vel.angular * h);
-    let step = linear.mul(h);
-    let translation = at.add(step);
     Pose {
-        rotation: rotation,
-        translation: translation,
+        rotation: moved_rotation(pose.rotation, vel.angular * h),
+        translation: pose.translation.add(vel.linear.mul(h)),
     }
 }
 
 fn finite_pose(p: Pose) -> bool
     ensures { result ≡ finite_pose p }
 {
-    if !is_finite(p.rotation.re) {
-        return false;
-    }
-    if !is_finite(p.rotation.im) {
-        return false;
-    }
-    if !is_finite(p.translation.x) {
-        return false;
-    }
-    is_finite(p.translation.y)
+    is_finite(p.rotation.re)
+        && is_finite(p.rotation.im)
+        && is_finite(p.translation.x)
+        && is_finite(p.translation.y)
 }
 
 fn new_pose(b: &[f32], i: u32, h: f32) -> Pose
     requires { i < body_count plane b.now }
     ensures { result ≡ new_pose h b.now i }
 {
-    let pose = read_pose(b, i);
-    let vel = read_vel(b, i);
-    moved_pose(pose, vel, h)
+    moved_pose(read_pose(b, i), read_vel(b, i), h)
 }
 
 // Every body, ascending, up to the first whose new pose is not finite; whether there was none.
@@ -76,15 +63,13 @@ pub fn move_all(b: &mut [f32], h: f32) -> bool
     requires { body_count plane b.old ≤ most_bodies }
     ensures { moved b.new result ≡ move_from h 0 (body_count plane b.old) b.old }
 {
-    let n = b.len() / BODY_WIDTH;
-    let mut i = 0u32;
-    while (i as usize) < n {
+    let n = (b.len() / BODY_WIDTH) as u32;
+    for i in 0..n {
         let pose = new_pose(b, i, h);
         if !finite_pose(pose) {
             return false;
         }
         write_pose(b, i, pose);
-        i += 1;
     }
     true
 }

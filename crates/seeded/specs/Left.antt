@@ -1,17 +1,16 @@
 -- What the call `seeded` answers, and what it leaves in the slices that it is lent.
-use Rattle.std.specs.Prelude.{ℕ, ◌*◌, Bool, cond, ◌&&◌, List, ◌++◌, length, drop, nat_le, Float}
+use Rattle.std.specs.Prelude.{ℕ, ◌*◌, Bool, cond, ◌&&◌, List, ◌++◌, Option, Some, None, length, drop, nat_le, Float}
 use Rattle.model.specs.Layout.{body_width, words_width, numbers_width}
 use Rattle.seeded.specs.Seeded.{tabulate, bodies_of, joints_of, header_of, body_place, word_place, number_place}
-use Rattle.seeded.specs.declared.seeded.SeededAnswer.{SeededAnswer}
-use Rattle.seeded.specs.declared.seeded.SeededAnswer.TheVariants.{Seeded, TooShort}
+use Rattle.seeded.specs.declared.seeded.SeededModel.{SeededModel}
 
 pub record Left : Type 0 where
-  pub answer : SeededAnswer
+  pub answer : Option SeededModel
   pub bodies : List Float
   pub words : List ℕ
   pub numbers : List Float
 
-abbrev pub left : SeededAnswer → List Float → List ℕ → List Float → Left
+abbrev pub left : Option SeededModel → List Float → List ℕ → List Float → Left
 left a b w n = record { answer = a; bodies = b; words = w; numbers = n }
 
 -- eight records of each kind are enough for every seed, and are asked for whatever the seed
@@ -26,6 +25,6 @@ front n f old = tabulate 0 n f ++ drop n old
 unfoldable pub seeded_of : ℕ → List Float → List ℕ → List Float → Left
 seeded_of seed b w n =
     cond (room b w n)
-    (left (Seeded (header_of seed) (bodies_of seed) (joints_of seed)) (front (bodies_of seed * body_width) (body_place seed) b) (front (joints_of seed * words_width) (word_place seed) w)
+    (left (Some (record { header = header_of seed; bodies = bodies_of seed; joints = joints_of seed })) (front (bodies_of seed * body_width) (body_place seed) b) (front (joints_of seed * words_width) (word_place seed) w)
     (front (joints_of seed * numbers_width) (number_place seed) n))
-    (left TooShort b w n)
+    (left None b w n)

@@ -6,7 +6,7 @@ use Rattle.multibody.specs.Model.{Model}
 use Rattle.model.specs.Layout.{body_width, words_width, numbers_width}
 use Rattle.model.specs.Store.{world}
 use Rattle.model.specs.Model.{model_of}
-use Rattle.model.specs.declared.header.Header.{Header}
+use Rattle.multibody.specs.declared.header.Header.{Header}
 use Rattle.seeded.specs.Draws.{draw, number_of}
 
 -- entries i to i + n − 1

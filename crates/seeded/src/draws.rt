@@ -6,7 +6,7 @@ ghost use Rattle.seeded.specs.Draws.{next_of, mixed_of, draw, number_of};
 pub fn next(s: u32) -> u32
     ensures { result ≡ next_of s }
 {
-    std::num::wrapping_add_u32(s, 2654435769)
+    s.wrapping_add(2654435769)
 }
 
 // The draw of a state.
@@ -22,10 +22,8 @@ pub fn draw(seed: u32, k: u32) -> u32
     ensures { result ≡ draw seed k }
 {
     let mut s = seed;
-    let mut i = 0u32;
-    while i < k {
+    for _i in 0..k {
         s = next(s);
-        i += 1;
     }
     mixed(next(s))
 }
@@ -36,7 +34,8 @@ pub fn number(d: u32) -> f32
 {
     let k = d % 2001;
     if k < 1000 {
-        return -std::num::nearest_u32_to_f32(1000 - k) / 8.0;
+        -std::num::nearest_u32_to_f32(1000 - k) / 8.0
+    } else {
+        std::num::nearest_u32_to_f32(k - 1000) / 8.0
     }
-    std::num::nearest_u32_to_f32(k - 1000) / 8.0
 }

@@ -7,5 +7,5 @@ use Rattle.catalogue.proofs.text.put_line_at.Goals as goal
 pub returns-then-n-lt-CHOICES : goal.returns-then-n-lt-CHOICES
 returns-then-n-lt-CHOICES c = appended-text (sym (there-line _ c.if-n-lt-CHOICES.true)) c.put_line.ensures
 
-pub returns : goal.returns
-returns c = appended-text (sym (no_line c.args.n c.if-n-lt-CHOICES.false)) (appended-none c.args.out.now 0)
+pub returns-else-n-lt-CHOICES : goal.returns-else-n-lt-CHOICES
+returns-else-n-lt-CHOICES c = appended-text (sym (no_line c.args.n c.if-n-lt-CHOICES.false)) (appended-none c.args.out.now 0)

@@ -1,7 +1,7 @@
 -- `after_move` meets its contract, by those of its calls.
-use Rattle.frames.proofs.FrameLaws.{after-move, last-filled}
+use Rattle.frames.proofs.FrameLaws.{after-move}
 use Rattle.frames.proofs.frame.after_move.Goals as goal
 
 pub returns : goal.returns
 returns c =
-    record { result_after = after-move _ _ c.remove_bias.ensures c.sweep.ensures.rows_after; filled = last-filled _ c.sweep.ensures.rows_after c.sweep.ensures.value }
+    record { result_after = after-move _ _ c.remove_bias.ensures c.sweep.ensures.rows_after; filled = c.sweep.ensures.filled }

@@ -4,4 +4,4 @@ use Rattle.frames.proofs.moving.moved_pose.Goals as goal
 
 pub returns : goal.returns
 unfolding moved_pose
-returns c = rw (c.add-translation.ensures, c.mul-step.ensures, c.moved_rotation-rotation.ensures)
+returns c = rw (c.add.ensures, c.mul.ensures, c.moved_rotation.ensures)

@@ -6,6 +6,6 @@ pub returns-then-length : goal.returns-then-length
 unfolding moved_rotation
 returns-then-length c = rw (← c.simd_length-length.ensures, c.if-length.true)
 
-pub returns : goal.returns
+pub returns-else-length : goal.returns-else-length
 unfolding moved_rotation
-returns c = rw (← c.simd_length-length.ensures, c.if-length.false)
+returns-else-length c = rw (← c.simd_length-length.ensures, c.if-length.false)

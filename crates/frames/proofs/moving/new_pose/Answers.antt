@@ -8,4 +8,4 @@ pub returns : goal.returns
 unfolding new_pose
 returns c =
     let there = c.requires in
-    rw (c.read_pose-pose.ensures, c.read_vel-vel.ensures, pose-there _ _ refl there, vel-there _ _ refl there) at c.moved_pose.ensures
+    rw (c.read_pose.ensures, c.read_vel.ensures, pose-there _ _ refl there, vel-there _ _ refl there) at c.moved_pose.ensures

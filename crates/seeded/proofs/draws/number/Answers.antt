@@ -6,6 +6,6 @@ pub returns-then-k-lt1000 : goal.returns-then-k-lt1000
 unfolding number_of eighths
 returns-then-k-lt1000 c = simp (c.nearest_u32_to_f32.ensures, lt-ltb _ _ c.if-k-lt1000.true)
 
-pub returns : goal.returns
+pub returns-else-k-lt1000 : goal.returns-else-k-lt1000
 unfolding number_of eighths
-returns c = simp (c.nearest_u32_to_f32-2.ensures, le-ltb _ _ c.if-k-lt1000.false)
+returns-else-k-lt1000 c = simp (c.nearest_u32_to_f32-else-k-lt1000.ensures, le-ltb _ _ c.if-k-lt1000.false)
