@@ -5,6 +5,7 @@ use Rattle.multibody.specs.Model.{Model, model}
 use Rattle.study_reader.specs.Words.{line_of, column_of}
 use Rattle.study_reader.specs.Storage.{numbers_size, words_size, names_size}
 use Rattle.study_reader.specs.Keywords.{calls_item}
+use Rattle.study_reader.specs.Faults.{number_of, offset_of}
 use Rattle.study_reader.specs.Draft.{Draft}
 use Rattle.study_reader.specs.Study.{read_study}
 use Rattle.study_reader.specs.declared.draft.State.{State}
@@ -19,11 +20,11 @@ calls_at text st = cond (eqb st.kind calls_item) st.calls (length text)
 -- the first fault with its line and column, and the counts
 unfoldable pub told : List ℕ → State → StudyRead
 told text st = record {
-  fault = st.fault;
+  fault = number_of st.fault;
   bodies = st.bodies;
   joints = st.joints;
-  line = line_of text st.fault_at;
-  column = column_of text st.fault_at;
+  line = line_of text (offset_of st.fault);
+  column = column_of text (offset_of st.fault);
   calls = calls_at text st;
 }
 

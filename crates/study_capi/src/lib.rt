@@ -2,6 +2,5 @@
 // length. include/katydidzinc_study.h describes it.
 #![tactic(auto)]
 
-pub mod clear;
 pub mod read;
 pub mod write;

@@ -3,8 +3,8 @@ ghost use Rattle.std.specs.Prelude.{◌≡◌};
 ghost use Rattle.study_reader.specs.Draft.{draft};
 ghost use Rattle.study_capi.specs.StudyExports.{is_room, short_read, calls_at, told, study_read, read_at};
 
-use crate::clear::{clear, clear_words};
 use study_reader::draft::State;
+use study_reader::faults::{number_of, offset_of};
 use study_reader::fields::CALLS;
 use study_reader::read::read_study;
 use study_reader::storage::{NAMES, NUMBERS, ORIGINS, WORDS};
@@ -26,19 +26,14 @@ pub struct StudyRead {
     pub calls: usize,
 }
 
+#[tactic(auto, unfolding(crate::specs::StudyExports::is_room))]
 fn is_room(numbers: &[f32], origins: &[u32], words: &[u32], names: &[u32]) -> bool
     ensures { result ≡ is_room numbers.now origins.now words.now names.now }
 {
-    if numbers.len() < NUMBERS {
-        return false;
-    }
-    if origins.len() < ORIGINS {
-        return false;
-    }
-    if words.len() < WORDS {
-        return false;
-    }
-    NAMES <= names.len()
+    NUMBERS <= numbers.len()
+        && ORIGINS <= origins.len()
+        && WORDS <= words.len()
+        && NAMES <= names.len()
 }
 
 fn short_read() -> StudyRead
@@ -58,20 +53,21 @@ fn calls_at(text: &[u8], st: State) -> usize
     ensures { result ≡ calls_at text.now st }
 {
     if st.kind == CALLS {
-        return st.calls;
+        st.calls
+    } else {
+        text.len()
     }
-    text.len()
 }
 
 fn told(text: &[u8], st: State) -> StudyRead
     ensures { result ≡ told text.now st }
 {
     StudyRead {
-        fault: st.fault,
+        fault: number_of(st.fault),
         bodies: st.bodies,
         joints: st.joints,
-        line: line_of(text, st.fault_at),
-        column: column_of(text, st.fault_at),
+        line: line_of(text, offset_of(st.fault)),
+        column: column_of(text, offset_of(st.fault)),
         calls: calls_at(text, st),
     }
 }
@@ -85,10 +81,10 @@ fn read_cleared(
 ) -> State
     ensures { draft result numbers.new origins.new words.new names.new ≡ study_read text.now numbers.old origins.old words.old names.old }
 {
-    clear(numbers);
-    clear_words(origins);
-    clear_words(words);
-    clear_words(names);
+    numbers.fill(0.0);
+    origins.fill(0);
+    words.fill(0);
+    names.fill(0);
     read_study(text, numbers, origins, words, names)
 }
 
@@ -107,8 +103,8 @@ pub extern "C" fn katydidzinc_read_study(
     ensures names_after { names.new ≡ (read_at text.now numbers.old origins.old words.old names.old).names }
 {
     if is_room(numbers, origins, words, names) {
-        let st = read_cleared(text, numbers, origins, words, names);
-        return told(text, st);
+        told(text, read_cleared(text, numbers, origins, words, names))
+    } else {
+        short_read()
     }
-    short_read()
 }

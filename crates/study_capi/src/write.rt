@@ -4,7 +4,7 @@ ghost use Rattle.texts.specs.Written.{written};
 ghost use Rattle.study_writer.specs.Printed.{printed_text};
 ghost use Rattle.study_capi.specs.StudyExports.{lent};
 
-use model::header::Header;
+use multibody::header::Header;
 use rows::integration_parameters::IntegrationParameters;
 use study_writer::study::write_study;
 
@@ -24,11 +24,11 @@ pub extern "C" fn katydidzinc_write_study(
 {
     let header = Header {
         params: IntegrationParameters {
-            dt: dt,
-            length_unit: length_unit,
+            dt,
+            length_unit,
             normalized_max_corrective_velocity: normalized,
         },
         built: false,
     };
-    write_study(&mut *out, header, bodies, words, numbers)
+    write_study(out, header, bodies, words, numbers)
 }

@@ -7,10 +7,10 @@ use Rattle.texts.specs.Digits.{is_digit}
 use Rattle.motor_table.specs.WholeNumber.{digits_after}
 use Rattle.texts.specs.Ascii.{ascii}
 use Rattle.study_reader.specs.Words.{has, same_bytes, is_blank, ends_word, run_of, line_count, next_word, is_empty, next_line, bytes_of, whole_up_to, whole_number, feeds_in, column_after, line_of, column_of, same_words}
-use Rattle.study_reader.specs.Names.{name_at, first_from, find_body, ABSENT}
+use Rattle.study_reader.specs.Names.{name_at, first_from, find_body}
 use Rattle.study_reader.specs.Keywords.{field, no_field, joint_item, meaning, field_of, item_keyword, center_angle_keyword}
 use Rattle.study_reader.specs.declared.words.Word.{Word}
-use Rattle.study_reader.specs.declared.words.Whole.{Whole}
+use Rattle.std.specs.Prelude.{Some, None}
 
 abbrev word : ℕ → ℕ → Word
 word b e = record { start = b; end = e }
@@ -38,24 +38,24 @@ unfolding line_of column_of feeds_in column_after
 line-column = (refl, refl)
 
 -- the largest whole number, and the next
-pub largest : whole_number (ascii "04294967289") ≡ Whole.Number 4294967289
+pub largest : whole_number (ascii "04294967289") ≡ Some 4294967289
 unfolding whole_number whole_up_to digits_after is_digit
 largest = refl
 
-pub too_large : whole_number (ascii "4294967290") ≡ Whole.No
+pub too_large : whole_number (ascii "4294967290") ≡ None
 unfolding whole_number whole_up_to digits_after is_digit
 too_large = refl
 
-pub signed : whole_number (ascii "+1") ≡ Whole.No
+pub signed : whole_number (ascii "+1") ≡ None
 unfolding whole_number whole_up_to digits_after is_digit
 signed = refl
 
 -- of two bodies with one name the first; none where the name is longer
-pub first_body : find_body (ascii "leg leg legs") (0 ∷ 3 ∷ 4 ∷ 7 ∷ []) 2 (word 4 7) ≡ 0
+pub first_body : find_body (ascii "leg leg legs") (0 ∷ 3 ∷ 4 ∷ 7 ∷ []) 2 (word 4 7) ≡ Some 0
 unfolding find_body first_from same_words same_bytes bytes_of name_at
 first_body = refl
 
-pub no_body : find_body (ascii "leg leg legs") (0 ∷ 3 ∷ 4 ∷ 7 ∷ []) 2 (word 8 12) ≡ ABSENT
+pub no_body : find_body (ascii "leg leg legs") (0 ∷ 3 ∷ 4 ∷ 7 ∷ []) 2 (word 8 12) ≡ None
 unfolding find_body first_from same_words same_bytes bytes_of name_at
 no_body = refl
 

@@ -4,7 +4,8 @@ use mathlib.Core.Path.{◌≡◌, refl, ◌∙◌}
 use mathlib.Core.Bool.{Bool, true, false, cond}
 use mathlib.Core.List.{List}
 use native.Mathlib.Omega.{arith}
-use lib.Dec.{eqb, ltb, leb}
+use Rattle.std.specs.Prelude.{is_some}
+use lib.Dec.{ltb, leb}
 use lib.ListN.{length, get_or}
 use lib.Seq.{get_or-set_other}
 use Rattle.model.specs.Layout.{words_width, body1_place, body2_place, center_choice_place, first_row_place}
@@ -60,9 +61,9 @@ module _ (j : ℕ) (l : j < most_items) where
   line_first : (text : List ℕ) (d : Draft) → Kept text d.state → First (line_read text d).words ≡ First d.words
   unfolding line_read
   line_first text d k =
-      draft-first (eqb d.state.fault 0) _ d _
+      draft-first (is_some d.state.fault) d _ _ refl
       (draft-first (leb (length text) d.state.at) d _ _ refl
-      (applied-first text (line_of text d.names d.state) d (line-sound text d.names d.state k.at))) refl
+      (applied-first text (line_of text d.names d.state) d (line-sound text d.names d.state k.at)))
 
   lines-first : (text : List ℕ) (n : ℕ) (d : Draft) → Kept text d.state → First (lines_read text n d).words ≡ First d.words
   unfolding lines_read

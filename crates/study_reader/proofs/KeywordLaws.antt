@@ -9,7 +9,8 @@ use lib.Dec.{ltb}
 use lib.ListN.{length}
 use Rattle.study_reader.specs.Words.{same_bytes, next_word, next_line, bytes_of, whole_of}
 use Rattle.study_reader.specs.Keywords.{Named, meaning, field, no_field}
-use Rattle.study_reader.specs.Tables.{word_end, end_in, number_or, number_after, past_word, field_after}
+use Rattle.std.specs.Option.{unwrap_or}
+use Rattle.study_reader.specs.Tables.{word_end, end_in, number_after, past_word, field_after}
 use Rattle.study_reader.specs.declared.fields.Field.{Field}
 use Rattle.study_reader.proofs.Places.{next-line-far}
 
@@ -43,7 +44,7 @@ module _ {A : Type 0} (read : ℕ → A) (other : A) (text bytes : List ℕ) (en
 -- What stands after a word, as above: here it computes where a text is given, and there a text can be told from it.
 
 abbrev number_at : List ℕ → ℕ → ℕ → ℕ
-number_at text other at = number_or other (whole_of text (next_word text at))
+number_at text other at = unwrap_or (whole_of text (next_word text at)) other
 
 abbrev field_at : List ℕ → ℕ → Field
 field_at text at =

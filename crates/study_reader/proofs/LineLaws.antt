@@ -4,7 +4,7 @@ use mathlib.Core.Path.{◌≡◌, refl, sym, ap, ◌∙◌}
 use mathlib.Core.Bool.{true, false, cond}
 use mathlib.Core.List.{List, [], ◌∷◌, ◌++◌, map}
 use native.Mathlib.Omega.{arith}
-use borrow.Author.Tests.{eq-eqb, ne_eqb, lt-leb, leb-true}
+use borrow.Author.Tests.{eq-eqb, lt-leb, leb-true}
 use lib.Bits.{bit_or}
 use lib.Dec.{eqb, ltb, leb}
 use lib.Ieee.{Float}
@@ -14,20 +14,19 @@ use Rattle.texts.specs.Ascii.{ascii}
 use Rattle.motor_table.specs.WholeNumber.{digits_after}
 use Rattle.floats.specs.SinCos.{rotation_from_angle_of}
 use Rattle.decimals.specs.Words.{reading_of}
-use Rattle.decimals.specs.declared.number.Reading.TheVariants.{Number}
+use Rattle.std.specs.Prelude.{Ok}
 use Rattle.model.specs.Layout.{masks_place, center_choice_place}
 use Rattle.study_reader.specs.Words.{same_bytes, next_word, is_empty, bytes_of, next_line, whole_number, whole_up_to}
 use Rattle.study_reader.specs.Numbers.{number_in, number_fault, value_of}
 use Rattle.study_reader.specs.Storage.{body_base, joint_base, words_base}
-use Rattle.study_reader.specs.Names.{ABSENT}
 use Rattle.study_reader.specs.Keywords.{meaning, axis_words, item_words, body_words, mask_words, joint_words, call_words, read_words, body_item, joint_item, calls_item, mass_keyword, inertia_keyword, inverse_mass_keyword, angle_keyword, frame1_angle_keyword, frame2_angle_keyword, lock_keyword, limit_keyword, motor_keyword, couple_keyword, motor_model_keyword, settings_keyword, place_keyword}
 use Rattle.study_reader.specs.Draft.{Draft, draft, reached, item_base, Default, default, puts}
 use Rattle.study_reader.specs.Calls.{bare_call, with_word, with_number, with_pose, with_rotation, bit_of, of_number, of_named, rotation_of, pose_of, place_of, arguments, read_call}
-use Rattle.study_reader.specs.Items.{or_fault, whole, no_center, given_by, given_line, axes_from, named_mask, mask_line, word_line, kind_fault, kind_of, item_line, call_line, line_of}
+use Rattle.study_reader.specs.Items.{or_fault, or_fault_there, whole, no_center, given_by, given_line, axes_from, named_mask, mask_line, word_line, kind_fault, kind_of, item_line, call_line, line_of}
 use Rattle.study_reader.specs.Study.{second, numbers_with, center_with, word_with, applied, line_read}
 use Rattle.study_reader.specs.LineLaws.{HasWords, Next, Leaves, Axis, x, y, angle, axis_name, axis_mask, union, GivesMask, MaskLines, GivesNumbers, NumberLines, Placed, NamesBody, PlaceLines}
 use Rattle.study_reader.specs.declared.words.Word.{Word}
-use Rattle.study_reader.specs.declared.words.Whole.{Whole}
+use Rattle.std.specs.Prelude.{Some, None, is_some}
 use Rattle.study_reader.specs.declared.draft.State.{State}
 use Rattle.study_reader.specs.declared.calls.Line.{Line}
 use Rattle.study_reader.specs.declared.items.Numbers.{Numbers}
@@ -47,14 +46,14 @@ word-there text w b bs e =
     let z : [] ≡ b ∷ bs = sym (ap (λ (k : ℕ). take k (drop w.start text)) n) ∙ e in absurd (let i : ◌≡◌ {A = ℕ} 0 1 = cc in let j : ⊥ = omega arith in j))
     (λ t. t)
 
-number-there : (text : List ℕ) (w : Word) (bs : List ℕ) (a : Float) → bytes_of text w ≡ bs → reading_of bs ≡ Number a → is_empty w ≡ false
+number-there : (text : List ℕ) (w : Word) (bs : List ℕ) (a : Float) → bytes_of text w ≡ bs → reading_of bs ≡ Ok a → is_empty w ≡ false
 unfolding reading_of
 number-there text w [] a e r = let i : ◌≡◌ {A = ℕ} 0 1 = cc in absurd (let j : ⊥ = omega arith in j)
 number-there text w (b ∷ bs) a e r = word-there text w b bs e
 
 -- ---- what a line says, and what it leaves
 
-module _ (text : List ℕ) (d : Draft) (f : d.state.fault ≡ 0) (l : d.state.at < length text) where
+module _ (text : List ℕ) (d : Draft) (f : d.state.fault ≡ None) (l : d.state.at < length text) where
   line-is : (change : Change) → line_of text d.names d.state ≡ change
       → line_read text d ≡ draft (reached (applied change d).state (next_line text d.state.at)) (applied change d).numbers (applied change d).origins (applied change d).words (applied change d).names
   unfolding line_read
@@ -105,7 +104,7 @@ module _ (text names : List ℕ) (st : State) (b : ℕ) (bs : List ℕ) (kind ke
 -- ---- masks
 
 module _ (text : List ℕ) (at place mask : ℕ) (number : List ℕ) where
-  mask-number : whole_number number ≡ Whole.Number mask → HasWords text at (number ∷ []) → mask_line text at place ≡ JointWord place mask (next_word text at).start
+  mask-number : whole_number number ≡ Some mask → HasWords text at (number ∷ []) → mask_line text at place ≡ JointWord place mask (next_word text at).start
   unfolding mask_line whole
   mask-number n (e, z) = simp (e, n, z)
 
@@ -123,7 +122,7 @@ axis-there text w x e = word-there text w _ _ e
 axis-there text w y e = word-there text w _ _ e
 axis-there text w angle e = word-there text w _ _ e
 
-axis-no-number : (a : Axis) → whole_number (axis_name a) ≡ Whole.No
+axis-no-number : (a : Axis) → whole_number (axis_name a) ≡ None
 unfolding whole_number whole_up_to digits_after is_digit
 axis-no-number x = refl
 axis-no-number y = refl
@@ -143,7 +142,7 @@ module _ {b : ℕ} {bs : List ℕ} {place : ℕ} (keyword : ℕ) (t : IsItemWord
   unfolding mask_line named_mask
   gives-mask named = record { by_number = number; by_name = name }
     where
-      number : (text : List ℕ) (d : Draft) (digits : List ℕ) (mask : ℕ) → whole_number digits ≡ Whole.Number mask → Next text joint_item ((b ∷ bs) ∷ digits ∷ []) d
+      number : (text : List ℕ) (d : Draft) (digits : List ℕ) (mask : ℕ) → whole_number digits ≡ Some mask → Next text joint_item ((b ∷ bs) ∷ digits ∷ []) d
           → Leaves text d d.numbers (set d.words (words_base d.state.item + place) mask)
       number text d digits mask e n =
           leaves_word text d n.no_fault n.left place mask _
@@ -229,12 +228,12 @@ module _ (text names : List ℕ) (st : State) where
   unfolding line_of meaning same_bytes
   call_line_lem e = simp (word-there text (next_word text st.at) _ _ e, e)
 
-  call-says : (w : Word) (l : Line) → read_call text names st.bodies st.joints st.repeats w ≡ l → l.fault ≡ 0 → is_empty (next_word text l.at) ≡ true
+  call-says : (w : Word) (l : Line) → read_call text names st.bodies st.joints (is_some st.repeat) w ≡ l → l.fault ≡ None → is_empty (next_word text l.at) ≡ true
       → call_line text names st w ≡ Call l.keyword w.start
-  unfolding call_line whole or_fault
+  unfolding call_line whole or_fault_there
   call-says w l e f z = rw (e, f, z)
 
-module _ (text names : List ℕ) (st : State) (i : ℕ) (body nx ny : List ℕ) (px py : Float) (named : NamesBody text names st i) (rx : reading_of nx ≡ Number px) (ry : reading_of ny ≡ Number py) where
+module _ (text names : List ℕ) (st : State) (i : ℕ) (body nx ny : List ℕ) (px py : Float) (named : NamesBody text names st i) (rx : reading_of nx ≡ Ok px) (ry : reading_of ny ≡ Ok py) where
   -- the words of the line, one after the other
   abbrev w0 : Word
   w0 = next_word text st.at
@@ -258,22 +257,22 @@ module _ (text names : List ℕ) (st : State) (i : ℕ) (body nx ny : List ℕ) 
   abbrev posed : Line
   posed = with_pose (with_number (with_word (bare_call place_keyword w0.end) w1) i) px py w3.end
 
-  by_angle : (na : List ℕ) (a : Float) → reading_of na ≡ Number a → HasWords text st.at (ascii "place" ∷ body ∷ nx ∷ ny ∷ na ∷ [])
+  by_angle : (na : List ℕ) (a : Float) → reading_of na ≡ Ok a → HasWords text st.at (ascii "place" ∷ body ∷ nx ∷ ny ∷ na ∷ [])
       → Placed text names st i px py (rotation_from_angle_of a).re (rotation_from_angle_of a).im
   unfolding arguments place_of pose_of rotation_of of_named of_number number_in meaning same_bytes
   by_angle na a ra (e0, (e1, (e2, (e3, (e4, z))))) =
-      let l : read_call text names st.bodies st.joints st.repeats w0 ≡ with_rotation posed (rotation_from_angle_of a).re (rotation_from_angle_of a).im w4.end =
-      simp (e0, named.0, ne_eqb i ABSENT named.1, e2, rx, e3, ry, e4, ra, z) in (
+      let l : read_call text names st.bodies st.joints (is_some st.repeat) w0 ≡ with_rotation posed (rotation_from_angle_of a).re (rotation_from_angle_of a).im w4.end =
+      simp (e0, named, e2, rx, e3, ry, e4, ra, z) in (
         rw l (record { call = refl; no_fault = refl; body_is = refl; x_is = refl; y_is = refl; re_is = refl; im_is = refl }),
         call_line_lem text names st e0 ∙ call-says text names st w0 _ l refl z,
       )
 
-  by_pair : (nc ns : List ℕ) (c s : Float) → reading_of nc ≡ Number c → reading_of ns ≡ Number s → HasWords text st.at (ascii "place" ∷ body ∷ nx ∷ ny ∷ nc ∷ ns ∷ [])
+  by_pair : (nc ns : List ℕ) (c s : Float) → reading_of nc ≡ Ok c → reading_of ns ≡ Ok s → HasWords text st.at (ascii "place" ∷ body ∷ nx ∷ ny ∷ nc ∷ ns ∷ [])
       → Placed text names st i px py c s
   unfolding arguments place_of pose_of rotation_of of_named of_number number_in meaning same_bytes
   by_pair nc ns c s rc rs (e0, (e1, (e2, (e3, (e4, (e5, z)))))) =
-      let l : read_call text names st.bodies st.joints st.repeats w0 ≡ with_rotation posed c s w5.end =
-      simp (e0, named.0, ne_eqb i ABSENT named.1, e2, rx, e3, ry, e4, rc, number-there text w5 ns s e5 rs, e5, rs) in (
+      let l : read_call text names st.bodies st.joints (is_some st.repeat) w0 ≡ with_rotation posed c s w5.end =
+      simp (e0, named, e2, rx, e3, ry, e4, rc, number-there text w5 ns s e5 rs, e5, rs) in (
         rw l (record { call = refl; no_fault = refl; body_is = refl; x_is = refl; y_is = refl; re_is = refl; im_is = refl }),
         call_line_lem text names st e0 ∙ call-says text names st w0 _ l refl z,
       )

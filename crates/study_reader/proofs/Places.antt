@@ -5,20 +5,21 @@ use mathlib.Core.Bool.{Bool, true, false, cond, not}
 use mathlib.Core.List.{List, [], ◌∷◌}
 use native.Mathlib.Omega.{arith}
 use borrow.Author.Tests.{ne_eqb, eqb-true}
-use lib.Dec.{eqb, ltb}
+use lib.Dec.{eqb}
 use lib.Ieee.{Float}
 use lib.ListN.{length, drop, get_or, length-drop}
-use Rattle.decimals.specs.declared.number.Reading.{Reading}
-use Rattle.decimals.specs.declared.number.Reading.TheVariants.{Number, TooManyDigits, NotANumber}
+use Rattle.std.specs.Prelude.{Result, Ok, Err}
+use Rattle.decimals.specs.declared.number.NumberFault.{NumberFault}
+use Rattle.decimals.specs.declared.number.NumberFault.TheVariants.{TooManyDigits, NotANumber}
 use Rattle.texts.specs.Ascii.{ascii, LF}
 use Rattle.study_reader.specs.Words.{is_blank, ends_word, run_of, line_count, after_blanks, next_word, is_empty, QUOTE, is_quote, next_line, is_word}
 use Rattle.study_reader.specs.Numbers.{number_in}
-use Rattle.study_reader.specs.Names.{ABSENT}
-use Rattle.study_reader.specs.Faults.{fault_file_name, fault_nested, fault_no_repeat}
+use Rattle.study_reader.specs.Faults.{offset_of, fault_file_name, fault_nested, fault_no_repeat}
 use Rattle.study_reader.specs.Keywords.{read_rows_keyword, read_velocity_keyword, set_targets_keyword, repeat_keyword, end_keyword, table_keyword, masks_keyword, frame_keyword, settle_keyword, place_keyword, build_keyword, sweep_keyword}
-use Rattle.study_reader.specs.Calls.{no_mask, bare_call, wrong, with_place, with_pose, with_warm, with_sweeps, first, of_number, of_whole, of_named, read_substep, rotation_of, pose_of, place_of, substep_of, build_of, read_substeps, substeps_of, after_rounds, read_sweeps, sweeps_of, frame_of, csv_of, read_most, most_of, settle_of, quoted_of, file_of, read_repeat, read_end, mask_named, bits_of, of_bits, mask_word, mask_step, mask_steps, other_arguments, arguments, read_call}
+use Rattle.study_reader.specs.Calls.{bare_call, wrong, with_place, with_pose, with_warm, with_sweeps, first, of_number, of_whole, of_named, read_substep, rotation_of, pose_of, place_of, substep_of, build_of, read_substeps, substeps_of, after_rounds, read_sweeps, sweeps_of, frame_of, csv_of, read_most, most_of, settle_of, quoted_of, file_of, read_repeat, read_end, mask_named, bits_of, of_bits, bits_word, mask_or_bits, mask_word, mask_step, mask_steps, other_arguments, arguments, read_call}
 use Rattle.study_reader.specs.declared.words.Word.{Word}
-use Rattle.study_reader.specs.declared.words.Whole.{Whole}
+use Rattle.std.specs.Prelude.{Option, Some, None, is_some}
+use Rattle.study_reader.specs.declared.faults.Fault.{Fault}
 use Rattle.study_reader.specs.declared.calls.Line.{Line}
 
 pub by_cases : {P : Type 0} (t : Bool) → (t ≡ true → P) → (t ≡ false → P) → P
@@ -81,27 +82,28 @@ module _ (text : List ℕ) (at : ℕ) where
 
 pub record Within (text : List ℕ) (l : Line) : Type 0 where
   pub at : l.at ≤ length text
-  pub fault : l.fault_at ≤ length text
+  pub fault : offset_of l.fault ≤ length text
 
 module _ (text : List ℕ) where
   within-cond : (t : Bool) (a b : Line) → Within text a → Within text b → Within text (cond t a b)
   within-cond true a b p q = p
   within-cond false a b p q = q
 
-  within-number : (l : Line) (w : Word) (r : Reading) (next : Float → Line) → w.start ≤ length text → Within text l → ((x : Float) → Within text (next x)) → Within text (of_number l w r next)
+  within-number : (l : Line) (w : Word) (r : Result Float NumberFault) (next : Float → Line) → w.start ≤ length text → Within text l → ((x : Float) → Within text (next x)) → Within text (of_number l w r next)
   unfolding of_number
-  within-number l w (Number x) next s h n = n x
-  within-number l w TooManyDigits next s h n = record { at = h.at; fault = s }
-  within-number l w NotANumber next s h n = record { at = h.at; fault = s }
+  within-number l w (Ok x) next s h n = n x
+  within-number l w (Err TooManyDigits) next s h n = record { at = h.at; fault = s }
+  within-number l w (Err NotANumber) next s h n = record { at = h.at; fault = s }
 
-  within-whole : (l : Line) (w : Word) (v : Whole) → w.start ≤ length text → w.end ≤ length text → Within text l → Within text (of_whole l w v)
+  within-whole : (l : Line) (w : Word) (v : Option ℕ) → w.start ≤ length text → w.end ≤ length text → Within text l → Within text (of_whole l w v)
   unfolding of_whole
-  within-whole l w (Whole.Number n) s e h = record { at = e; fault = h.fault }
-  within-whole l w Whole.No s e h = record { at = h.at; fault = s }
+  within-whole l w (Some n) s e h = record { at = e; fault = h.fault }
+  within-whole l w None s e h = record { at = h.at; fault = s }
 
-  within-named : (l : Line) (w : Word) (fault i : ℕ) → w.start ≤ length text → w.end ≤ length text → Within text l → Within text (of_named l w fault i)
+  within-named : (l : Line) (w : Word) (fault : Fault) (o : Option ℕ) → w.start ≤ length text → w.end ≤ length text → Within text l → Within text (of_named l w fault o)
   unfolding of_named
-  within-named l w fault i s e h = within-cond (eqb i ABSENT) _ _ (record { at = h.at; fault = s }) (record { at = e; fault = h.fault })
+  within-named l w fault (Some i) s e h = record { at = e; fault = h.fault }
+  within-named l w fault None s e h = record { at = h.at; fault = s }
 
   within-rotation : (l : Line) (v w : Word) → v.start ≤ length text → v.end ≤ length text → w.start ≤ length text → w.end ≤ length text → Within text l → Within text (rotation_of text l v w)
   unfolding rotation_of
@@ -123,7 +125,7 @@ module _ (text : List ℕ) where
   unfolding place_of
   within-place r h =
       let q = end-inside text r.at h.at in
-      within-cond (eqb r.fault 0) _ _ (within-pose r _ _ (start-inside text r.at h.at) (start-inside text _ q) (end-inside text _ q) h) h
+      within-cond (is_some r.fault) _ _ h (within-pose r _ _ (start-inside text r.at h.at) (start-inside text _ q) (end-inside text _ q) h)
 
   within-substep : (l : Line) → Within text l → Within text (read_substep text l)
   unfolding substep_of
@@ -152,7 +154,7 @@ module _ (text : List ℕ) where
 
   within-rounds : (r : Line) → Within text r → Within text (after_rounds text r)
   unfolding after_rounds
-  within-rounds r h = within-cond (eqb r.fault 0) _ _ (within-substeps (with_sweeps r) (record { at = h.at; fault = h.fault })) h
+  within-rounds r h = within-cond (is_some r.fault) _ _ h (within-substeps (with_sweeps r) (record { at = h.at; fault = h.fault }))
 
   within-sweeps : (l : Line) → Within text l → Within text (read_sweeps text l)
   unfolding sweeps_of
@@ -198,22 +200,30 @@ module _ (text : List ℕ) where
       within-cond (is_empty w) _ _ (record { at = h.at; fault = s })
       (within-cond (is_quote text w.start) _ _ (within-quoted l w.start _ s h) (record { at = e; fault = h.fault }))
 
-  within-bits : (l : Line) (w : Word) (b : Whole) → w.start ≤ length text → w.end ≤ length text → Within text l → Within text (of_bits l w b)
+  within-bits : (l : Line) (w : Word) (i : ℕ) (b : Option ℕ) → w.start ≤ length text → w.end ≤ length text → Within text l → Within text (of_bits l w i b)
   unfolding of_bits
-  within-bits l w (Whole.Number b) s e h = record { at = e; fault = h.fault }
-  within-bits l w Whole.No s e h = record { at = h.at; fault = s }
+  within-bits l w i (Some b) s e h = record { at = e; fault = h.fault }
+  within-bits l w i None s e h = record { at = h.at; fault = s }
+
+  within-bits-word : (l : Line) (w : Word) (o : Option ℕ) → w.start ≤ length text → w.end ≤ length text → Within text l → Within text (bits_word text l w o)
+  unfolding bits_word
+  within-bits-word l w (Some i) s e h = within-bits l w i (bits_of text w) s e h
+  within-bits-word l w None s e h = record { at = h.at; fault = s }
+
+  within-mask-or-bits : (l : Line) (w : Word) (o : Option ℕ) → w.start ≤ length text → w.end ≤ length text → Within text l → Within text (mask_or_bits text l w o)
+  unfolding mask_or_bits
+  within-mask-or-bits l w (Some i) s e h = record { at = e; fault = h.fault }
+  within-mask-or-bits l w None s e h = within-bits-word l w l.mask s e h
 
   within-mask-word : (l : Line) (w : Word) → w.start ≤ length text → w.end ≤ length text → Within text l → Within text (mask_word text l w)
   unfolding mask_word
-  within-mask-word l w s e h =
-      within-cond (ltb (mask_named text w) no_mask) _ _ (record { at = e; fault = h.fault })
-      (within-cond (ltb l.mask no_mask) _ _ (within-bits l w (bits_of text w) s e h) (record { at = h.at; fault = s }))
+  within-mask-word l w s e h = within-mask-or-bits l w (mask_named text w) s e h
 
   within-mask-step : (l : Line) → Within text l → Within text (mask_step text l)
   unfolding mask_step
   within-mask-step l h =
-      within-cond (eqb l.fault 0) _ _
-      (within-cond (is_empty (first text l)) _ _ h (within-mask-word l _ (start-inside text l.at h.at) (end-inside text l.at h.at) h)) h
+      within-cond (is_some l.fault) _ _ h
+      (within-cond (is_empty (first text l)) _ _ h (within-mask-word l _ (start-inside text l.at h.at) (end-inside text l.at h.at) h))
 
   within-mask-steps : (n : ℕ) (l : Line) → Within text l → Within text (mask_steps text n l)
   unfolding mask_steps
@@ -227,7 +237,7 @@ module _ (text : List ℕ) where
     e1 : (first text l).end ≤ length text
     e1 = end-inside text l.at h.at
 
-    wrong-within : (fault place : ℕ) → place ≤ length text → Within text (wrong l fault place)
+    wrong-within : (fault : Fault) (place : ℕ) → place ≤ length text → Within text (wrong l fault place)
     wrong-within fault place p = record { at = h.at; fault = p }
 
     within-other : (names : List ℕ) (bodies joints : ℕ) (repeats : Bool) (place : ℕ) → place ≤ length text → Within text (other_arguments text names bodies joints repeats l place)

@@ -5,7 +5,7 @@ use mathlib.Core.Bool.{Bool, true, false, cond}
 use mathlib.Core.List.{List, [], ◌∷◌}
 use native.Mathlib.Numerals.{add-one}
 use native.Mathlib.Omega.{arith}
-use borrow.Author.Tests.{eq-eqb, ne_eqb, lt-leb, eqb-true, eqb-false, ltb-true, ltb-false, leb-true, leb-false}
+use borrow.Author.Tests.{lt-leb, eqb-true, eqb-false, ltb-true, ltb-false, leb-true, leb-false}
 use lib.Bits.{bit_or}
 use lib.Dec.{eqb, ltb, leb}
 use lib.Ieee.{Float}
@@ -13,19 +13,22 @@ use lib.ListN.{length, set, length-set}
 use lib.Seq.{get_or-set_same, get_or-set_other}
 use Rattle.texts.specs.Ascii.{ascii}
 use Rattle.study_reader.specs.Words.{next_word, is_empty, is_word, whole_of}
-use Rattle.study_reader.specs.Faults.{fault_unknown, fault_no_body, fault_axis, fault_bodies_full, fault_joints_full, fault_after_calls, fault_model, fault_open_repeat}
+use Rattle.study_reader.specs.Faults.{offset_of, fault_unknown, fault_no_body, fault_axis, fault_bodies_full, fault_joints_full, fault_after_calls, fault_model}
 use Rattle.model.specs.Layout.{masks_place, models_place, enabled_place, first_row_place, center_place}
 use Rattle.study_reader.specs.Storage.{most_items, joint_base}
-use Rattle.study_reader.specs.Names.{ABSENT, find_end}
-use Rattle.study_reader.specs.Keywords.{axis_of, field_of, no_item, calls_item, item_keyword, call_keyword, lock_keyword, motor_model_keyword, enabled_keyword, center_keyword, settings_keyword, body_keyword, repeat_keyword}
+use Rattle.study_reader.specs.Names.{find_end}
+use Rattle.study_reader.specs.Keywords.{axis_of, field_of, no_item, calls_item, item_keyword, call_keyword, lock_keyword, motor_model_keyword, enabled_keyword, center_keyword, settings_keyword, body_keyword, repeat_keyword, end_keyword}
 use Rattle.study_reader.specs.Calls.{bit_of, read_call}
-use Rattle.study_reader.specs.Draft.{Draft, draft, start, faulty, item_base, puts, settings_defaults}
-use Rattle.study_reader.specs.Items.{by_pair, no_center, name_fault, kind_fault, kind_of, or_fault, whole, second_number, numbers_from, given_line, field_numbers, axes_from, named_mask, mask_of, mask_line, model_line, word_line, body_line, ends_line, joint_line, field_line, open_line, item_line, call_line, line_of}
-use Rattle.study_reader.specs.Study.{second, numbers_with, open_body, open_joint, applied, line_read, lines_read, ended, is_left_out, center_joint, center_joints, read_study}
+use Rattle.study_reader.specs.Draft.{Draft, draft, start, item_base, puts, settings_defaults}
+use Rattle.study_reader.specs.Items.{by_pair, no_center, name_fault, kind_fault, kind_of, or_fault, or_fault_there, whole, second_number, numbers_from, given_line, field_numbers, axes_from, named_mask, mask_of, mask_line, model_line, word_line, body_line, between, ends_line, joint_line, field_line, open_line, item_line, call_line, line_of}
+use Rattle.study_reader.specs.Study.{second, numbers_with, open_body, open_joint, applied, line_read, lines_read, left_open, ended, is_left_out, center_joint, center_joints, read_study}
 use Rattle.study_reader.specs.Laws.{BlankLine, FirstFault, WholeText, AllInside, Defaults, default_at, Replaced}
 use Rattle.study_reader.specs.declared.words.Word.{Word}
-use Rattle.study_reader.specs.declared.words.Whole.{Whole}
-use Rattle.study_reader.specs.declared.words.Whole.TheVariants.{Number, No}
+use Rattle.std.specs.Prelude.{Option, Some, None, is_some}
+use Rattle.std.specs.Option.{unwrap_or}
+use mathlib.Core.Bool.{false≢true}
+use Rattle.study_reader.specs.declared.faults.Fault.{Fault}
+use Rattle.study_reader.specs.declared.faults.FaultAt.{FaultAt}
 use Rattle.study_reader.specs.declared.draft.State.{State}
 use Rattle.study_reader.specs.declared.items.Change.{Change}
 use Rattle.study_reader.specs.declared.items.Change.TheVariants.{Nothing, Wrong, Given, JointWord, OpenSettings, OpenBody, OpenJoint, Call}
@@ -35,11 +38,19 @@ use Rattle.study_reader.proofs.Places.{by_cases, start-inside, end-inside, next-
 
 pub blank-line : BlankLine
 unfolding line_read line_of applied
-blank-line text d f l e = rw (eq-eqb _ _ f, lt-leb _ _ l, e)
+blank-line text d f l e = rw (f, lt-leb _ _ l, e)
 
-fault-line : (text : List ℕ) (d : Draft) → (d.state.fault ≡ 0 → ⊥) → line_read text d ≡ d
+told : (o : Option FaultAt) → (o ≡ None → ⊥) → is_some o ≡ true
+told (Some f) h = refl
+told None h = absurd (h refl)
+
+free : (o : Option FaultAt) → is_some o ≡ false → o ≡ None
+free (Some f) e = absurd (false≢true (sym e))
+free None e = refl
+
+fault-line : (text : List ℕ) (d : Draft) → (d.state.fault ≡ None → ⊥) → line_read text d ≡ d
 unfolding line_read
-fault-line text d f = rw (ne_eqb _ _ f)
+fault-line text d f = rw (told d.state.fault f)
 
 pub first-fault : FirstFault
 unfolding lines_read
@@ -47,19 +58,22 @@ first-fault text zero d f = refl
 first-fault text (suc n) d f = rw (fault-line text d f) (first-fault text n d f)
 
 -- a line that is read leaves fewer bytes to read than there were
-line-far : (text : List ℕ) (n : ℕ) (d : Draft) → d.state.fault ≡ 0 → length text ≤ d.state.at + suc n → length text ≤ (line_read text d).state.at + n
+line-far : (text : List ℕ) (n : ℕ) (d : Draft) → d.state.fault ≡ None → length text ≤ d.state.at + suc n → length text ≤ (line_read text d).state.at + n
 unfolding line_read
 line-far text n d f h =
-    rw (eq-eqb _ _ f)
+    rw f
     (by_cases (leb (length text) d.state.at) (λ e. let l = leb-true (length text) d.state.at e in rw e (omega arith))
     (λ e. let l = next-line-far text d.state.at (leb-false _ _ e) in rw e (omega arith)))
 
-all_read : (text : List ℕ) (n : ℕ) (d : Draft) → length text ≤ d.state.at + n → (lines_read text n d).state.fault ≡ 0 → length text ≤ (lines_read text n d).state.at
+all_read : (text : List ℕ) (n : ℕ) (d : Draft) → length text ≤ d.state.at + n → (lines_read text n d).state.fault ≡ None → length text ≤ (lines_read text n d).state.at
 unfolding lines_read
 all_read text zero d h f = omega arith
 all_read text (suc n) d h f =
-    by_cases (eqb d.state.fault 0) (λ e. all_read text n (line_read text d) (line-far text n d (eqb-true _ _ e) h) f)
-    (λ e. absurd (eqb-false _ _ e (sym (ap (λ (x : Draft). x.state.fault) (first-fault text (suc n) d (eqb-false _ _ e))) ∙ f)))
+    by_cases (is_some d.state.fault)
+    (λ e.
+    let some : d.state.fault ≡ None → ⊥ = λ z. false≢true (sym (ap is_some z) ∙ e) in
+    absurd (some (sym (ap (λ (x : Draft). x.state.fault) (first-fault text (suc n) d some)) ∙ f)))
+    (λ e. all_read text n (line_read text d) (line-far text n d (free d.state.fault e) h) f)
 
 pub whole-text : WholeText
 whole-text text d f = all_read text (length text) d (omega arith) f
@@ -103,7 +117,7 @@ pub record Sound (text : List ℕ) (change : Change) : Type 0 where
   pub word : word_in change < first_row_place
 
 module _ (text : List ℕ) where
-  wrong-sound : (fault at : ℕ) → at ≤ length text → Sound text (Wrong fault at)
+  wrong-sound : (fault : Fault) (at : ℕ) → at ≤ length text → Sound text (Wrong fault at)
   unfolding place_in many_in word_in
   wrong-sound fault at h = record { place = h; many = omega arith; word = omega arith }
 
@@ -115,9 +129,15 @@ module _ (text : List ℕ) where
   guarded-sound true a b p q = p refl
   guarded-sound false a b p q = q refl
 
-  fault-sound : (fault at : ℕ) (change : Change) → at ≤ length text → Sound text change → Sound text (or_fault fault at change)
+  fault-sound : (fault : Option Fault) (at : ℕ) (change : Change) → at ≤ length text → Sound text change → Sound text (or_fault fault at change)
   unfolding or_fault
-  fault-sound fault at change h s = cond-sound (eqb fault 0) _ _ s (wrong-sound fault at h)
+  fault-sound (Some fault) at change h s = wrong-sound fault at h
+  fault-sound None at change h s = s
+
+  fault-there-sound : (fault : Option FaultAt) (change : Change) → offset_of fault ≤ length text → Sound text change → Sound text (or_fault_there fault change)
+  unfolding or_fault_there
+  fault-there-sound (Some f) change h s = wrong-sound f.fault f.at h
+  fault-there-sound None change h s = s
 
   whole-sound : (at : ℕ) (change : Change) → at ≤ length text → Sound text change → Sound text (whole text at change)
   unfolding whole
@@ -167,9 +187,9 @@ module _ (text : List ℕ) where
   unfolding named_mask
   named-sound at place w p h s = cond-sound (is_empty w) _ _ (wrong-sound _ _ s) (axes-sound place w.start 3 0 at p h)
 
-  mask-sound : (at place : ℕ) (w : Word) (v : Whole) → place < first_row_place → at ≤ length text → w.start ≤ length text → w.end ≤ length text → Sound text (mask_of text at place w v)
-  mask-sound at place w (Number mask) p h s e = whole-sound _ _ e (word_sound _ _ _ p)
-  mask-sound at place w No p h s e = named-sound at place w p h s
+  mask-sound : (at place : ℕ) (w : Word) (v : Option ℕ) → place < first_row_place → at ≤ length text → w.start ≤ length text → w.end ≤ length text → Sound text (mask_of text at place w v)
+  mask-sound at place w (Some mask) p h s e = whole-sound _ _ e (word_sound _ _ _ p)
+  mask-sound at place w None p h s e = named-sound at place w p h s
 
   mask-line-sound : (at place : ℕ) → place < first_row_place → at ≤ length text → Sound text (mask_line text at place)
   unfolding mask_line
@@ -200,7 +220,7 @@ module _ (text : List ℕ) where
       (whole-sound w.end _ h (word_sound enabled_place (keyword - enabled_keyword) w.start (omega arith))))))
 
   -- one more than a number below the most is at most the most
-  counted-sound : (n : ℕ) (some : Change) (at fault : ℕ) → at ≤ length text → (n < most_items → Sound text some) → Sound text (cond (ltb n most_items) some (Wrong fault at))
+  counted-sound : (n : ℕ) (some : Change) (at : ℕ) (fault : Fault) → at ≤ length text → (n < most_items → Sound text some) → Sound text (cond (ltb n most_items) some (Wrong fault at))
   counted-sound n some at fault h s = by_cases (ltb n most_items) (λ e. rw e (s (ltb-true n most_items e))) (λ e. rw e (wrong-sound _ _ h))
 
   body-sound : (w : Word) (n : ℕ) → n ≤ most_items → Sound text (OpenBody w n)
@@ -220,15 +240,19 @@ module _ (text : List ℕ) where
       (counted-sound st.bodies _ w.start fault_bodies_full s
       (λ l. whole-sound w.end _ (end-inside text at h) (body-sound w (st.bodies + 1) (omega arith))))
 
+  between-sound : (u : Word) (joints : ℕ) (v w : Word) (o p : Option ℕ) → v.start ≤ length text → w.start ≤ length text → w.end ≤ length text → joints ≤ most_items → Sound text (between text u joints v w o p)
+  unfolding between
+  between-sound u joints v w None p s t e l = wrong-sound fault_no_body v.start s
+  between-sound u joints v w (Some i) None s t e l = wrong-sound fault_no_body w.start t
+  between-sound u joints v w (Some i) (Some j) s t e l = whole-sound w.end _ e (joint-sound u joints _ l)
+
   ends-sound : (names : List ℕ) (bodies : ℕ) (u : Word) (joints : ℕ) → u.end ≤ length text → joints ≤ most_items → Sound text (ends_line text names bodies u joints)
   unfolding ends_line
   ends-sound names bodies u joints h l =
       let v = next_word text u.end in
       let w = next_word text v.end in
       let e = end-inside text u.end h in
-      cond-sound (eqb (find_end text names bodies v) ABSENT) _ _ (wrong-sound fault_no_body v.start (start-inside text u.end h))
-      (cond-sound (eqb (find_end text names bodies w) ABSENT) _ _ (wrong-sound fault_no_body w.start (start-inside text v.end e))
-      (whole-sound w.end _ (end-inside text v.end e) (joint-sound u joints _ l)))
+      between-sound u joints v w (find_end text names bodies v) (find_end text names bodies w) (start-inside text u.end h) (start-inside text v.end e) (end-inside text v.end e) l
 
   joint-line-sound : (names : List ℕ) (st : State) (at : ℕ) → at ≤ length text → Sound text (joint_line text names st at)
   unfolding joint_line
@@ -264,9 +288,9 @@ module _ (text : List ℕ) where
     call-sound : Sound text (call_line text names st w)
     unfolding call_line place_in many_in word_in
     call-sound =
-        let c = call-within text names st.bodies st.joints st.repeats w s e in
-        let l = read_call text names st.bodies st.joints st.repeats w in
-        fault-sound l.fault l.fault_at _ c.fault (whole-sound l.at (Call l.keyword w.start) c.at (record { place = s; many = omega arith; word = omega arith }))
+        let c = call-within text names st.bodies st.joints (is_some st.repeat) w s e in
+        let l = read_call text names st.bodies st.joints (is_some st.repeat) w in
+        fault-there-sound l.fault _ c.fault (whole-sound l.at (Call l.keyword w.start) c.at (record { place = s; many = omega arith; word = omega arith }))
 
   pub line-sound : (names : List ℕ) (st : State) → st.at ≤ length text → Sound text (line_of text names st)
   unfolding line_of place_in many_in word_in
@@ -281,8 +305,8 @@ module _ (text : List ℕ) where
 
 pub record Kept (text : List ℕ) (st : State) : Type 0 where
   pub at : st.at ≤ length text
-  pub fault : st.fault_at ≤ length text
-  pub repeat : st.repeat_at ≤ length text
+  pub fault : offset_of st.fault ≤ length text
+  pub repeat : unwrap_or st.repeat 0 ≤ length text
   pub bodies : st.bodies ≤ most_items
   pub joints : st.joints ≤ most_items
 
@@ -299,7 +323,7 @@ module _ (text : List ℕ) where
   applied-kept (Call keyword at) d s k = record {
     at = k.at;
     fault = k.fault;
-    repeat = by_cases (eqb keyword repeat_keyword) (λ e. rw e s.place) (λ e. rw e k.repeat);
+    repeat = by_cases (eqb keyword repeat_keyword) (λ e. rw e s.place) (λ e. by_cases (eqb keyword end_keyword) (λ f. rw (e, f) (omega arith)) (λ f. rw (e, f) k.repeat));
     bodies = k.bodies;
     joints = k.joints;
   }
@@ -316,21 +340,25 @@ module _ (text : List ℕ) where
   unfolding line_read
   line_kept d k =
       let a = applied-kept (line_of text d.names d.state) d (line-sound text d.names d.state k.at) k in
-      draft-kept (eqb d.state.fault 0) _ d
+      draft-kept (is_some d.state.fault) d _ k
       (draft-kept (leb (length text) d.state.at) d _ k
-      (record { at = next-line-inside text d.state.at k.at; fault = a.fault; repeat = a.repeat; bodies = a.bodies; joints = a.joints })) k
+      (record { at = next-line-inside text d.state.at k.at; fault = a.fault; repeat = a.repeat; bodies = a.bodies; joints = a.joints }))
 
   lines-kept : (n : ℕ) (d : Draft) → Kept text d.state → Kept text (lines_read text n d).state
   unfolding lines_read
   lines-kept zero d k = k
   lines-kept (suc n) d k = lines-kept n (line_read text d) (line_kept d k)
 
+  left-kept : (o : Option ℕ) (st : State) → unwrap_or o 0 ≤ length text → Kept text st → Kept text (left_open o st)
+  unfolding left_open
+  left-kept (Some at) st p k = record { at = k.at; fault = p; repeat = k.repeat; bodies = k.bodies; joints = k.joints }
+  left-kept None st p k = k
+
   ended-kept : (st : State) → Kept text st → Kept text (ended st)
   unfolding ended
   ended-kept st k =
-      state-kept (eqb st.fault 0) _ st
-      (state-kept st.repeats (faulty st fault_open_repeat st.repeat_at) st
-      (record { at = k.at; fault = k.repeat; repeat = k.repeat; bodies = k.bodies; joints = k.joints }) k) k
+      state-kept (is_some st.fault) st _ k
+      (left-kept st.repeat st k.repeat k)
 
 same-state : (t : Bool) (a b : Draft) → a.state ≡ b.state → (cond t a b).state ≡ b.state
 same-state true a b p = p

@@ -3,12 +3,17 @@ use mathlib.Core.Path.{◌≡◌, refl, sym, ap, ◌∙◌}
 use mathlib.Core.Bool.{Bool, true, false, cond, not, ◌&&◌, ◌||◌}
 use mathlib.Core.List.{List, [], ◌∷◌}
 use mathlib.Core.Option.{none}
-use Prim.Native.Nat.{ℕ, zero, suc, ◌+◌, ◌-◌, ◌*◌, ◌≤◌, ◌<◌}
+use Rattle.std.specs.Prelude.{Some, None}
+use Prim.Native.Nat.{ℕ, zero, suc, max, ◌+◌, ◌-◌, ◌*◌, ◌≤◌, ◌<◌}
 use native.Mathlib.Nat.{sub-zero}
 use native.Mathlib.Numerals.{add-one}
 use native.Mathlib.Omega.{arith}
-use borrow.Author.Tests.{eq-eqb, ne_eqb, le-leb, lt-leb}
-use lib.Dec.{eqb, leb}
+use borrow.Author.Tests.{eq-eqb, ne_eqb, le-leb, lt-leb, ltb-true, eqb-true, eqb-false}
+use Rattle.std.specs.List.{list_any}
+use Rattle.std.proofs.lemmas.Bool.{ltb-false}
+use Rattle.std.proofs.Math.Nat.{le-max_left, le-max_right, max-le}
+use lib.Dec.{eqb, leb, ltb}
+use lib.Pointwise.{pointwise}
 use lib.ListN.{length, drop, take, get_or, drop_of_length-le, length-drop}
 use lib.Seq.{drop-cons, take_all, take-nil}
 use Rattle.texts.specs.Digits.{is_digit}
@@ -16,7 +21,6 @@ use Rattle.motor_table.specs.WholeNumber.{digits_after}
 use Rattle.texts.specs.Ascii.{LF}
 use Rattle.study_reader.specs.Words.{has, same_bytes, run_of, line_count, bytes_of, feeds_in, column_after, whole_up_to, whole_number}
 use Rattle.study_reader.specs.declared.words.Word.{Word}
-use Rattle.study_reader.specs.declared.words.Whole.{Whole}
 
 -- a test that a Bool holds, turned round
 pub open-test : (t : Bool) → t ≡ false → not t ≡ true
@@ -104,59 +108,44 @@ module _ (s : List ℕ) (i : ℕ) where
   unfolding line_count
   line-end h = sym (ap (λ (l : List ℕ). i + line_count l) (drop_of_length-le s h) ∙ omega arith)
 
+-- where a search from a place on comes to that finds nothing: the end of the text, or the place itself where that is past the end
+module _ (s : List ℕ) (f : ℕ → ℕ) (stays : (k : ℕ) → length s ≤ k → k ≡ f k) (from at m : ℕ) (q : m ≡ max from (length s)) (inside : from ≤ length s → at ≤ length s) (past : length s ≤ at) (e : f at ≡ f from) where
+  pub past-end : m ≡ f from
+  past-end = go (ltb (length s) from) refl
+    where
+      go : (t : Bool) → ltb (length s) from ≡ t → m ≡ f from
+      go true t =
+          let p : length s < from = ltb-true (length s) from t in
+          let u : max from (length s) ≤ from = max-le (omega arith) (omega arith) in
+          let k : m ≡ from = omega (arith, q, u, le-max_left from (length s)) in k ∙ stays from (omega arith)
+      go false t =
+          let p : from ≤ length s = ltb-false (length s) from t in
+          let i : at ≤ length s = inside p in
+          let u : max from (length s) ≤ length s = max-le p (omega arith) in
+          let k : m ≡ at = omega (arith, q, u, i, le-max_right from (length s)) in k ∙ stays at past ∙ e
+
 -- ---- a byte that a text has
 
-module _ (s : List ℕ) (i b : ℕ) where
-  pub has_here : i < length s → get_or s i 0 ≡ b → true ≡ has (drop i s) b
-  unfolding has
-  has_here below e =
-      sym (ap (λ (l : List ℕ). has l b) (drop-cons s i 0 below) ∙ ap (λ (t : Bool). t || has (drop (suc i) s) b) (eq-eqb b (get_or s i 0) (sym e)))
+eqb-turned : (a b : ℕ) → eqb a b ≡ eqb b a
+eqb-turned a b = go (eqb a b) refl
+  where
+    go : (t : Bool) → eqb a b ≡ t → t ≡ eqb b a
+    go true e = sym (eq-eqb b a (sym (eqb-true a b e)))
+    go false e = sym (ne_eqb b a (λ q. eqb-false a b e (sym q)))
 
-  pub has-next : i < length s → (get_or s i 0 ≡ b → ⊥) → has (drop (i + 1) s) b ≡ has (drop i s) b
-  unfolding has
-  has-next below e =
-      sym
-      (ap (λ (l : List ℕ). has l b) (drop-cons s i 0 below)
-      ∙ ap (λ (t : Bool). t || has (drop (suc i) s) b) (ne_eqb b (get_or s i 0) (λ q. e (sym q)))
-      ∙ ap (λ (k : ℕ). has (drop k s) b) (sym (add-one i)))
-
-  pub has_end : length s ≤ i → false ≡ has (drop i s) b
-  unfolding has
-  has_end h = sym (ap (λ (l : List ℕ). has l b) (drop_of_length-le s h))
+pub any-has : (s : List ℕ) (b : ℕ) → list_any (λ y. eqb y b) s ≡ has s b
+unfolding has
+any-has [] b = refl
+any-has (a ∷ rest) b = ap (λ (t : Bool). t || list_any (λ y. eqb y b) rest) (eqb-turned a b) ∙ ap (λ (t : Bool). eqb b a || t) (any-has rest b)
 
 -- ---- two texts
 
-pub same_length : (a b : List ℕ) → (length a ≡ length b → ⊥) → false ≡ same_bytes a b
+pub same_pointwise : (a b : List ℕ) → pointwise eqb a b ≡ same_bytes a b
 unfolding same_bytes
-same_length [] [] h = absurd (h refl)
-same_length [] (y ∷ ys) h = refl
-same_length (x ∷ xs) [] h = refl
-same_length (x ∷ xs) (y ∷ ys) h = same_length xs ys (λ e. h (ap suc e)) ∙ sym (tail (eqb x y) (same_bytes xs ys) (sym (same_length xs ys (λ e. h (ap suc e)))))
-  where
-    tail : (t u : Bool) → u ≡ false → t && u ≡ u
-    tail true u e = refl
-    tail false u e = sym e
-
-module _ (a b : List ℕ) (i : ℕ) where
-  same_step : i < length a → i < length b → same_bytes (drop i a) (drop i b) ≡ eqb (get_or a i 0) (get_or b i 0) && same_bytes (drop (i + 1) a) (drop (i + 1) b)
-  unfolding same_bytes
-  same_step p q =
-      ap (λ (l : List ℕ). same_bytes l (drop i b)) (drop-cons a i 0 p)
-      ∙ ap (λ (l : List ℕ). same_bytes (get_or a i 0 ∷ drop (suc i) a) l) (drop-cons b i 0 q)
-      ∙ ap (λ (k : ℕ). eqb (get_or a i 0) (get_or b i 0) && same_bytes (drop k a) (drop k b)) (sym (add-one i))
-
-  pub same_here : i < length a → i < length b → get_or a i 0 ≡ get_or b i 0 → same_bytes (drop (i + 1) a) (drop (i + 1) b) ≡ same_bytes (drop i a) (drop i b)
-  same_here p q e =
-      sym (same_step p q ∙ ap (λ (t : Bool). t && same_bytes (drop (i + 1) a) (drop (i + 1) b)) (eq-eqb (get_or a i 0) (get_or b i 0) e))
-
-  pub same_not : i < length a → i < length b → (get_or a i 0 ≡ get_or b i 0 → ⊥) → false ≡ same_bytes (drop i a) (drop i b)
-  same_not p q e =
-      sym (same_step p q ∙ ap (λ (t : Bool). t && same_bytes (drop (i + 1) a) (drop (i + 1) b)) (ne_eqb (get_or a i 0) (get_or b i 0) e))
-
-  pub same_end : length a ≤ i → length b ≤ i → true ≡ same_bytes (drop i a) (drop i b)
-  unfolding same_bytes
-  same_end p q =
-      sym (ap (λ (l : List ℕ). same_bytes l (drop i b)) (drop_of_length-le a p) ∙ ap (λ (l : List ℕ). same_bytes [] l) (drop_of_length-le b q))
+same_pointwise [] [] = refl
+same_pointwise [] (y ∷ ys) = refl
+same_pointwise (x ∷ xs) [] = refl
+same_pointwise (x ∷ xs) (y ∷ ys) = ap (λ (t : Bool). eqb x y && t) (same_pointwise xs ys)
 
 -- ---- lines and columns
 
@@ -205,16 +194,16 @@ module _ (s : List ℕ) (i v : ℕ) where
 -- ---- whole numbers
 
 -- a number past the largest is none, whatever follows
-whole-past : (v : ℕ) (bs : List ℕ) → 4294967289 < v → whole_up_to (digits_after v bs) ≡ Whole.No
+whole-past : (v : ℕ) (bs : List ℕ) → 4294967289 < v → whole_up_to (digits_after v bs) ≡ None
 unfolding whole_up_to digits_after
-whole-past v [] h = ap (λ (t : Bool). cond t (Whole.Number v) Whole.No) (lt-leb v 4294967289 h)
+whole-past v [] h = ap (λ (t : Bool). cond t (Some v) None) (lt-leb v 4294967289 h)
 whole-past v (b ∷ bs) h = go (is_digit b) (whole-past (v * 10 + (b - 0x30)) bs (omega arith))
   where
-    go : (t : Bool) → whole_up_to (digits_after (v * 10 + (b - 0x30)) bs) ≡ Whole.No → whole_up_to (cond t (digits_after (v * 10 + (b - 0x30)) bs) none) ≡ Whole.No
+    go : (t : Bool) → whole_up_to (digits_after (v * 10 + (b - 0x30)) bs) ≡ None → whole_up_to (cond t (digits_after (v * 10 + (b - 0x30)) bs) none) ≡ None
     go true e = e
     go false e = refl
 
-pub whole-empty : (s : List ℕ) → length s ≡ 0 → Whole.No ≡ whole_number s
+pub whole-empty : (s : List ℕ) → length s ≡ 0 → None ≡ whole_number s
 unfolding whole_number
 whole-empty [] h = refl
 whole-empty (b ∷ bs) h = absurd (omega arith)
@@ -231,7 +220,7 @@ module _ (s : List ℕ) (i n : ℕ) where
       ap (λ (l : List ℕ). whole_up_to (digits_after n l)) (drop-cons s i 0 below)
       ∙ ap (λ (k : ℕ). whole_up_to (cond (is_digit (get_or s i 0)) (digits_after (n * 10 + (get_or s i 0 - 0x30)) (drop k s)) none)) (sym (add-one i))
 
-  no_digit : i < length s → is_digit (get_or s i 0) ≡ false → Whole.No ≡ whole_up_to (digits_after n (drop i s))
+  no_digit : i < length s → is_digit (get_or s i 0) ≡ false → None ≡ whole_up_to (digits_after n (drop i s))
   unfolding whole_up_to
   no_digit below e =
       sym (whole-step below ∙ ap (λ (t : Bool). whole_up_to (cond t (digits_after (n * 10 + (get_or s i 0 - 0x30)) (drop (i + 1) s)) none)) e)
@@ -240,7 +229,7 @@ module _ (s : List ℕ) (i n : ℕ) where
   digit below e =
       sym (whole-step below ∙ ap (λ (t : Bool). whole_up_to (cond t (digits_after (n * 10 + (get_or s i 0 - 0x30)) (drop (i + 1) s)) none)) e)
 
-  pub whole-low : i < length s → get_or s i 0 < 0x30 → Whole.No ≡ whole_up_to (digits_after n (drop i s))
+  pub whole-low : i < length s → get_or s i 0 < 0x30 → None ≡ whole_up_to (digits_after n (drop i s))
   unfolding is_digit
   whole-low below h = no_digit below (ap (λ (t : Bool). t && leb (get_or s i 0) 0x39) (lt-leb 0x30 (get_or s i 0) h))
 
@@ -248,21 +237,21 @@ module _ (s : List ℕ) (i n : ℕ) where
   unfolding is_digit
   is_digit_lem p q = ap (λ (t : Bool). t && leb (get_or s i 0) 0x39) (le-leb 0x30 (get_or s i 0) p) ∙ le-leb (get_or s i 0) 0x39 q
 
-  pub whole-high : i < length s → 0x30 ≤ get_or s i 0 → 0x39 < get_or s i 0 → Whole.No ≡ whole_up_to (digits_after n (drop i s))
+  pub whole-high : i < length s → 0x30 ≤ get_or s i 0 → 0x39 < get_or s i 0 → None ≡ whole_up_to (digits_after n (drop i s))
   unfolding is_digit
   whole-high below p q =
       no_digit below (ap (λ (t : Bool). t && leb (get_or s i 0) 0x39) (le-leb 0x30 (get_or s i 0) p) ∙ lt-leb (get_or s i 0) 0x39 q)
 
-  pub whole-large : i < length s → 0x30 ≤ get_or s i 0 → get_or s i 0 ≤ 0x39 → 429496728 < n → Whole.No ≡ whole_up_to (digits_after n (drop i s))
+  pub whole-large : i < length s → 0x30 ≤ get_or s i 0 → get_or s i 0 ≤ 0x39 → 429496728 < n → None ≡ whole_up_to (digits_after n (drop i s))
   whole-large below p q h = sym (whole-past (n * 10 + (get_or s i 0 - 0x30)) (drop (i + 1) s) (omega arith)) ∙ digit below (is_digit_lem p q)
 
   pub whole-digit : i < length s → 0x30 ≤ get_or s i 0 → get_or s i 0 ≤ 0x39 → whole_up_to (digits_after (n * 10 + (get_or s i 0 - 0x30)) (drop (i + 1) s)) ≡ whole_up_to (digits_after n (drop i s))
   whole-digit below p q = digit below (is_digit_lem p q)
 
-  pub whole-end : length s ≤ i → n ≤ 4294967289 → Whole.Number n ≡ whole_up_to (digits_after n (drop i s))
+  pub whole-end : length s ≤ i → n ≤ 4294967289 → Some n ≡ whole_up_to (digits_after n (drop i s))
   unfolding whole_up_to digits_after
   whole-end h m =
-      sym (ap (λ (l : List ℕ). whole_up_to (digits_after n l)) (drop_of_length-le s h) ∙ ap (λ (t : Bool). cond t (Whole.Number n) Whole.No) (le-leb n 4294967289 m))
+      sym (ap (λ (l : List ℕ). whole_up_to (digits_after n l)) (drop_of_length-le s h) ∙ ap (λ (t : Bool). cond t (Some n) None) (le-leb n 4294967289 m))
 
 -- ---- the part of a text that a word is
 

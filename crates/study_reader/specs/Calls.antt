@@ -1,19 +1,20 @@
 -- The line of a call: its keyword, and the arguments that stand after it.
-use Rattle.std.specs.Prelude.{Bool, true, false, cond, List, ℕ, zero, suc, ◌+◌, ◌-◌, eqb, ltb, Float}
+use Rattle.std.specs.Prelude.{Bool, true, false, cond, Option, Some, None, is_some, List, ℕ, zero, suc, ◌+◌, ◌-◌, eqb, ltb, Float}
 use Rattle.std.specs.Int.Bits.{bit_or}
 use Rattle.floats.specs.Operators.{bits}
 use Rattle.floats.specs.SinCos.{rotation_from_angle_of}
-use Rattle.decimals.specs.declared.number.Reading.{Reading}
-use Rattle.decimals.specs.declared.number.Reading.TheVariants.{Number, TooManyDigits, NotANumber}
+use Rattle.std.specs.Prelude.{Result, Ok, Err}
+use Rattle.decimals.specs.declared.number.NumberFault.{NumberFault}
+use Rattle.decimals.specs.declared.number.NumberFault.TheVariants.{TooManyDigits, NotANumber}
 use Rattle.texts.specs.Ascii.{ascii}
 use Rattle.rows.specs.declared.generic_joint.Masks.{Masks}
-use Rattle.study_reader.specs.Faults.{fault_number, fault_digits, fault_no_body, fault_no_joint, fault_whole_number, fault_no_repeat, fault_nested, fault_warm, fault_csv, fault_file_name, fault_mask, fault_substeps}
+use Rattle.study_reader.specs.Faults.{fault_at, fault_number, fault_digits, fault_no_body, fault_no_joint, fault_whole_number, fault_no_repeat, fault_nested, fault_warm, fault_csv, fault_file_name, fault_mask, fault_substeps}
 use Rattle.study_reader.specs.Words.{next_word, is_empty, is_quote, quoted_word, is_word, whole_of}
 use Rattle.study_reader.specs.Numbers.{number_in}
-use Rattle.study_reader.specs.Names.{ABSENT, find_body, find_joint}
+use Rattle.study_reader.specs.Names.{find_body, find_joint}
 use Rattle.study_reader.specs.Keywords.{place_keyword, build_keyword, sweep_keyword, read_rows_keyword, read_velocity_keyword, set_targets_keyword, repeat_keyword, end_keyword, table_keyword, masks_keyword, frame_keyword, settle_keyword, call_keyword, axis_of, item_keyword, lock_keyword, motor_model_keyword}
+use Rattle.study_reader.specs.declared.faults.Fault.{Fault}
 use Rattle.study_reader.specs.declared.words.Word.{Word}
-use Rattle.study_reader.specs.declared.words.Whole.{Whole}
 use Rattle.study_reader.specs.declared.calls.Line.{Line}
 
 -- ---- a line, and the line with more of it read
@@ -21,59 +22,55 @@ use Rattle.study_reader.specs.declared.calls.Line.{Line}
 abbrev pub no_masks : Masks
 no_masks = record { locked_axes = 0; limit_axes = 0; motor_axes = 0; coupled_axes = 0 }
 
--- the locked, limited, driven and coupled axes are masks 0 to 3; none of them is 4
-abbrev pub no_mask : ℕ
-no_mask = 4
-
 -- no argument: the line is read up to the end of its keyword
 abbrev pub bare_call : ℕ → ℕ → Line
 bare_call keyword at =
-    record { keyword = keyword; number = 0; sweeps = 0; masks = no_masks; mask = no_mask; warm = false; csv = false; x = bits 0; y = bits 0; re = bits 0x3f800000; im = bits 0; start = at; end = at; at = at; fault = 0; fault_at = 0 }
+    record { keyword = keyword; number = 0; sweeps = 0; masks = no_masks; mask = None; warm = false; csv = false; x = bits 0; y = bits 0; re = bits 0x3f800000; im = bits 0; start = at; end = at; at = at; fault = None }
 
 -- a fault and its place
-abbrev pub wrong : Line → ℕ → ℕ → Line
+abbrev pub wrong : Line → Fault → ℕ → Line
 wrong l fault place =
-    record { keyword = l.keyword; number = l.number; sweeps = l.sweeps; masks = l.masks; mask = l.mask; warm = l.warm; csv = l.csv; x = l.x; y = l.y; re = l.re; im = l.im; start = l.start; end = l.end; at = l.at; fault = fault; fault_at = place }
+    record { keyword = l.keyword; number = l.number; sweeps = l.sweeps; masks = l.masks; mask = l.mask; warm = l.warm; csv = l.csv; x = l.x; y = l.y; re = l.re; im = l.im; start = l.start; end = l.end; at = l.at; fault = Some (fault_at fault place) }
 
 -- the first argument
 abbrev pub with_word : Line → Word → Line
 with_word l w =
-    record { keyword = l.keyword; number = l.number; sweeps = l.sweeps; masks = l.masks; mask = l.mask; warm = l.warm; csv = l.csv; x = l.x; y = l.y; re = l.re; im = l.im; start = w.start; end = w.end; at = w.end; fault = l.fault; fault_at = l.fault_at }
+    record { keyword = l.keyword; number = l.number; sweeps = l.sweeps; masks = l.masks; mask = l.mask; warm = l.warm; csv = l.csv; x = l.x; y = l.y; re = l.re; im = l.im; start = w.start; end = w.end; at = w.end; fault = l.fault }
 
 -- a body, a joint, a count, a substep or how many substeps
 abbrev pub with_number : Line → ℕ → Line
 with_number l n =
-    record { keyword = l.keyword; number = n; sweeps = l.sweeps; masks = l.masks; mask = l.mask; warm = l.warm; csv = l.csv; x = l.x; y = l.y; re = l.re; im = l.im; start = l.start; end = l.end; at = l.at; fault = l.fault; fault_at = l.fault_at }
+    record { keyword = l.keyword; number = n; sweeps = l.sweeps; masks = l.masks; mask = l.mask; warm = l.warm; csv = l.csv; x = l.x; y = l.y; re = l.re; im = l.im; start = l.start; end = l.end; at = l.at; fault = l.fault }
 
 abbrev pub with_place : Line → ℕ → Line
 with_place l place =
-    record { keyword = l.keyword; number = l.number; sweeps = l.sweeps; masks = l.masks; mask = l.mask; warm = l.warm; csv = l.csv; x = l.x; y = l.y; re = l.re; im = l.im; start = l.start; end = l.end; at = place; fault = l.fault; fault_at = l.fault_at }
+    record { keyword = l.keyword; number = l.number; sweeps = l.sweeps; masks = l.masks; mask = l.mask; warm = l.warm; csv = l.csv; x = l.x; y = l.y; re = l.re; im = l.im; start = l.start; end = l.end; at = place; fault = l.fault }
 
 abbrev pub with_pose : Line → Float → Float → ℕ → Line
 with_pose l x y place =
-    record { keyword = l.keyword; number = l.number; sweeps = l.sweeps; masks = l.masks; mask = l.mask; warm = l.warm; csv = l.csv; x = x; y = y; re = l.re; im = l.im; start = l.start; end = l.end; at = place; fault = l.fault; fault_at = l.fault_at }
+    record { keyword = l.keyword; number = l.number; sweeps = l.sweeps; masks = l.masks; mask = l.mask; warm = l.warm; csv = l.csv; x = x; y = y; re = l.re; im = l.im; start = l.start; end = l.end; at = place; fault = l.fault }
 
 abbrev pub with_rotation : Line → Float → Float → ℕ → Line
 with_rotation l re im place =
-    record { keyword = l.keyword; number = l.number; sweeps = l.sweeps; masks = l.masks; mask = l.mask; warm = l.warm; csv = l.csv; x = l.x; y = l.y; re = re; im = im; start = l.start; end = l.end; at = place; fault = l.fault; fault_at = l.fault_at }
+    record { keyword = l.keyword; number = l.number; sweeps = l.sweeps; masks = l.masks; mask = l.mask; warm = l.warm; csv = l.csv; x = l.x; y = l.y; re = re; im = im; start = l.start; end = l.end; at = place; fault = l.fault }
 
 abbrev pub with_warm : Line → Float → ℕ → Line
 with_warm l x place =
-    record { keyword = l.keyword; number = l.number; sweeps = l.sweeps; masks = l.masks; mask = l.mask; warm = true; csv = l.csv; x = x; y = l.y; re = l.re; im = l.im; start = l.start; end = l.end; at = place; fault = l.fault; fault_at = l.fault_at }
+    record { keyword = l.keyword; number = l.number; sweeps = l.sweeps; masks = l.masks; mask = l.mask; warm = true; csv = l.csv; x = x; y = l.y; re = l.re; im = l.im; start = l.start; end = l.end; at = place; fault = l.fault }
 
 abbrev pub with_csv : Line → Line
 with_csv l =
-    record { keyword = l.keyword; number = l.number; sweeps = l.sweeps; masks = l.masks; mask = l.mask; warm = l.warm; csv = true; x = l.x; y = l.y; re = l.re; im = l.im; start = l.start; end = l.end; at = l.at; fault = l.fault; fault_at = l.fault_at }
+    record { keyword = l.keyword; number = l.number; sweeps = l.sweeps; masks = l.masks; mask = l.mask; warm = l.warm; csv = true; x = l.x; y = l.y; re = l.re; im = l.im; start = l.start; end = l.end; at = l.at; fault = l.fault }
 
 -- the rounds of a frame's sweeps: the number that was read last
 abbrev pub with_sweeps : Line → Line
 with_sweeps l =
-    record { keyword = l.keyword; number = l.number; sweeps = l.number; masks = l.masks; mask = l.mask; warm = l.warm; csv = l.csv; x = l.x; y = l.y; re = l.re; im = l.im; start = l.start; end = l.end; at = l.at; fault = l.fault; fault_at = l.fault_at }
+    record { keyword = l.keyword; number = l.number; sweeps = l.number; masks = l.masks; mask = l.mask; warm = l.warm; csv = l.csv; x = l.x; y = l.y; re = l.re; im = l.im; start = l.start; end = l.end; at = l.at; fault = l.fault }
 
--- the axes that follow are of mask i
+-- the axes that follow are of mask i: the locked, limited, driven and coupled axes are masks 0 to 3
 abbrev pub with_mask : Line → ℕ → ℕ → Line
 with_mask l i place =
-    record { keyword = l.keyword; number = l.number; sweeps = l.sweeps; masks = l.masks; mask = i; warm = l.warm; csv = l.csv; x = l.x; y = l.y; re = l.re; im = l.im; start = l.start; end = l.end; at = place; fault = l.fault; fault_at = l.fault_at }
+    record { keyword = l.keyword; number = l.number; sweeps = l.sweeps; masks = l.masks; mask = Some i; warm = l.warm; csv = l.csv; x = l.x; y = l.y; re = l.re; im = l.im; start = l.start; end = l.end; at = place; fault = l.fault }
 
 -- mask k with the bits b where mask i gets them
 abbrev pub with_bits : ℕ → ℕ → ℕ → ℕ → ℕ
@@ -87,10 +84,10 @@ masks_with m i b = record {
   coupled_axes = with_bits m.coupled_axes i 3 b;
 }
 
--- the mask that was named last, with bits
-abbrev pub with_axes : Line → ℕ → ℕ → Line
-with_axes l b place =
-    record { keyword = l.keyword; number = l.number; sweeps = l.sweeps; masks = masks_with l.masks l.mask b; mask = l.mask; warm = l.warm; csv = l.csv; x = l.x; y = l.y; re = l.re; im = l.im; start = l.start; end = l.end; at = place; fault = l.fault; fault_at = l.fault_at }
+-- mask i, with bits
+abbrev pub with_axes : Line → ℕ → ℕ → ℕ → Line
+with_axes l i b place =
+    record { keyword = l.keyword; number = l.number; sweeps = l.sweeps; masks = masks_with l.masks i b; mask = l.mask; warm = l.warm; csv = l.csv; x = l.x; y = l.y; re = l.re; im = l.im; start = l.start; end = l.end; at = place; fault = l.fault }
 
 -- ---- one argument
 
@@ -102,18 +99,19 @@ abbrev pub second : List ℕ → Line → Word
 second text l = next_word text (first text l).end
 
 -- a number and what is read with it, or why the word is none
-unfoldable pub of_number : Line → Word → Reading → (Float → Line) → Line
-of_number l w (Number x) next = next x
-of_number l w TooManyDigits next = wrong l fault_digits w.start
-of_number l w NotANumber next = wrong l fault_number w.start
+unfoldable pub of_number : Line → Word → Result Float NumberFault → (Float → Line) → Line
+of_number l w (Ok x) next = next x
+of_number l w (Err TooManyDigits) next = wrong l fault_digits w.start
+of_number l w (Err NotANumber) next = wrong l fault_number w.start
 
-unfoldable pub of_whole : Line → Word → Whole → Line
-of_whole l w (Whole.Number n) = with_number (with_word l w) n
-of_whole l w Whole.No = wrong l fault_whole_number w.start
+unfoldable pub of_whole : Line → Word → Option ℕ → Line
+of_whole l w (Some n) = with_number (with_word l w) n
+of_whole l w None = wrong l fault_whole_number w.start
 
 -- a body or a joint by its name, or the fault that there is none
-unfoldable pub of_named : Line → Word → ℕ → ℕ → Line
-of_named l w fault i = cond (eqb i ABSENT) (wrong l fault w.start) (with_number (with_word l w) i)
+unfoldable pub of_named : Line → Word → Fault → Option ℕ → Line
+of_named l w fault (Some i) = with_number (with_word l w) i
+of_named l w fault None = wrong l fault w.start
 
 abbrev pub read_whole : List ℕ → Line → Line
 read_whole text l = of_whole l (first text l) (whole_of text (first text l))
@@ -146,7 +144,7 @@ read_pose text l = pose_of text l (first text l) (second text l)
 
 -- `place BODY` and a pose
 unfoldable pub place_of : List ℕ → Line → Line
-place_of text r = cond (eqb r.fault 0) (read_pose text r) r
+place_of text r = cond (is_some r.fault) r (read_pose text r)
 
 abbrev pub read_place : List ℕ → List ℕ → ℕ → Line → Line
 read_place text names bodies l = place_of text (read_body text names bodies l)
@@ -176,7 +174,7 @@ read_substeps text l = substeps_of text l (first text l)
 
 -- after rounds that were read
 unfoldable pub after_rounds : List ℕ → Line → Line
-after_rounds text r = cond (eqb r.fault 0) (read_substeps text (with_sweeps r)) r
+after_rounds text r = cond (is_some r.fault) r (read_substeps text (with_sweeps r))
 
 -- `sweeps N`, then `substeps N`
 unfoldable pub sweeps_of : List ℕ → Line → Word → Line
@@ -233,32 +231,40 @@ abbrev pub read_file : List ℕ → Line → Line
 read_file text l = file_of text l (first text l)
 
 -- the mask that a word names, in the order of document 01: `lock`, `limit`, `motor`, `couple`
-unfoldable pub mask_named : List ℕ → Word → ℕ
+unfoldable pub mask_named : List ℕ → Word → Option ℕ
 mask_named text w =
     let keyword = item_keyword text w in
-    cond (ltb keyword lock_keyword) no_mask (cond (ltb keyword motor_model_keyword) (keyword - lock_keyword) no_mask)
+    cond (ltb keyword lock_keyword) None (cond (ltb keyword motor_model_keyword) (Some (keyword - lock_keyword)) None)
 
 -- an axis's bit in a mask
 abbrev pub bit_of : ℕ → ℕ
 bit_of axis = cond (eqb axis 0) 1 (cond (eqb axis 1) 2 4)
 
 -- the bits that a word gives: an axis's, or those of a whole number
-unfoldable pub bits_of : List ℕ → Word → Whole
-bits_of text w = cond (ltb 2 (axis_of text w)) (whole_of text w) (Whole.Number (bit_of (axis_of text w)))
+unfoldable pub bits_of : List ℕ → Word → Option ℕ
+bits_of text w = cond (ltb 2 (axis_of text w)) (whole_of text w) (Some (bit_of (axis_of text w)))
 
-unfoldable pub of_bits : Line → Word → Whole → Line
-of_bits l w (Whole.Number b) = with_axes l b w.end
-of_bits l w Whole.No = wrong l fault_mask w.start
+-- bits of mask i
+unfoldable pub of_bits : Line → Word → ℕ → Option ℕ → Line
+of_bits l w i (Some b) = with_axes l i b w.end
+of_bits l w i None = wrong l fault_mask w.start
+
+-- a word that gives bits of the mask named last
+unfoldable pub bits_word : List ℕ → Line → Word → Option ℕ → Line
+bits_word text l w (Some i) = of_bits l w i (bits_of text w)
+bits_word text l w None = wrong l fault_mask w.start
 
 -- a word that names a mask, or one that gives bits of the mask named last
+unfoldable pub mask_or_bits : List ℕ → Line → Word → Option ℕ → Line
+mask_or_bits text l w (Some i) = with_mask l i w.end
+mask_or_bits text l w None = bits_word text l w l.mask
+
 unfoldable pub mask_word : List ℕ → Line → Word → Line
-mask_word text l w =
-    cond (ltb (mask_named text w) no_mask) (with_mask l (mask_named text w) w.end)
-    (cond (ltb l.mask no_mask) (of_bits l w (bits_of text w)) (wrong l fault_mask w.start))
+mask_word text l w = mask_or_bits text l w (mask_named text w)
 
 -- one word more, unless there is a fault or no word
 unfoldable pub mask_step : List ℕ → Line → Line
-mask_step text l = cond (eqb l.fault 0) (cond (is_empty (first text l)) l (mask_word text l (first text l))) l
+mask_step text l = cond (is_some l.fault) l (cond (is_empty (first text l)) l (mask_word text l (first text l)))
 
 -- at most so many words
 unfoldable pub mask_steps : List ℕ → ℕ → Line → Line

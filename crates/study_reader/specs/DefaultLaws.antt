@@ -1,5 +1,5 @@
 -- What an item is of which no line says anything: the Rust's defaults, by the Rust's names, as a model's records decode them. Proved in proofs/DefaultLaws.antt.
-use Rattle.std.specs.Prelude.{ℕ, ◌≡◌, false, [], ◌∷◌, Float}
+use Rattle.std.specs.Prelude.{None, ℕ, ◌≡◌, false, [], ◌∷◌, Float}
 use Rattle.std.specs.Float.{binary32}
 use Rattle.std.specs.Float.Ieee.{neg, round}
 use Rattle.floats.specs.Constants.{max_float}
@@ -80,7 +80,7 @@ abbrev pub bare_items : Draft
 bare_items = study_of (ascii "settings\nbody a\njoint j a world\n")
 
 pub record BareItems : Type 0 where
-  pub no_fault : bare_items.state.fault ≡ 0
+  pub no_fault : bare_items.state.fault ≡ None
   pub settings : settings_read bare_items ≡ default_settings
   pub body : solver_pose_at (bodies_read bare_items) 0 ≡ default_body
   pub velocity : vel_at (bodies_read bare_items) 0 ≡ default_velocity

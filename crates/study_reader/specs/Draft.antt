@@ -1,9 +1,12 @@
 -- What has been read of a study at some line, and what an item has where its lines give nothing: the Rust's defaults.
-use Rattle.std.specs.Prelude.{Bool, true, false, cond, List, [], ◌∷◌, ◌++◌, ℕ, ◌+◌, ◌*◌, eqb, Float, set}
+use Rattle.std.specs.Prelude.{cond, Option, Some, None, List, [], ◌∷◌, ◌++◌, ℕ, ◌+◌, ◌*◌, eqb, Float, set}
 use Rattle.floats.specs.Operators.{bits}
 use Rattle.model.specs.Layout.{pose_place, frame1_place, frame2_place, limits_place, limits_width, motors_place, motor_width, softness_place, center_place}
 use Rattle.study_reader.specs.Storage.{dt_place, length_unit_place, max_corrective_velocity_place, body_base, joint_base}
 use Rattle.study_reader.specs.Keywords.{no_item, body_item, joint_item, calls_item, repeat_keyword, end_keyword}
+use Rattle.study_reader.specs.Faults.{fault_at}
+use Rattle.study_reader.specs.declared.faults.Fault.{Fault}
+use Rattle.study_reader.specs.declared.faults.FaultAt.{FaultAt}
 use Rattle.study_reader.specs.declared.draft.State.{State}
 
 -- The state of the reading, with the storage as Storage.antt lays it out.
@@ -23,51 +26,47 @@ with_state d st = draft st d.numbers d.origins d.words d.names
 
 -- ---- the state
 
--- where the next line starts; what is open, and its number; how many bodies, how many joints; the fault, 0 for none, and its place; where the calls
--- start; whether a `repeat` is open, and where the last one stands
-abbrev pub state_of : ℕ → ℕ → ℕ → ℕ → ℕ → ℕ → ℕ → ℕ → Bool → ℕ → State
-state_of at kind item bodies joints fault fault_at calls repeats repeat_at = record {
+-- where the next line starts; what is open, and its number; how many bodies, how many joints; the fault; where the calls
+-- start; where the `repeat` stands that is open
+abbrev pub state_of : ℕ → ℕ → ℕ → ℕ → ℕ → Option FaultAt → ℕ → Option ℕ → State
+state_of at kind item bodies joints fault calls repeat = record {
   at = at;
   kind = kind;
   item = item;
   bodies = bodies;
   joints = joints;
   fault = fault;
-  fault_at = fault_at;
   calls = calls;
-  repeats = repeats;
-  repeat_at = repeat_at;
+  repeat = repeat;
 }
 
 -- before the first line: nothing is open, and no call has been seen
 abbrev pub start : State
-start = state_of 0 no_item 0 0 0 0 0 4294967295 false 0
+start = state_of 0 no_item 0 0 0 None 4294967295 None
 
-abbrev pub faulty : State → ℕ → ℕ → State
-faulty st fault at = state_of st.at st.kind st.item st.bodies st.joints fault at st.calls st.repeats st.repeat_at
+abbrev pub faulty : State → Fault → ℕ → State
+faulty st fault at = state_of st.at st.kind st.item st.bodies st.joints (Some (fault_at fault at)) st.calls st.repeat
 
 abbrev pub reached : State → ℕ → State
-reached st at = state_of at st.kind st.item st.bodies st.joints st.fault st.fault_at st.calls st.repeats st.repeat_at
+reached st at = state_of at st.kind st.item st.bodies st.joints st.fault st.calls st.repeat
 
 -- an item is opened: its kind and number, and how many bodies and joints there are with it
 abbrev pub opened : State → ℕ → ℕ → ℕ → ℕ → State
-opened st kind item bodies joints = state_of st.at kind item bodies joints st.fault st.fault_at st.calls st.repeats st.repeat_at
+opened st kind item bodies joints = state_of st.at kind item bodies joints st.fault st.calls st.repeat
 
 -- where the calls start: at the first of them
 abbrev pub first_call : State → ℕ → ℕ
 first_call st at = cond (eqb st.kind calls_item) st.calls at
 
-abbrev pub repeats_after : Bool → ℕ → Bool
-repeats_after repeats keyword = cond (eqb keyword repeat_keyword) true (cond (eqb keyword end_keyword) false repeats)
-
-abbrev pub repeat_after : ℕ → ℕ → ℕ → ℕ
-repeat_after repeat_at keyword at = cond (eqb keyword repeat_keyword) at repeat_at
+-- where the `repeat` stands that is open after a call
+abbrev pub repeat_after : Option ℕ → ℕ → ℕ → Option ℕ
+repeat_after repeat keyword at = cond (eqb keyword repeat_keyword) (Some at) (cond (eqb keyword end_keyword) None repeat)
 
 -- a call was read, whose line starts at a place: no item is open from here on
 abbrev pub called : State → ℕ → ℕ → State
 called st keyword at =
-    state_of st.at calls_item st.item st.bodies st.joints st.fault st.fault_at (first_call st at) (repeats_after st.repeats keyword)
-    (repeat_after st.repeat_at keyword at)
+    state_of st.at calls_item st.item st.bodies st.joints st.fault (first_call st at)
+    (repeat_after st.repeat keyword at)
 
 -- where the numbers of the item that is open start
 unfoldable pub item_base : State → ℕ

@@ -1,80 +1,123 @@
--- The faults of a text that cannot be read, by number.
-use Rattle.std.specs.Prelude.{ℕ}
+-- The faults of a text that cannot be read; each has a number in the C interface.
+use Rattle.std.specs.Prelude.{ℕ, Option, Some, None}
+use Rattle.study_reader.specs.declared.faults.Fault.{Fault}
+use Rattle.study_reader.specs.declared.faults.Fault.TheVariants as variant
+use Rattle.study_reader.specs.declared.faults.FaultAt.{FaultAt}
 
-abbrev pub fault_unknown : ℕ
-fault_unknown = 1
+abbrev pub fault_unknown : Fault
+fault_unknown = variant.Unknown
 
-abbrev pub fault_name : ℕ
-fault_name = 2
+abbrev pub fault_name : Fault
+fault_name = variant.Name
 
-abbrev pub fault_taken : ℕ
-fault_taken = 3
+abbrev pub fault_taken : Fault
+fault_taken = variant.Taken
 
-abbrev pub fault_no_body : ℕ
-fault_no_body = 4
+abbrev pub fault_no_body : Fault
+fault_no_body = variant.NoBody
 
-abbrev pub fault_number : ℕ
-fault_number = 5
+abbrev pub fault_number : Fault
+fault_number = variant.Number
 
-abbrev pub fault_digits : ℕ
-fault_digits = 6
+abbrev pub fault_digits : Fault
+fault_digits = variant.Digits
 
-abbrev pub fault_line_end : ℕ
-fault_line_end = 7
+abbrev pub fault_line_end : Fault
+fault_line_end = variant.LineEnd
 
-abbrev pub fault_axis : ℕ
-fault_axis = 8
+abbrev pub fault_axis : Fault
+fault_axis = variant.Axis
 
-abbrev pub fault_bodies_full : ℕ
-fault_bodies_full = 9
+abbrev pub fault_bodies_full : Fault
+fault_bodies_full = variant.BodiesFull
 
-abbrev pub fault_joints_full : ℕ
-fault_joints_full = 10
+abbrev pub fault_joints_full : Fault
+fault_joints_full = variant.JointsFull
 
-abbrev pub fault_after_calls : ℕ
-fault_after_calls = 11
+abbrev pub fault_after_calls : Fault
+fault_after_calls = variant.AfterCalls
 
-abbrev pub fault_elsewhere : ℕ
-fault_elsewhere = 12
+abbrev pub fault_elsewhere : Fault
+fault_elsewhere = variant.Elsewhere
 
-abbrev pub fault_whole_number : ℕ
-fault_whole_number = 13
+abbrev pub fault_whole_number : Fault
+fault_whole_number = variant.WholeNumber
 
-abbrev pub fault_no_joint : ℕ
-fault_no_joint = 14
+abbrev pub fault_no_joint : Fault
+fault_no_joint = variant.NoJoint
 
-abbrev pub fault_no_repeat : ℕ
-fault_no_repeat = 15
+abbrev pub fault_no_repeat : Fault
+fault_no_repeat = variant.NoRepeat
 
-abbrev pub fault_nested : ℕ
-fault_nested = 16
+abbrev pub fault_nested : Fault
+fault_nested = variant.Nested
 
-abbrev pub fault_open_repeat : ℕ
-fault_open_repeat = 17
+abbrev pub fault_open_repeat : Fault
+fault_open_repeat = variant.OpenRepeat
 
-abbrev pub fault_model : ℕ
-fault_model = 18
+abbrev pub fault_model : Fault
+fault_model = variant.Model
 
-abbrev pub fault_world_name : ℕ
-fault_world_name = 19
+abbrev pub fault_world_name : Fault
+fault_world_name = variant.WorldName
 
-abbrev pub fault_warm : ℕ
-fault_warm = 20
+abbrev pub fault_warm : Fault
+fault_warm = variant.Warm
 
-abbrev pub fault_csv : ℕ
-fault_csv = 21
+abbrev pub fault_csv : Fault
+fault_csv = variant.Csv
 
-abbrev pub fault_file_name : ℕ
-fault_file_name = 22
+abbrev pub fault_file_name : Fault
+fault_file_name = variant.FileName
 
-abbrev pub fault_long_name : ℕ
-fault_long_name = 23
+abbrev pub fault_long_name : Fault
+fault_long_name = variant.LongName
 
-abbrev pub fault_plain_name : ℕ
-fault_plain_name = 24
+abbrev pub fault_plain_name : Fault
+fault_plain_name = variant.PlainName
 
-abbrev pub fault_mask : ℕ
-fault_mask = 25
+abbrev pub fault_mask : Fault
+fault_mask = variant.Mask
 
-abbrev pub fault_substeps : ℕ
-fault_substeps = 26
+abbrev pub fault_substeps : Fault
+fault_substeps = variant.Substeps
+
+abbrev pub number : Fault → ℕ
+number variant.Unknown = 1
+number variant.Name = 2
+number variant.Taken = 3
+number variant.NoBody = 4
+number variant.Number = 5
+number variant.Digits = 6
+number variant.LineEnd = 7
+number variant.Axis = 8
+number variant.BodiesFull = 9
+number variant.JointsFull = 10
+number variant.AfterCalls = 11
+number variant.Elsewhere = 12
+number variant.WholeNumber = 13
+number variant.NoJoint = 14
+number variant.NoRepeat = 15
+number variant.Nested = 16
+number variant.OpenRepeat = 17
+number variant.Model = 18
+number variant.WorldName = 19
+number variant.Warm = 20
+number variant.Csv = 21
+number variant.FileName = 22
+number variant.LongName = 23
+number variant.PlainName = 24
+number variant.Mask = 25
+number variant.Substeps = 26
+
+abbrev pub fault_at : Fault → ℕ → FaultAt
+fault_at fault place = record { fault = fault; at = place }
+
+-- 0 where there is none
+abbrev pub number_of : Option FaultAt → ℕ
+number_of (Some f) = number f.fault
+number_of None = 0
+
+abbrev pub offset_of : Option FaultAt → ℕ
+offset_of (Some f) = f.at
+offset_of None = 0

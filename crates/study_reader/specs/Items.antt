@@ -1,6 +1,6 @@
 -- What one line of a study says (docs/STUDY.md): a number or a word of the item that is open, an item, a call; or its first fault. A line with a fault says
 -- nothing else.
-use Rattle.std.specs.Prelude.{cond, List, ℕ, zero, suc, ◌+◌, ◌*◌, ◌-◌, eqb, ltb, leb, Float}
+use Rattle.std.specs.Prelude.{cond, Option, Some, None, is_some, List, ℕ, zero, suc, ◌+◌, ◌*◌, ◌-◌, eqb, ltb, leb, Float}
 use Rattle.std.specs.Int.Bits.{bit_or}
 use Rattle.floats.specs.Operators.{bits}
 use Rattle.floats.specs.Utils.{inv_of}
@@ -10,22 +10,27 @@ use Rattle.model.specs.Layout.{pose_place, inertia_place, mass_place, masks_plac
 use Rattle.study_reader.specs.Words.{next_word, is_empty, is_word, holds_byte, whole_of}
 use Rattle.study_reader.specs.Numbers.{number_in, number_fault, value_of}
 use Rattle.study_reader.specs.Storage.{most_items}
-use Rattle.study_reader.specs.Names.{ABSENT, find_body, find_joint, find_end}
+use Rattle.study_reader.specs.Names.{find_body, find_joint, find_end}
 use Rattle.study_reader.specs.Faults.{fault_unknown, fault_name, fault_taken, fault_no_body, fault_line_end, fault_axis, fault_bodies_full, fault_joints_full, fault_after_calls, fault_elsewhere, fault_model, fault_world_name, fault_long_name, fault_plain_name}
 use Rattle.study_reader.specs.Keywords.{axis_of, field_of, no_item, body_item, joint_item, calls_item, item_keyword, call_keyword, mass_keyword, inverse_mass_keyword, inertia_keyword, angle_keyword, frame1_angle_keyword, frame2_angle_keyword, lock_keyword, motor_model_keyword, enabled_keyword, center_keyword, settings_keyword, body_keyword}
 use Rattle.study_reader.specs.Calls.{bit_of, read_call}
+use Rattle.study_reader.specs.declared.faults.Fault.{Fault}
+use Rattle.study_reader.specs.declared.faults.FaultAt.{FaultAt}
 use Rattle.study_reader.specs.declared.words.Word.{Word}
-use Rattle.study_reader.specs.declared.words.Whole.{Whole}
-use Rattle.study_reader.specs.declared.words.Whole.TheVariants.{Number, No}
 use Rattle.study_reader.specs.declared.draft.State.{State}
 use Rattle.study_reader.specs.declared.items.Numbers.{Numbers}
 use Rattle.study_reader.specs.declared.items.Ends.{Ends}
 use Rattle.study_reader.specs.declared.items.Change.{Change}
 use Rattle.study_reader.specs.declared.items.Change.TheVariants.{Nothing, Wrong, Given, JointWord, OpenSettings, OpenBody, OpenJoint, Call}
 
--- a fault at a place, 0 for none; else what is said
-unfoldable pub or_fault : ℕ → ℕ → Change → Change
-or_fault fault at change = cond (eqb fault 0) change (Wrong fault at)
+-- what may be a fault, at a place; else what is said
+unfoldable pub or_fault : Option Fault → ℕ → Change → Change
+or_fault (Some fault) at change = Wrong fault at
+or_fault None at change = change
+
+unfoldable pub or_fault_there : Option FaultAt → Change → Change
+or_fault_there (Some f) change = Wrong f.fault f.at
+or_fault_there None change = change
 
 -- the line says this, and ends here
 unfoldable pub whole : List ℕ → ℕ → Change → Change
@@ -112,9 +117,9 @@ unfoldable pub named_mask : List ℕ → ℕ → ℕ → Word → Change
 named_mask text at place w = cond (is_empty w) (Wrong fault_axis w.start) (axes_from text place w.start 3 0 at)
 
 -- a mask: a whole number, or axes by name
-abbrev pub mask_of : List ℕ → ℕ → ℕ → Word → Whole → Change
-mask_of text at place w (Number mask) = whole text w.end (JointWord place mask w.start)
-mask_of text at place w No = named_mask text at place w
+abbrev pub mask_of : List ℕ → ℕ → ℕ → Word → Option ℕ → Change
+mask_of text at place w (Some mask) = whole text w.end (JointWord place mask w.start)
+mask_of text at place w None = named_mask text at place w
 
 unfoldable pub mask_line : List ℕ → ℕ → ℕ → Change
 mask_line text at place = let w = next_word text at in mask_of text at place w (whole_of text w)
@@ -142,14 +147,14 @@ word_line text keyword w =
 -- ---- items
 
 -- What is wrong with a name: there is none, it is the world's, it is too long, it has a comma or a quote, a body has it, a joint has it.
-unfoldable pub name_fault : List ℕ → List ℕ → State → Word → ℕ
+unfoldable pub name_fault : List ℕ → List ℕ → State → Word → Option Fault
 name_fault text names st w =
-    cond (is_empty w) fault_name
-    (cond (is_word text w (ascii "world")) fault_world_name
-    (cond (ltb 64 (w.end - w.start)) fault_long_name
-    (cond (holds_byte text w 0x2c) fault_plain_name
-    (cond (holds_byte text w 0x22) fault_plain_name
-    (cond (eqb (find_body text names st.bodies w) ABSENT) (cond (eqb (find_joint text names st.joints w) ABSENT) 0 fault_taken) fault_taken)))))
+    cond (is_empty w) (Some fault_name)
+    (cond (is_word text w (ascii "world")) (Some fault_world_name)
+    (cond (ltb 64 (w.end - w.start)) (Some fault_long_name)
+    (cond (holds_byte text w 0x2c) (Some fault_plain_name)
+    (cond (holds_byte text w 0x22) (Some fault_plain_name)
+    (cond (is_some (find_body text names st.bodies w)) (Some fault_taken) (cond (is_some (find_joint text names st.joints w)) (Some fault_taken) None))))))
 
 unfoldable pub body_line : List ℕ → List ℕ → State → ℕ → Change
 body_line text names st at =
@@ -160,15 +165,18 @@ body_line text names st at =
 abbrev pub ends : ℕ → ℕ → ℕ → ℕ → Ends
 ends body1 body2 at1 at2 = record { body1 = body1; body2 = body2; at1 = at1; at2 = at2 }
 
+-- the joint with the name u between the bodies that the words v and w name
+unfoldable pub between : List ℕ → Word → ℕ → Word → Word → Option ℕ → Option ℕ → Change
+between text u joints v w None body2 = Wrong fault_no_body v.start
+between text u joints v w (Some body1) None = Wrong fault_no_body w.start
+between text u joints v w (Some body1) (Some body2) = whole text w.end (OpenJoint u joints (ends body1 body2 v.start w.start))
+
 -- the two bodies of the joint with the name u, of which there are so many with it
 unfoldable pub ends_line : List ℕ → List ℕ → ℕ → Word → ℕ → Change
 ends_line text names bodies u joints =
     let v = next_word text u.end in
     let w = next_word text v.end in
-    let body1 = find_end text names bodies v in
-    let body2 = find_end text names bodies w in
-    cond (eqb body1 ABSENT) (Wrong fault_no_body v.start)
-    (cond (eqb body2 ABSENT) (Wrong fault_no_body w.start) (whole text w.end (OpenJoint u joints (ends body1 body2 v.start w.start))))
+    between text u joints v w (find_end text names bodies v) (find_end text names bodies w)
 
 unfoldable pub joint_line : List ℕ → List ℕ → State → ℕ → Change
 joint_line text names st at =
@@ -179,8 +187,8 @@ joint_line text names st at =
 -- ---- lines
 
 -- a line of an item stands before the calls, and where such an item is open
-unfoldable pub kind_fault : State → ℕ → ℕ
-kind_fault st kind = cond (eqb st.kind calls_item) fault_after_calls (cond (eqb st.kind kind) 0 fault_elsewhere)
+unfoldable pub kind_fault : State → ℕ → Option Fault
+kind_fault st kind = cond (eqb st.kind calls_item) (Some fault_after_calls) (cond (eqb st.kind kind) None (Some fault_elsewhere))
 
 -- `mass`, `inertia`, `inverse_mass` and `angle` are a body's words
 abbrev pub kind_of : ℕ → ℕ
@@ -207,8 +215,8 @@ item_line text names st w =
 
 unfoldable pub call_line : List ℕ → List ℕ → State → Word → Change
 call_line text names st w =
-    let l = read_call text names st.bodies st.joints st.repeats w in
-    or_fault l.fault l.fault_at (whole text l.at (Call l.keyword w.start))
+    let l = read_call text names st.bodies st.joints (is_some st.repeat) w in
+    or_fault_there l.fault (whole text l.at (Call l.keyword w.start))
 
 -- the line that starts where the reading has come to; a line with no word, blank or a comment, says nothing
 unfoldable pub line_of : List ℕ → List ℕ → State → Change

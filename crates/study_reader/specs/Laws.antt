@@ -1,7 +1,8 @@
 -- What holds of every text, proved in proofs/StudyLaws.antt. That the reading depends on the text alone is the type of `study_of`.
-use Rattle.std.specs.Prelude.{ℕ, ◌+◌, ◌≤◌, ◌<◌, ◌≡◌, true, cond, List, [], ◌∷◌, eqb, Float, length, get_or}
+use Rattle.std.specs.Prelude.{ℕ, ◌+◌, ◌≤◌, ◌<◌, ◌≡◌, true, cond, None, List, [], ◌∷◌, eqb, Float, length, get_or}
 use Rattle.model.specs.Store.{first_at}
 use Rattle.study_reader.specs.Words.{next_word, is_empty, next_line}
+use Rattle.study_reader.specs.Faults.{offset_of}
 use Rattle.study_reader.specs.Storage.{most_items}
 use Rattle.study_reader.specs.Draft.{Draft, with_state, reached, Default, puts}
 use Rattle.study_reader.specs.Study.{numbers_with, line_read, lines_read, read_study}
@@ -12,25 +13,25 @@ use Rattle.study_reader.specs.declared.items.Numbers.{Numbers}
 abbrev pub BlankLine : Type 0
 BlankLine =
     (text : List ℕ) (d : Draft)
-    → d.state.fault ≡ 0
+    → d.state.fault ≡ None
     → d.state.at < length text
     → is_empty (next_word text d.state.at) ≡ true
     → line_read text d ≡ with_state d (reached d.state (next_line text d.state.at))
 
 -- The first fault decides: after it no line is read.
 abbrev pub FirstFault : Type 0
-FirstFault = (text : List ℕ) (n : ℕ) (d : Draft) → (d.state.fault ≡ 0 → ⊥) → lines_read text n d ≡ d
+FirstFault = (text : List ℕ) (n : ℕ) (d : Draft) → (d.state.fault ≡ None → ⊥) → lines_read text n d ≡ d
 
 -- Where there is no fault, the whole text has been read: as many turns as bytes are enough.
 abbrev pub WholeText : Type 0
 WholeText =
     (text : List ℕ) (d : Draft)
-    → (lines_read text (length text) d).state.fault ≡ 0
+    → (lines_read text (length text) d).state.fault ≡ None
     → length text ≤ (lines_read text (length text) d).state.at
 
 -- However the storage is lent: a fault's place is in the text or at its end, and there are at most `most_items` bodies and joints.
 pub record Inside (text : List ℕ) (d : Draft) : Type 0 where
-  pub fault : d.state.fault_at ≤ length text
+  pub fault : offset_of d.state.fault ≤ length text
   pub bodies : d.state.bodies ≤ most_items
   pub joints : d.state.joints ≤ most_items
 

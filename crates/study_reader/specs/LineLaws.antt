@@ -1,22 +1,21 @@
 -- What lines of masks, of angles, of masses and of `place` read as, by the words that stand in them: what the line changes of what has been read, with each place by the layout of a model's
 -- records (crates/model/specs/Layout.antt). Proved in proofs/LineLaws.antt.
-use Rattle.std.specs.Prelude.{ℕ, ◌+◌, ◌≤◌, ◌<◌, ◌≡◌, true, List, [], ◌∷◌, map, Float, length, set}
+use Rattle.std.specs.Prelude.{ℕ, ◌+◌, ◌≤◌, ◌<◌, ◌≡◌, true, Some, None, is_some, List, [], ◌∷◌, map, Float, length, set}
 use Rattle.std.specs.Int.Bits.{bit_or}
 use Rattle.floats.specs.Utils.{inv_of}
 use Rattle.floats.specs.SinCos.{rotation_from_angle_of}
 use Rattle.decimals.specs.Words.{reading_of}
-use Rattle.decimals.specs.declared.number.Reading.TheVariants.{Number}
+use Rattle.std.specs.Prelude.{Ok}
 use Rattle.texts.specs.Ascii.{ascii}
 use Rattle.model.specs.Layout.{pose_place, inertia_place, mass_place, frame1_place, frame2_place, masks_place}
 use Rattle.study_reader.specs.Words.{next_word, is_empty, bytes_of, next_line, whole_number}
 use Rattle.study_reader.specs.Storage.{body_base, joint_base, words_base}
-use Rattle.study_reader.specs.Names.{ABSENT, find_body}
+use Rattle.study_reader.specs.Names.{find_body}
 use Rattle.study_reader.specs.Keywords.{body_item, joint_item, place_keyword}
 use Rattle.study_reader.specs.Draft.{Draft, reached, Default, default, puts}
 use Rattle.study_reader.specs.Calls.{read_call}
 use Rattle.study_reader.specs.Items.{line_of}
 use Rattle.study_reader.specs.Study.{line_read}
-use Rattle.study_reader.specs.declared.words.Whole.{Whole}
 use Rattle.study_reader.specs.declared.draft.State.{State}
 use Rattle.study_reader.specs.declared.calls.Line.{Line}
 use Rattle.study_reader.specs.declared.items.Change.TheVariants.{Call}
@@ -30,7 +29,7 @@ HasWords text at (w ∷ ws) = (bytes_of text (next_word text at) ≡ w) × HasWo
 
 -- the next line has these words, and belongs to an item of this kind
 pub record Next (text : List ℕ) (kind : ℕ) (ws : List (List ℕ)) (d : Draft) : Type 0 where
-  pub no_fault : d.state.fault ≡ 0
+  pub no_fault : d.state.fault ≡ None
   pub left : d.state.at < length text
   pub item : d.state.kind ≡ kind
   pub words : HasWords text d.state.at ws
@@ -66,7 +65,7 @@ union mask (a ∷ axes) = union (bit_or mask (axis_mask a)) axes
 
 -- The word gives the mask at a place of the open joint's words: by its number, or by one to three axes. So `lock x y` reads as `lock 3`.
 pub record GivesMask (word : List ℕ) (place : ℕ) : Type 0 where
-  pub by_number : (text : List ℕ) (d : Draft) (number : List ℕ) (mask : ℕ) → whole_number number ≡ Whole.Number mask → Next text joint_item (word ∷ number ∷ []) d
+  pub by_number : (text : List ℕ) (d : Draft) (number : List ℕ) (mask : ℕ) → whole_number number ≡ Some mask → Next text joint_item (word ∷ number ∷ []) d
       → Leaves text d d.numbers (set d.words (words_base d.state.item + place) mask)
   pub by_name : (text : List ℕ) (d : Draft) (axes : List Axis) → 0 < length axes → length axes ≤ 3 → Next text joint_item (word ∷ map axis_name axes) d
       → Leaves text d d.numbers (set d.words (words_base d.state.item + place) (union 0 axes))
@@ -82,7 +81,7 @@ pub record MaskLines : Type 0 where
 
 -- the word with a number a gives these numbers of the open item, whose numbers start at a base
 pub record GivesNumbers (word : List ℕ) (kind : ℕ) (base : ℕ → ℕ) (these : Float → List Default) : Type 0 where
-  pub by_number : (text : List ℕ) (d : Draft) (number : List ℕ) (a : Float) → reading_of number ≡ Number a → Next text kind (word ∷ number ∷ []) d
+  pub by_number : (text : List ℕ) (d : Draft) (number : List ℕ) (a : Float) → reading_of number ≡ Ok a → Next text kind (word ∷ number ∷ []) d
       → Leaves text d (puts (base d.state.item) (these a) d.numbers) d.words
 
 -- a rotation by its angle: cosine and sine, at a place and the next
@@ -103,7 +102,7 @@ pub record NumberLines : Type 0 where
 -- the line of a call places a body
 pub record PlacesBody (l : Line) (body : ℕ) (px py re' im' : Float) : Type 0 where
   pub call : l.keyword ≡ place_keyword
-  pub no_fault : l.fault ≡ 0
+  pub no_fault : l.fault ≡ None
   pub body_is : l.number ≡ body
   pub x_is : l.x ≡ px
   pub y_is : l.y ≡ py
@@ -114,18 +113,18 @@ pub record PlacesBody (l : Line) (body : ℕ) (px py re' im' : Float) : Type 0 w
 abbrev pub Placed : List ℕ → List ℕ → State → ℕ → Float → Float → Float → Float → Type 0
 Placed text names st i px py re im =
     let w = next_word text st.at in
-    PlacesBody (read_call text names st.bodies st.joints st.repeats w) i px py re im × (line_of text names st ≡ Call place_keyword w.start)
+    PlacesBody (read_call text names st.bodies st.joints (is_some st.repeat) w) i px py re im × (line_of text names st ≡ Call place_keyword w.start)
 
 -- body i has the name after the line's first word
 abbrev pub NamesBody : List ℕ → List ℕ → State → ℕ → Type 0
-NamesBody text names st i = (find_body text names st.bodies (next_word text (next_word text st.at).end) ≡ i) × (i ≡ ABSENT → ⊥)
+NamesBody text names st i = find_body text names st.bodies (next_word text (next_word text st.at).end) ≡ Some i
 
 pub record PlaceLines : Type 0 where
   pub by_angle : (text names : List ℕ) (st : State) (i : ℕ) (body nx ny na : List ℕ) (px py a : Float) → NamesBody text names st i
-      → reading_of nx ≡ Number px → reading_of ny ≡ Number py → reading_of na ≡ Number a
+      → reading_of nx ≡ Ok px → reading_of ny ≡ Ok py → reading_of na ≡ Ok a
       → HasWords text st.at (ascii "place" ∷ body ∷ nx ∷ ny ∷ na ∷ [])
       → Placed text names st i px py (rotation_from_angle_of a).re (rotation_from_angle_of a).im
   pub by_pair : (text names : List ℕ) (st : State) (i : ℕ) (body nx ny nc ns : List ℕ) (px py c s : Float) → NamesBody text names st i
-      → reading_of nx ≡ Number px → reading_of ny ≡ Number py → reading_of nc ≡ Number c → reading_of ns ≡ Number s
+      → reading_of nx ≡ Ok px → reading_of ny ≡ Ok py → reading_of nc ≡ Ok c → reading_of ns ≡ Ok s
       → HasWords text st.at (ascii "place" ∷ body ∷ nx ∷ ny ∷ nc ∷ ns ∷ [])
       → Placed text names st i px py c s

@@ -1,6 +1,6 @@
 -- The study that a text describes: what each line says is written, line after line, up to the first fault; a `repeat` that is open at the end is a fault; and a centre
 -- that is left out is the middle of the angular limit.
-use Rattle.std.specs.Prelude.{Bool, cond, not, ◌&&◌, List, ℕ, zero, suc, ◌+◌, ◌*◌, eqb, ltb, leb, Float, length, get_or, set, drop, replicate}
+use Rattle.std.specs.Prelude.{Bool, cond, Option, Some, None, is_some, not, ◌&&◌, List, ℕ, zero, suc, ◌+◌, ◌*◌, eqb, ltb, leb, Float, length, get_or, set, drop, replicate}
 use Rattle.std.specs.Float.{nan}
 use Rattle.std.specs.Float.Ieee.{lt}
 use Rattle.floats.specs.Operators.{bits, ◌⊕◌, ◌⊖◌, ◌⊗◌}
@@ -83,8 +83,8 @@ applied (Call keyword at) d = with_state d (called d.state keyword at)
 unfoldable pub line_read : List ℕ → Draft → Draft
 line_read text d =
     let after = applied (line_of text d.names d.state) d in
-    cond (eqb d.state.fault 0)
-    (cond (leb (length text) d.state.at) d (with_state after (reached after.state (next_line text d.state.at)))) d
+    cond (is_some d.state.fault) d
+    (cond (leb (length text) d.state.at) d (with_state after (reached after.state (next_line text d.state.at))))
 
 -- at most so many lines
 unfoldable pub lines_read : List ℕ → ℕ → Draft → Draft
@@ -92,8 +92,12 @@ lines_read text zero d = d
 lines_read text (suc n) d = lines_read text n (line_read text d)
 
 -- a `repeat` that is open at the end is a fault
+unfoldable pub left_open : Option ℕ → State → State
+left_open (Some at) st = faulty st fault_open_repeat at
+left_open None st = st
+
 unfoldable pub ended : State → State
-ended st = cond (eqb st.fault 0) (cond st.repeats (faulty st fault_open_repeat st.repeat_at) st) st
+ended st = cond (is_some st.fault) st (left_open st.repeat st)
 
 -- ---- a centre that is left out
 

@@ -1,8 +1,8 @@
 -- A table of words as a text, as the program holds its tables: a line a word, and after the word the numbers that it means.
+use Rattle.std.specs.Option.{unwrap_or}
 use Rattle.std.specs.Prelude.{cond, List, ℕ, zero, suc, ltb, length}
 use Rattle.study_reader.specs.Words.{same_bytes, next_word, next_line, bytes_of, whole_of}
 use Rattle.study_reader.specs.Keywords.{field}
-use Rattle.study_reader.specs.declared.words.Whole.{Whole}
 use Rattle.study_reader.specs.declared.fields.Field.{Field}
 
 -- of so many lines from a place on, the first that starts with these bytes: where its first word ends; the end of the table where none does
@@ -18,12 +18,8 @@ unfoldable pub end_in : List ℕ → List ℕ → ℕ
 end_in table bytes = word_end (length table) table bytes 0
 
 -- a number, and the other where there is none
-abbrev pub number_or : ℕ → Whole → ℕ
-number_or other (Whole.Number n) = n
-number_or other Whole.No = other
-
 unfoldable pub number_after : List ℕ → ℕ → ℕ → ℕ
-number_after table other at = number_or other (whole_of table (next_word table at))
+number_after table other at = unwrap_or (whole_of table (next_word table at)) other
 
 abbrev pub past_word : List ℕ → ℕ → ℕ
 past_word table at = (next_word table at).end

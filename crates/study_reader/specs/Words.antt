@@ -1,11 +1,11 @@
 -- A study's text is bytes; a place in it is the number of bytes before it. Lines end with a line feed. Blanks part the words of a line, and `#` starts
 -- a comment that ends with its line.
-use Rattle.std.specs.Prelude.{Bool, true, false, cond, not, ◌&&◌, ◌||◌, List, [], ◌∷◌, ℕ, suc, ◌+◌, ◌-◌, leb, eqb, take, drop, get_or}
-use Rattle.std.proofs.Math.Option.{Option, none, some}
+use Rattle.std.specs.Prelude.{Bool, true, false, cond, not, ◌&&◌, ◌||◌, Option, Some, None, List, [], ◌∷◌, ℕ, suc, ◌+◌, ◌-◌, leb, eqb, take, drop, get_or}
+use Rattle.std.proofs.Math.Option as math
+use Rattle.std.proofs.Math.Option.{none, some}
 use Rattle.motor_table.specs.WholeNumber.{digits_after}
 use Rattle.texts.specs.Ascii.{ascii, LF}
 use Rattle.study_reader.specs.declared.words.Word.{Word}
-use Rattle.study_reader.specs.declared.words.Whole.{Whole}
 
 -- ---- bytes
 
@@ -93,16 +93,16 @@ holds_byte text w b = has (bytes_of text w) b
 -- ---- whole numbers
 
 -- 4294967289 is the largest that is taken
-unfoldable pub whole_up_to : Option ℕ → Whole
-whole_up_to none = Whole.No
-whole_up_to (some n) = cond (leb n 4294967289) (Whole.Number n) Whole.No
+unfoldable pub whole_up_to : math.Option ℕ → Option ℕ
+whole_up_to none = None
+whole_up_to (some n) = cond (leb n 4294967289) (Some n) None
 
 -- at least one digit, and nothing else
-unfoldable pub whole_number : List ℕ → Whole
-whole_number [] = Whole.No
+unfoldable pub whole_number : List ℕ → Option ℕ
+whole_number [] = None
 whole_number (b ∷ bs) = whole_up_to (digits_after 0 (b ∷ bs))
 
-abbrev pub whole_of : List ℕ → Word → Whole
+abbrev pub whole_of : List ℕ → Word → Option ℕ
 whole_of text w = whole_number (bytes_of text w)
 
 -- ---- lines and columns, from 1

@@ -2,31 +2,26 @@
 ghost use Rattle.std.specs.Prelude.{◌≡◌, ◌<◌, length};
 ghost use Rattle.study_reader.specs.Calls.{bare_call, wrong, with_word, with_number, with_place, with_pose, with_rotation, with_warm, with_csv, with_sweeps, read_whole, read_body, read_joint, read_pose, read_rotation, read_build, read_substep, read_substeps, after_rounds, read_sweeps, read_frame, read_csv, read_most, read_settle, read_quoted, read_file, read_repeat, read_end, read_place, with_bits, masks_with, with_mask, with_axes, mask_named, bit_of, bits_of, mask_word, mask_step, read_masks, other_arguments, read_call};
 
-use crate::faults::{
-    CSV, FILE_NAME, MASK, NESTED, NO_BODY, NO_JOINT, NO_REPEAT, SUBSTEPS, WARM, WHOLE_NUMBER,
-};
+use crate::faults::{Fault, FaultAt};
 use crate::keywords::{
     BUILD, END, FRAME, LOCK, MASKS, MOTOR_MODEL, PLACE, READ_ROWS, READ_VELOCITY, REPEAT,
     SET_TARGETS, SETTLE, SWEEP, TABLE, axis_of, call_keyword, item_keyword,
 };
-use crate::names::{ABSENT, find_body, find_joint};
+use crate::names::{find_body, find_joint};
 use crate::number::{number_fault, number_in, value_of};
-use crate::words::{Whole, Word, is, is_empty, is_quote, next_word, quoted_word, whole_number};
+use crate::words::{Word, is, is_empty, is_quote, next_word, quoted_word, whole_number};
 use floats::sin_cos::rotation_from_angle;
 use rows::generic_joint::Masks;
 
-// The locked, limited, driven and coupled axes are masks 0 to 3; none of them is 4.
-const NO_MASK: u32 = 4;
-
 // A call, with its numbers: a body, a joint, a count, a substep or how many substeps; the rounds of a frame's sweeps; a pose; a warm coefficient, where there is one; a tolerance, as x. `start` and `end` are those of its
-// first argument, `at` is where what was read of it ends. Of new masks, `mask` is the one that the axes that follow belong to.
+// first argument, `at` is where what was read of it ends. Of new masks, `mask` is the one that the axes that follow belong to: the locked, limited, driven and coupled axes are masks 0 to 3.
 #[derive(Clone, Copy)]
 pub struct Line {
     pub keyword: u32,
     pub number: u32,
     pub sweeps: u32,
     pub masks: Masks,
-    pub mask: u32,
+    pub mask: Option<u32>,
     pub warm: bool,
     pub csv: bool,
     pub x: f32,
@@ -36,8 +31,7 @@ pub struct Line {
     pub start: usize,
     pub end: usize,
     pub at: usize,
-    pub fault: u32,
-    pub fault_at: usize,
+    pub fault: Option<FaultAt>,
 }
 
 // ---- a line and what is added to it
@@ -55,7 +49,7 @@ fn bare_call(keyword: u32, at: usize) -> Line
             motor_axes: 0,
             coupled_axes: 0,
         },
-        mask: NO_MASK,
+        mask: None,
         warm: false,
         csv: false,
         x: 0.0,
@@ -65,102 +59,91 @@ fn bare_call(keyword: u32, at: usize) -> Line
         start: at,
         end: at,
         at,
-        fault: 0,
-        fault_at: 0,
+        fault: None,
     }
 }
 
-fn wrong(l: Line, fault: u32, at: usize) -> Line
+fn wrong(l: Line, fault: Fault, at: usize) -> Line
     ensures { result ≡ wrong l fault at }
 {
-    let mut r = l;
-    r.fault = fault;
-    r.fault_at = at;
-    r
+    Line {
+        fault: Some(FaultAt { fault, at }),
+        ..l
+    }
 }
 
 // A line with its first argument.
 fn with_word(l: Line, w: Word) -> Line
     ensures { result ≡ with_word l w }
 {
-    let mut r = l;
-    r.start = w.start;
-    r.end = w.end;
-    r.at = w.end;
-    r
+    Line {
+        start: w.start,
+        end: w.end,
+        at: w.end,
+        ..l
+    }
 }
 
 fn with_number(l: Line, n: u32) -> Line
     ensures { result ≡ with_number l n }
 {
-    let mut r = l;
-    r.number = n;
-    r
+    Line { number: n, ..l }
 }
 
 fn with_place(l: Line, at: usize) -> Line
     ensures { result ≡ with_place l at }
 {
-    let mut r = l;
-    r.at = at;
-    r
+    Line { at, ..l }
 }
 
 fn with_pose(l: Line, x: f32, y: f32, at: usize) -> Line
     ensures { result ≡ with_pose l x y at }
 {
-    let mut r = l;
-    r.x = x;
-    r.y = y;
-    r.at = at;
-    r
+    Line { x, y, at, ..l }
 }
 
 fn with_rotation(l: Line, re: f32, im: f32, at: usize) -> Line
     ensures { result ≡ with_rotation l re im at }
 {
-    let mut r = l;
-    r.re = re;
-    r.im = im;
-    r.at = at;
-    r
+    Line { re, im, at, ..l }
 }
 
 fn with_warm(l: Line, x: f32, at: usize) -> Line
     ensures { result ≡ with_warm l x at }
 {
-    let mut r = l;
-    r.warm = true;
-    r.x = x;
-    r.at = at;
-    r
+    Line {
+        warm: true,
+        x,
+        at,
+        ..l
+    }
 }
 
 fn with_csv(l: Line) -> Line
     ensures { result ≡ with_csv l }
 {
-    let mut r = l;
-    r.csv = true;
-    r
+    Line { csv: true, ..l }
 }
 
 // The rounds of a frame's sweeps are the number that was read last.
 fn with_sweeps(l: Line) -> Line
     ensures { result ≡ with_sweeps l }
 {
-    let mut r = l;
-    r.sweeps = l.number;
-    r
+    Line {
+        sweeps: l.number,
+        ..l
+    }
 }
 
 // The axes that follow are of mask i.
 fn with_mask(l: Line, i: u32, at: usize) -> Line
     ensures { result ≡ with_mask l i at }
 {
-    let mut r = l;
-    r.mask = i;
-    r.at = at;
-    r
+    Line {
+        mask: Some(i),
+        at,
+        ..l
+    }
 }
 
 fn with_bits(mask: u32, i: u32, k: u32, bits: u32) -> u32
@@ -183,14 +166,15 @@ fn masks_with(m: Masks, i: u32, bits: u32) -> Masks
     }
 }
 
-// The mask that was named last, with bits.
-fn with_axes(l: Line, bits: u32, at: usize) -> Line
-    ensures { result ≡ with_axes l bits at }
+// Mask i, with bits.
+fn with_axes(l: Line, i: u32, bits: u32, at: usize) -> Line
+    ensures { result ≡ with_axes l i bits at }
 {
-    let mut r = l;
-    r.masks = masks_with(l.masks, l.mask, bits);
-    r.at = at;
-    r
+    Line {
+        masks: masks_with(l.masks, i, bits),
+        at,
+        ..l
+    }
 }
 
 // ---- arguments
@@ -200,8 +184,8 @@ fn read_whole(text: &[u8], l: Line) -> Line
 {
     let w = next_word(text, l.at);
     match whole_number(text, w) {
-        Whole::Number(n) => with_number(with_word(l, w), n),
-        Whole::No => wrong(l, WHOLE_NUMBER, w.start),
+        Some(n) => with_number(with_word(l, w), n),
+        None => wrong(l, Fault::WholeNumber, w.start),
     }
 }
 
@@ -209,22 +193,20 @@ fn read_body(text: &[u8], names: &[u32], bodies: u32, l: Line) -> Line
     ensures { result ≡ read_body text.now names.now bodies l }
 {
     let w = next_word(text, l.at);
-    let i = find_body(text, names, bodies, w);
-    if i == ABSENT {
-        return wrong(l, NO_BODY, w.start);
+    match find_body(text, names, bodies, w) {
+        Some(i) => with_number(with_word(l, w), i),
+        None => wrong(l, Fault::NoBody, w.start),
     }
-    with_number(with_word(l, w), i)
 }
 
 fn read_joint(text: &[u8], names: &[u32], joints: u32, l: Line) -> Line
     ensures { result ≡ read_joint text.now names.now joints l }
 {
     let w = next_word(text, l.at);
-    let j = find_joint(text, names, joints, w);
-    if j == ABSENT {
-        return wrong(l, NO_JOINT, w.start);
+    match find_joint(text, names, joints, w) {
+        Some(j) => with_number(with_word(l, w), j),
+        None => wrong(l, Fault::NoJoint, w.start),
     }
-    with_number(with_word(l, w), j)
 }
 
 // An angle, or a cosine and a sine.
@@ -233,8 +215,7 @@ fn read_rotation(text: &[u8], l: Line) -> Line
 {
     let v = next_word(text, l.at);
     let a = number_in(text, v);
-    let fault = number_fault(a);
-    if fault != 0 {
+    if let Some(fault) = number_fault(a) {
         return wrong(l, fault, v.start);
     }
     let w = next_word(text, v.end);
@@ -243,9 +224,8 @@ fn read_rotation(text: &[u8], l: Line) -> Line
         return with_rotation(l, rotation.re, rotation.im, v.end);
     }
     let b = number_in(text, w);
-    let second = number_fault(b);
-    if second != 0 {
-        return wrong(l, second, w.start);
+    if let Some(fault) = number_fault(b) {
+        return wrong(l, fault, w.start);
     }
     with_rotation(l, value_of(a), value_of(b), w.end)
 }
@@ -256,15 +236,13 @@ fn read_pose(text: &[u8], l: Line) -> Line
 {
     let v = next_word(text, l.at);
     let x = number_in(text, v);
-    let fault = number_fault(x);
-    if fault != 0 {
+    if let Some(fault) = number_fault(x) {
         return wrong(l, fault, v.start);
     }
     let w = next_word(text, v.end);
     let y = number_in(text, w);
-    let second = number_fault(y);
-    if second != 0 {
-        return wrong(l, second, w.start);
+    if let Some(fault) = number_fault(y) {
+        return wrong(l, fault, w.start);
     }
     read_rotation(text, with_pose(l, value_of(x), value_of(y), w.end))
 }
@@ -279,7 +257,7 @@ fn read_substep(text: &[u8], l: Line) -> Line
     if is(text, v, b"substep") {
         return read_whole(text, with_place(l, v.end));
     }
-    wrong(l, WARM, v.start)
+    wrong(l, Fault::Warm, v.start)
 }
 
 // `warm C`, then `substep N`, either or none.
@@ -290,8 +268,7 @@ fn read_build(text: &[u8], l: Line) -> Line
     if is(text, v, b"warm") {
         let w = next_word(text, v.end);
         let c = number_in(text, w);
-        let fault = number_fault(c);
-        if fault != 0 {
+        if let Some(fault) = number_fault(c) {
             return wrong(l, fault, w.start);
         }
         return read_substep(text, with_warm(l, value_of(c), w.end));
@@ -306,17 +283,17 @@ fn read_substeps(text: &[u8], l: Line) -> Line
     if is(text, v, b"substeps") {
         return read_whole(text, with_place(l, v.end));
     }
-    wrong(l, SUBSTEPS, v.start)
+    wrong(l, Fault::Substeps, v.start)
 }
 
 // What stands after rounds that were read.
 fn after_rounds(text: &[u8], l: Line) -> Line
     ensures { result ≡ after_rounds text.now l }
 {
-    if l.fault == 0 {
-        return read_substeps(text, with_sweeps(l));
+    if l.fault.is_some() {
+        return l;
     }
-    l
+    read_substeps(text, with_sweeps(l))
 }
 
 // `sweeps N`, then `substeps N`.
@@ -328,7 +305,7 @@ fn read_sweeps(text: &[u8], l: Line) -> Line
         let r = read_whole(text, with_place(l, v.end));
         return after_rounds(text, r);
     }
-    wrong(l, SUBSTEPS, v.start)
+    wrong(l, Fault::Substeps, v.start)
 }
 
 // `warm C` or nothing, then the rounds and the substeps.
@@ -339,8 +316,7 @@ fn read_frame(text: &[u8], l: Line) -> Line
     if is(text, v, b"warm") {
         let w = next_word(text, v.end);
         let c = number_in(text, w);
-        let fault = number_fault(c);
-        if fault != 0 {
+        if let Some(fault) = number_fault(c) {
             return wrong(l, fault, w.start);
         }
         return read_sweeps(text, with_warm(l, value_of(c), w.end));
@@ -358,7 +334,7 @@ fn read_csv(text: &[u8], l: Line) -> Line
     if is(text, w, b"csv") {
         return with_csv(with_word(l, w));
     }
-    wrong(l, CSV, w.start)
+    wrong(l, Fault::Csv, w.start)
 }
 
 // The most rounds, which are 4096 where they are not given.
@@ -378,8 +354,7 @@ fn read_settle(text: &[u8], l: Line) -> Line
 {
     let v = next_word(text, l.at);
     let x = number_in(text, v);
-    let fault = number_fault(x);
-    if fault != 0 {
+    if let Some(fault) = number_fault(x) {
         return wrong(l, fault, v.start);
     }
     read_most(text, with_pose(l, value_of(x), l.y, v.end))
@@ -392,12 +367,12 @@ fn read_quoted(text: &[u8], l: Line, at: usize) -> Line
 {
     let w = quoted_word(text, at + 1);
     if is_empty(w) {
-        return wrong(l, FILE_NAME, at);
+        return wrong(l, Fault::FileName, at);
     }
     if is_quote(text, w.end) {
         return with_place(with_word(l, w), w.end + 1);
     }
-    wrong(l, FILE_NAME, at)
+    wrong(l, Fault::FileName, at)
 }
 
 fn read_file(text: &[u8], l: Line) -> Line
@@ -405,7 +380,7 @@ fn read_file(text: &[u8], l: Line) -> Line
 {
     let w = next_word(text, l.at);
     if is_empty(w) {
-        return wrong(l, FILE_NAME, w.start);
+        return wrong(l, Fault::FileName, w.start);
     }
     if is_quote(text, w.start) {
         return read_quoted(text, l, w.start);
@@ -417,7 +392,7 @@ fn read_repeat(text: &[u8], repeats: bool, l: Line, at: usize) -> Line
     ensures { result ≡ read_repeat text.now repeats l at }
 {
     if repeats {
-        return wrong(l, NESTED, at);
+        return wrong(l, Fault::Nested, at);
     }
     read_whole(text, l)
 }
@@ -428,31 +403,31 @@ fn read_end(repeats: bool, l: Line, at: usize) -> Line
     if repeats {
         return l;
     }
-    wrong(l, NO_REPEAT, at)
+    wrong(l, Fault::NoRepeat, at)
 }
 
 fn read_place(text: &[u8], names: &[u32], bodies: u32, l: Line) -> Line
     ensures { result ≡ read_place text.now names.now bodies l }
 {
     let r = read_body(text, names, bodies, l);
-    if r.fault == 0 {
-        return read_pose(text, r);
+    if r.fault.is_some() {
+        return r;
     }
-    r
+    read_pose(text, r)
 }
 
 // The mask that a word names.
-fn mask_named(text: &[u8], w: Word) -> u32
+fn mask_named(text: &[u8], w: Word) -> Option<u32>
     ensures { result ≡ mask_named text.now w }
 {
     let keyword = item_keyword(text, w);
     if keyword < LOCK {
-        return NO_MASK;
+        return None;
     }
     if keyword < MOTOR_MODEL {
-        return keyword - LOCK;
+        return Some(keyword - LOCK);
     }
-    NO_MASK
+    None
 }
 
 pub fn bit_of(axis: u32) -> u32
@@ -468,30 +443,29 @@ pub fn bit_of(axis: u32) -> u32
 }
 
 // The bits that a word gives: an axis's, or those of a whole number.
-fn bits_of(text: &[u8], w: Word) -> Whole
+fn bits_of(text: &[u8], w: Word) -> Option<u32>
     ensures { result ≡ bits_of text.now w }
 {
     let axis = axis_of(text, w);
     if 2 < axis {
         return whole_number(text, w);
     }
-    Whole::Number(bit_of(axis))
+    Some(bit_of(axis))
 }
 
 // A word that names a mask, or one that gives bits of the mask named last.
 fn mask_word(text: &[u8], l: Line, w: Word) -> Line
     ensures { result ≡ mask_word text.now l w }
 {
-    let i = mask_named(text, w);
-    if i < NO_MASK {
+    if let Some(i) = mask_named(text, w) {
         return with_mask(l, i, w.end);
     }
-    if NO_MASK <= l.mask {
-        return wrong(l, MASK, w.start);
-    }
+    let Some(i) = l.mask else {
+        return wrong(l, Fault::Mask, w.start);
+    };
     match bits_of(text, w) {
-        Whole::Number(bits) => with_axes(l, bits, w.end),
-        Whole::No => wrong(l, MASK, w.start),
+        Some(bits) => with_axes(l, i, bits, w.end),
+        None => wrong(l, Fault::Mask, w.start),
     }
 }
 
@@ -499,7 +473,7 @@ fn mask_word(text: &[u8], l: Line, w: Word) -> Line
 fn mask_step(text: &[u8], l: Line) -> Line
     ensures { result ≡ mask_step text.now l }
 {
-    if l.fault != 0 {
+    if l.fault.is_some() {
         return l;
     }
     let w = next_word(text, l.at);
@@ -514,10 +488,8 @@ fn read_masks(text: &[u8], names: &[u32], joints: u32, l: Line) -> Line
     ensures { result ≡ read_masks text.now names.now joints l }
 {
     let mut r = read_joint(text, names, joints, l);
-    let mut left: u32 = 16;
-    while 0 < left {
+    for _ in 0..16u32 {
         r = mask_step(text, r);
-        left -= 1;
     }
     r
 }

@@ -1,8 +1,9 @@
 // How far the reading of a study has come, and the numbers that an item has where its lines give none.
 ghost use Rattle.std.specs.Prelude.{◌≡◌, ◌≤◌};
 ghost use Rattle.study_reader.specs.Storage.{body_base, joint_base, numbers_size};
-ghost use Rattle.study_reader.specs.Draft.{start, faulty, reached, opened, first_call, repeats_after, repeat_after, called, item_base, puts, settings_defaults, body_defaults, limit_defaults, force_defaults, joint_defaults};
+ghost use Rattle.study_reader.specs.Draft.{start, faulty, reached, opened, first_call, repeat_after, called, item_base, puts, settings_defaults, body_defaults, limit_defaults, force_defaults, joint_defaults};
 
+use crate::faults::{Fault, FaultAt};
 use crate::fields::{BODY_ITEM, CALLS, JOINT_ITEM, NO_ITEM};
 use crate::keywords::{END, REPEAT};
 use crate::storage::{DT, LENGTH_UNIT, MAX_CORRECTIVE_VELOCITY, body_base, joint_base, set};
@@ -25,8 +26,8 @@ const MAX_FORCE_Y: usize = MOTOR_Y + 4;
 
 const MAX_FORCE_ANGULAR: usize = MOTOR_ANGULAR + 4;
 
-// Where the next line starts; the item that is open and its number; how many bodies and joints there are; the first fault and its place; where the calls
-// start; whether a `repeat` is open, and where the last one stands.
+// Where the next line starts; the item that is open and its number; how many bodies and joints there are; the first fault; where the calls
+// start; where the `repeat` stands that is open.
 #[derive(Clone, Copy)]
 pub struct State {
     pub at: usize,
@@ -34,11 +35,9 @@ pub struct State {
     pub item: u32,
     pub bodies: u32,
     pub joints: u32,
-    pub fault: u32,
-    pub fault_at: usize,
+    pub fault: Option<FaultAt>,
     pub calls: usize,
-    pub repeats: bool,
-    pub repeat_at: usize,
+    pub repeat: Option<usize>,
 }
 
 pub fn start() -> State
@@ -50,41 +49,38 @@ pub fn start() -> State
         item: 0,
         bodies: 0,
         joints: 0,
-        fault: 0,
-        fault_at: 0,
+        fault: None,
         calls: 4294967295,
-        repeats: false,
-        repeat_at: 0,
+        repeat: None,
     }
 }
 
-pub fn faulty(st: State, fault: u32, at: usize) -> State
+pub fn faulty(st: State, fault: Fault, at: usize) -> State
     ensures { result ≡ faulty st fault at }
 {
-    let mut s = st;
-    s.fault = fault;
-    s.fault_at = at;
-    s
+    State {
+        fault: Some(FaultAt { fault, at }),
+        ..st
+    }
 }
 
 pub fn reached(st: State, at: usize) -> State
     ensures { result ≡ reached st at }
 {
-    let mut s = st;
-    s.at = at;
-    s
+    State { at, ..st }
 }
 
 // An item is opened: its kind and number, and how many bodies and joints there are with it.
 pub fn opened(st: State, kind: u32, item: u32, bodies: u32, joints: u32) -> State
     ensures { result ≡ opened st kind item bodies joints }
 {
-    let mut s = st;
-    s.kind = kind;
-    s.item = item;
-    s.bodies = bodies;
-    s.joints = joints;
-    s
+    State {
+        kind,
+        item,
+        bodies,
+        joints,
+        ..st
+    }
 }
 
 // ---- calls
@@ -99,37 +95,29 @@ fn first_call(st: State, at: usize) -> usize
     at
 }
 
-fn repeats_after(repeats: bool, keyword: u32) -> bool
-    ensures { result ≡ repeats_after repeats keyword }
+// The `repeat` that is open after a call, by its offset.
+fn repeat_after(repeat: Option<usize>, keyword: u32, at: usize) -> Option<usize>
+    ensures { result ≡ repeat_after repeat keyword at }
 {
     if keyword == REPEAT {
-        return true;
+        return Some(at);
     }
     if keyword == END {
-        return false;
+        return None;
     }
-    repeats
-}
-
-fn repeat_after(repeat_at: usize, keyword: u32, at: usize) -> usize
-    ensures { result ≡ repeat_after repeat_at keyword at }
-{
-    if keyword == REPEAT {
-        return at;
-    }
-    repeat_at
+    repeat
 }
 
 // A call was read, whose line starts at an offset.
 pub fn called(st: State, keyword: u32, at: usize) -> State
     ensures { result ≡ called st keyword at }
 {
-    let mut s = st;
-    s.kind = CALLS;
-    s.calls = first_call(st, at);
-    s.repeats = repeats_after(st.repeats, keyword);
-    s.repeat_at = repeat_after(st.repeat_at, keyword, at);
-    s
+    State {
+        kind: CALLS,
+        calls: first_call(st, at),
+        repeat: repeat_after(st.repeat, keyword, at),
+        ..st
+    }
 }
 
 // ---- defaults

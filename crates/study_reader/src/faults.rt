@@ -1,52 +1,95 @@
-// What is wrong with a text that cannot be read, by number.
-pub const UNKNOWN: u32 = 1;
+// What is wrong with a text that cannot be read.
+ghost use Rattle.std.specs.Prelude.{◌≡◌};
+ghost use Rattle.study_reader.specs.Faults.{number, number_of, offset_of};
 
-pub const NAME: u32 = 2;
+#[derive(Clone, Copy, PartialEq, Eq)]
+pub enum Fault {
+    Unknown,
+    Name,
+    Taken,
+    NoBody,
+    Number,
+    Digits,
+    LineEnd,
+    Axis,
+    BodiesFull,
+    JointsFull,
+    AfterCalls,
+    Elsewhere,
+    WholeNumber,
+    NoJoint,
+    NoRepeat,
+    Nested,
+    OpenRepeat,
+    Model,
+    WorldName,
+    Warm,
+    Csv,
+    FileName,
+    LongName,
+    PlainName,
+    Mask,
+    Substeps,
+}
 
-pub const TAKEN: u32 = 3;
+impl Fault {
+    // Its number in the C interface.
+    pub fn number(self) -> u32
+        ensures { result ≡ number self }
+    {
+        match self {
+            Fault::Unknown => 1,
+            Fault::Name => 2,
+            Fault::Taken => 3,
+            Fault::NoBody => 4,
+            Fault::Number => 5,
+            Fault::Digits => 6,
+            Fault::LineEnd => 7,
+            Fault::Axis => 8,
+            Fault::BodiesFull => 9,
+            Fault::JointsFull => 10,
+            Fault::AfterCalls => 11,
+            Fault::Elsewhere => 12,
+            Fault::WholeNumber => 13,
+            Fault::NoJoint => 14,
+            Fault::NoRepeat => 15,
+            Fault::Nested => 16,
+            Fault::OpenRepeat => 17,
+            Fault::Model => 18,
+            Fault::WorldName => 19,
+            Fault::Warm => 20,
+            Fault::Csv => 21,
+            Fault::FileName => 22,
+            Fault::LongName => 23,
+            Fault::PlainName => 24,
+            Fault::Mask => 25,
+            Fault::Substeps => 26,
+        }
+    }
+}
 
-pub const NO_BODY: u32 = 4;
+// A fault and its offset in the text.
+#[derive(Clone, Copy, PartialEq, Eq)]
+pub struct FaultAt {
+    pub fault: Fault,
+    pub at: usize,
+}
 
-pub const NUMBER: u32 = 5;
+// The number of what may be a fault, 0 for none; and its offset, 0 for none.
+pub fn number_of(fault: Option<FaultAt>) -> u32
+    ensures { result ≡ number_of fault }
+{
+    match fault {
+        Some(f) => f.fault.number(),
+        None => 0,
+    }
+}
 
-pub const DIGITS: u32 = 6;
-
-pub const LINE_END: u32 = 7;
-
-pub const AXIS: u32 = 8;
-
-pub const BODIES_FULL: u32 = 9;
-
-pub const JOINTS_FULL: u32 = 10;
-
-pub const AFTER_CALLS: u32 = 11;
-
-pub const ELSEWHERE: u32 = 12;
-
-pub const WHOLE_NUMBER: u32 = 13;
-
-pub const NO_JOINT: u32 = 14;
-
-pub const NO_REPEAT: u32 = 15;
-
-pub const NESTED: u32 = 16;
-
-pub const OPEN_REPEAT: u32 = 17;
-
-pub const MODEL: u32 = 18;
-
-pub const WORLD_NAME: u32 = 19;
-
-pub const WARM: u32 = 20;
-
-pub const CSV: u32 = 21;
-
-pub const FILE_NAME: u32 = 22;
-
-pub const LONG_NAME: u32 = 23;
-
-pub const PLAIN_NAME: u32 = 24;
-
-pub const MASK: u32 = 25;
-
-pub const SUBSTEPS: u32 = 26;
+pub fn offset_of(fault: Option<FaultAt>) -> usize
+    ensures { result ≡ offset_of fault }
+{
+    match fault {
+        Some(f) => f.at,
+        None => 0,
+    }
+}

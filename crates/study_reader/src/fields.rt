@@ -7,7 +7,7 @@ ghost use Rattle.study_reader.specs.Tables.{end_in, field_after};
 use crate::tables::{end_in, number_after};
 use crate::words::{Word, next_word};
 
-// What a line belongs to.
+// What a line belongs to: numbers, as the table of fields has them.
 pub const NO_ITEM: u32 = 0;
 
 pub const SETTINGS_ITEM: u32 = 1;

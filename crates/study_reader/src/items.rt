@@ -4,10 +4,7 @@ ghost use Rattle.study_reader.specs.Items.{whole, given1, given2, second_number,
 
 use crate::calls::{bit_of, read_call};
 use crate::draft::State;
-use crate::faults::{
-    AFTER_CALLS, AXIS, BODIES_FULL, ELSEWHERE, JOINTS_FULL, LINE_END, LONG_NAME, MODEL, NAME,
-    NO_BODY, PLAIN_NAME, TAKEN, UNKNOWN, WORLD_NAME,
-};
+use crate::faults::Fault;
 use crate::fields::{BODY_ITEM, CALLS, Field, JOINT_ITEM, NO_ITEM, field_of};
 use crate::keywords::{
     ANGLE, BODY, CENTER, ENABLED, FRAME1_ANGLE, FRAME2_ANGLE, INERTIA, INVERSE_MASS, LOCK, MASS,
@@ -17,10 +14,10 @@ use crate::layout::{
     CENTER_NUMBERS, ENABLED_WORD, FRAME1_NUMBERS, FRAME2_NUMBERS, INERTIA_NUMBER, MASK_WORDS,
     MASS_NUMBERS, MODEL_WORDS, POSE_NUMBERS,
 };
-use crate::names::{ABSENT, find_body, find_end, find_joint};
+use crate::names::{find_body, find_end, find_joint};
 use crate::number::{number_fault, number_in, value_of};
 use crate::storage::MOST;
-use crate::words::{Whole, Word, holds, is, is_empty, next_word, whole_number};
+use crate::words::{Word, holds, is, is_empty, next_word, whole_number};
 use floats::sin_cos::rotation_from_angle;
 use floats::utils::inv;
 
@@ -51,7 +48,7 @@ pub enum Change {
     // no word stands on the line
     Nothing,
     // a fault and its offset
-    Wrong(u32, usize),
+    Wrong(Fault, usize),
     Given(Numbers),
     // a word of the joint that is open: its place, its value and the offset of what gave it
     JointWord(u32, u32, usize),
@@ -72,7 +69,7 @@ fn whole(text: &[u8], at: usize, change: Change) -> Change
     if is_empty(w) {
         return change;
     }
-    Change::Wrong(LINE_END, w.start)
+    Change::Wrong(Fault::LineEnd, w.start)
 }
 
 // ---- numbers
@@ -111,8 +108,7 @@ fn read_second(text: &[u8], v: Word, place: u32, x: f32, center: u32) -> Change
 {
     let w = next_word(text, v.end);
     let r = number_in(text, w);
-    let fault = number_fault(r);
-    if fault != 0 {
+    if let Some(fault) = number_fault(r) {
         return Change::Wrong(fault, w.start);
     }
     let n = given2(place, x, value_of(r), v.start, w.start, center);
@@ -125,8 +121,7 @@ fn read_numbers(text: &[u8], at: usize, place: u32, many: u32, center: u32) -> C
 {
     let v = next_word(text, at);
     let r = number_in(text, v);
-    let fault = number_fault(r);
-    if fault != 0 {
+    if let Some(fault) = number_fault(r) {
         return Change::Wrong(fault, v.start);
     }
     let x = value_of(r);
@@ -175,8 +170,7 @@ fn read_given(text: &[u8], at: usize, keyword: u32) -> Change
 {
     let w = next_word(text, at);
     let r = number_in(text, w);
-    let fault = number_fault(r);
-    if fault != 0 {
+    if let Some(fault) = number_fault(r) {
         return Change::Wrong(fault, w.start);
     }
     let n = given_by(keyword, value_of(r), w.start);
@@ -194,7 +188,7 @@ fn read_field(text: &[u8], w: Word) -> Change
     let v = next_word(text, w.end);
     let axis = axis_of(text, v);
     if 2 < axis {
-        return Change::Wrong(AXIS, v.start);
+        return Change::Wrong(Fault::Axis, v.start);
     }
     read_numbers(text, v.end, f.place + axis * f.stride, f.many, 2)
 }
@@ -207,19 +201,17 @@ fn read_axes(text: &[u8], from: usize, place: u32, origin: usize) -> Change
 {
     let mut at = from;
     let mut mask: u32 = 0;
-    let mut left: u32 = 3;
-    while 0 < left {
+    for _ in 0..3u32 {
         let w = next_word(text, at);
         if is_empty(w) {
             return Change::JointWord(place, mask, origin);
         }
         let axis = axis_of(text, w);
         if 2 < axis {
-            return Change::Wrong(AXIS, w.start);
+            return Change::Wrong(Fault::Axis, w.start);
         }
         mask = mask | bit_of(axis);
         at = w.end;
-        left -= 1;
     }
     whole(text, at, Change::JointWord(place, mask, origin))
 }
@@ -229,7 +221,7 @@ fn read_named(text: &[u8], at: usize, place: u32, w: Word) -> Change
     ensures { result ≡ named_mask text.now at place w }
 {
     if is_empty(w) {
-        return Change::Wrong(AXIS, w.start);
+        return Change::Wrong(Fault::Axis, w.start);
     }
     read_axes(text, at, place, w.start)
 }
@@ -240,8 +232,8 @@ fn read_mask(text: &[u8], at: usize, place: u32) -> Change
 {
     let w = next_word(text, at);
     match whole_number(text, w) {
-        Whole::Number(mask) => whole(text, w.end, Change::JointWord(place, mask, w.start)),
-        Whole::No => read_named(text, at, place, w),
+        Some(mask) => whole(text, w.end, Change::JointWord(place, mask, w.start)),
+        None => read_named(text, at, place, w),
     }
 }
 
@@ -253,7 +245,7 @@ fn read_motor_model(text: &[u8], at: usize) -> Change
     let w = next_word(text, v.end);
     let axis = axis_of(text, v);
     if 2 < axis {
-        return Change::Wrong(AXIS, v.start);
+        return Change::Wrong(Fault::Axis, v.start);
     }
     if is(text, w, b"acceleration") {
         return whole(
@@ -269,7 +261,7 @@ fn read_motor_model(text: &[u8], at: usize) -> Change
             Change::JointWord(MODEL_WORDS + axis, 1, w.start),
         );
     }
-    Change::Wrong(MODEL, w.start)
+    Change::Wrong(Fault::Model, w.start)
 }
 
 // What follows a word of a body or of a joint that gives no plain number.
@@ -297,46 +289,45 @@ fn read_word(text: &[u8], keyword: u32, w: Word) -> Change
 
 // ---- items
 
-// What is wrong with a name; 0 where it is free.
-fn name_fault(text: &[u8], names: &[u32], st: State, w: Word) -> u32
+// What is wrong with a name; nothing where it is free.
+fn name_fault(text: &[u8], names: &[u32], st: State, w: Word) -> Option<Fault>
     ensures { result ≡ name_fault text.now names.now st w }
 {
-    if w.end <= w.start {
-        return NAME;
+    if is_empty(w) {
+        return Some(Fault::Name);
     }
     if is(text, w, b"world") {
-        return WORLD_NAME;
+        return Some(Fault::WorldName);
     }
     if 64 < w.end - w.start {
-        return LONG_NAME;
+        return Some(Fault::LongName);
     }
     if holds(text, w, b',') {
-        return PLAIN_NAME;
+        return Some(Fault::PlainName);
     }
     if holds(text, w, b'"') {
-        return PLAIN_NAME;
+        return Some(Fault::PlainName);
     }
-    if find_body(text, names, st.bodies, w) != ABSENT {
-        return TAKEN;
+    if find_body(text, names, st.bodies, w).is_some() {
+        return Some(Fault::Taken);
     }
-    if find_joint(text, names, st.joints, w) != ABSENT {
-        return TAKEN;
+    if find_joint(text, names, st.joints, w).is_some() {
+        return Some(Fault::Taken);
     }
-    0
+    None
 }
 
 fn read_body(text: &[u8], names: &[u32], st: State, at: usize) -> Change
     ensures { result ≡ body_line text.now names.now st at }
 {
     let w = next_word(text, at);
-    let fault = name_fault(text, names, st, w);
-    if fault != 0 {
+    if let Some(fault) = name_fault(text, names, st, w) {
         return Change::Wrong(fault, w.start);
     }
     if st.bodies < MOST {
         return whole(text, w.end, Change::OpenBody(w, st.bodies + 1));
     }
-    Change::Wrong(BODIES_FULL, w.start)
+    Change::Wrong(Fault::BodiesFull, w.start)
 }
 
 // The two bodies of a joint with this name, of which there are so many with it.
@@ -345,14 +336,12 @@ fn read_ends(text: &[u8], names: &[u32], bodies: u32, u: Word, joints: u32) -> C
 {
     let v = next_word(text, u.end);
     let w = next_word(text, v.end);
-    let body1 = find_end(text, names, bodies, v);
-    let body2 = find_end(text, names, bodies, w);
-    if body1 == ABSENT {
-        return Change::Wrong(NO_BODY, v.start);
-    }
-    if body2 == ABSENT {
-        return Change::Wrong(NO_BODY, w.start);
-    }
+    let Some(body1) = find_end(text, names, bodies, v) else {
+        return Change::Wrong(Fault::NoBody, v.start);
+    };
+    let Some(body2) = find_end(text, names, bodies, w) else {
+        return Change::Wrong(Fault::NoBody, w.start);
+    };
     let ends = Ends {
         body1,
         body2,
@@ -366,29 +355,28 @@ fn read_joint(text: &[u8], names: &[u32], st: State, at: usize) -> Change
     ensures { result ≡ joint_line text.now names.now st at }
 {
     let w = next_word(text, at);
-    let fault = name_fault(text, names, st, w);
-    if fault != 0 {
+    if let Some(fault) = name_fault(text, names, st, w) {
         return Change::Wrong(fault, w.start);
     }
     if st.joints < MOST {
         return read_ends(text, names, st.bodies, w, st.joints + 1);
     }
-    Change::Wrong(JOINTS_FULL, w.start)
+    Change::Wrong(Fault::JointsFull, w.start)
 }
 
 // ---- lines
 
-// What is wrong with a line that belongs to a kind of item; 0 where such an item is open.
-fn kind_fault(st: State, kind: u32) -> u32
+// What is wrong with a line that belongs to a kind of item; nothing where such an item is open.
+fn kind_fault(st: State, kind: u32) -> Option<Fault>
     ensures { result ≡ kind_fault st kind }
 {
     if st.kind == CALLS {
-        return AFTER_CALLS;
+        return Some(Fault::AfterCalls);
     }
     if st.kind == kind {
-        return 0;
+        return None;
     }
-    ELSEWHERE
+    Some(Fault::Elsewhere)
 }
 
 // The kind of item that a word belongs to.
@@ -406,10 +394,9 @@ fn read_field_line(text: &[u8], st: State, w: Word) -> Change
 {
     let f = field_of(text, w);
     if f.kind == NO_ITEM {
-        return Change::Wrong(UNKNOWN, w.start);
+        return Change::Wrong(Fault::Unknown, w.start);
     }
-    let fault = kind_fault(st, f.kind);
-    if fault != 0 {
+    if let Some(fault) = kind_fault(st, f.kind) {
         return Change::Wrong(fault, w.start);
     }
     read_field(text, w)
@@ -420,7 +407,7 @@ fn read_open(text: &[u8], names: &[u32], st: State, keyword: u32, w: Word) -> Ch
     ensures { result ≡ open_line text.now names.now st keyword w }
 {
     if st.kind == CALLS {
-        return Change::Wrong(AFTER_CALLS, w.start);
+        return Change::Wrong(Fault::AfterCalls, w.start);
     }
     if keyword == SETTINGS {
         return whole(text, w.end, Change::OpenSettings);
@@ -442,8 +429,7 @@ fn read_item(text: &[u8], names: &[u32], st: State, w: Word) -> Change
     if SETTINGS <= keyword {
         return read_open(text, names, st, keyword, w);
     }
-    let fault = kind_fault(st, kind_of(keyword));
-    if fault != 0 {
+    if let Some(fault) = kind_fault(st, kind_of(keyword)) {
         return Change::Wrong(fault, w.start);
     }
     read_word(text, keyword, w)
@@ -453,9 +439,9 @@ fn read_item(text: &[u8], names: &[u32], st: State, w: Word) -> Change
 fn read_call_line(text: &[u8], names: &[u32], st: State, w: Word) -> Change
     ensures { result ≡ call_line text.now names.now st w }
 {
-    let l = read_call(text, names, st.bodies, st.joints, st.repeats, w);
-    if l.fault != 0 {
-        return Change::Wrong(l.fault, l.fault_at);
+    let l = read_call(text, names, st.bodies, st.joints, st.repeat.is_some(), w);
+    if let Some(f) = l.fault {
+        return Change::Wrong(f.fault, f.at);
     }
     whole(text, l.at, Change::Call(l.keyword, w.start))
 }

@@ -1,4 +1,5 @@
-// The words that start any other line: items, what is no plain number, calls; and the axes.
+// The words that start any other line: items, what is no plain number, calls; and the axes. They are numbers as the tables are texts, whose words mean numbers;
+// the words of one kind follow each other, and their order is that of the masks and of `JointEnabled`.
 ghost use Rattle.std.specs.Prelude.{◌≡◌};
 ghost use Rattle.study_reader.specs.Keywords.{item_keyword, call_keyword, axis_of};
 

@@ -6,9 +6,6 @@ use crate::storage::{JOINT_NAMES, word_at};
 use crate::words::{Word, is, same_words};
 use model::layout::WORLD;
 
-// No body or joint has the name.
-pub const ABSENT: u32 = 4294967294;
-
 // The name that stands at a place of the names.
 fn name_at(names: &[u32], at: usize) -> Word
     ensures { result ≡ name_at names.now at }
@@ -34,39 +31,35 @@ pub fn joint_name(names: &[u32], j: u32) -> Word
     name_at(names, JOINT_NAMES + 2 * j as usize)
 }
 
-// The body with a name, of the first so many; or ABSENT.
-pub fn find_body(text: &[u8], names: &[u32], bodies: u32, w: Word) -> u32
+// The body with a name, of the first so many.
+pub fn find_body(text: &[u8], names: &[u32], bodies: u32, w: Word) -> Option<u32>
     ensures { result ≡ find_body text.now names.now bodies w }
 {
-    let mut i: u32 = 0;
-    while i < bodies {
+    for i in 0..bodies {
         if same_words(text, body_name(names, i), w) {
-            return i;
+            return Some(i);
         }
-        i += 1;
     }
-    ABSENT
+    None
 }
 
-pub fn find_joint(text: &[u8], names: &[u32], joints: u32, w: Word) -> u32
+pub fn find_joint(text: &[u8], names: &[u32], joints: u32, w: Word) -> Option<u32>
     ensures { result ≡ find_joint text.now names.now joints w }
 {
-    let mut j: u32 = 0;
-    while j < joints {
+    for j in 0..joints {
         if same_words(text, joint_name(names, j), w) {
-            return j;
+            return Some(j);
         }
-        j += 1;
     }
-    ABSENT
+    None
 }
 
 // A joint's body: a body's name, or `world`.
-pub fn find_end(text: &[u8], names: &[u32], bodies: u32, w: Word) -> u32
+pub fn find_end(text: &[u8], names: &[u32], bodies: u32, w: Word) -> Option<u32>
     ensures { result ≡ find_end text.now names.now bodies w }
 {
     if is(text, w, b"world") {
-        return WORLD;
+        return Some(WORLD);
     }
     find_body(text, names, bodies, w)
 }

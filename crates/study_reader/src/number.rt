@@ -2,9 +2,9 @@
 ghost use Rattle.std.specs.Prelude.{◌≡◌};
 ghost use Rattle.study_reader.specs.Numbers.{number_in, number_fault, value_of};
 
-use crate::faults::{DIGITS, NUMBER};
+use crate::faults::Fault;
 use crate::words::{Word, bytes_of};
-use decimals::number::{Reading, read_number};
+use decimals::number::{NumberFault, Reading, read_number};
 
 // The number that a word spells.
 pub fn number_in(text: &[u8], w: Word) -> Reading
@@ -14,22 +14,20 @@ pub fn number_in(text: &[u8], w: Word) -> Reading
 }
 
 // Why a word is no number.
-pub fn number_fault(r: Reading) -> u32
+#[tactic(auto, unfolding(crate::specs::Numbers::number_fault))]
+pub fn number_fault(r: Reading) -> Option<Fault>
     ensures { result ≡ number_fault r }
 {
     match r {
-        Reading::Number(_) => 0,
-        Reading::TooManyDigits => DIGITS,
-        Reading::NotANumber => NUMBER,
+        Ok(_) => None,
+        Err(NumberFault::TooManyDigits) => Some(Fault::Digits),
+        Err(NumberFault::NotANumber) => Some(Fault::Number),
     }
 }
 
+#[tactic(auto, unfolding(crate::specs::Numbers::value_of))]
 pub fn value_of(r: Reading) -> f32
     ensures { result ≡ value_of r }
 {
-    match r {
-        Reading::Number(x) => x,
-        Reading::TooManyDigits => 0.0,
-        Reading::NotANumber => 0.0,
-    }
+    r.unwrap_or(0.0)
 }

@@ -7,7 +7,7 @@ ghost use Rattle.study_reader.specs.declared.draft.State.{State};
 
 use crate::changes::apply;
 use crate::draft::{MAX_ANGULAR, State, default_settings, faulty, reached, start};
-use crate::faults::OPEN_REPEAT;
+use crate::faults::Fault;
 use crate::items::read_line;
 use crate::storage::{joint_base, number_at, set, set_word, word_at, words_base};
 use crate::words::next_line;
@@ -47,10 +47,8 @@ fn center_joint(numbers: &mut [f32], origins: &[u32], words: &mut [u32], j: u32)
 fn center_joints(numbers: &mut [f32], origins: &[u32], words: &mut [u32], joints: u32)
     ensures { (st : State) (names : List ℕ) → draft st numbers.new origins.now words.new names ≡ center_joints 0 joints (draft st numbers.old origins.now words.old names) }
 {
-    let mut j: u32 = 0;
-    while j < joints {
+    for j in 0..joints {
         center_joint(numbers, origins, words, j);
-        j += 1;
     }
 }
 
@@ -67,7 +65,7 @@ fn next_state(
 ) -> State
     ensures { draft result numbers.new origins.new words.new names.new ≡ line_read text.now (draft st numbers.old origins.old words.old names.old) }
 {
-    if st.fault != 0 {
+    if st.fault.is_some() {
         return st;
     }
     if text.len() <= st.at {
@@ -89,10 +87,8 @@ fn read_lines(
     ensures { draft result numbers.new origins.new words.new names.new ≡ lines_read text.now (length text.now) (draft start numbers.old origins.old words.old names.old) }
 {
     let mut st = start();
-    let mut lines = text.len();
-    while 0 < lines {
+    for _ in 0..text.len() {
         st = next_state(text, numbers, origins, words, names, st);
-        lines -= 1;
     }
     st
 }
@@ -101,11 +97,11 @@ fn read_lines(
 fn ended(st: State) -> State
     ensures { result ≡ ended st }
 {
-    if st.fault != 0 {
+    if st.fault.is_some() {
         return st;
     }
-    if st.repeats {
-        return faulty(st, OPEN_REPEAT, st.repeat_at);
+    if let Some(at) = st.repeat {
+        return faulty(st, Fault::OpenRepeat, at);
     }
     st
 }

@@ -2,14 +2,15 @@
 // table and a line of the definition that the table is held to.
 ghost use Rattle.std.specs.Prelude.{◌≡◌};
 ghost use Rattle.study_reader.specs.Words.{bytes_of};
-ghost use Rattle.study_reader.specs.Tables.{end_in, number_or, number_after};
+ghost use Rattle.study_reader.specs.Tables.{end_in, number_after};
 
-use crate::words::{Whole, Word, bytes_of, is, next_line, next_word, whole_number};
+use crate::words::{Word, bytes_of, is, next_line, next_word, whole_number};
 
 // Where the first word ends of the first line that starts with this word; the table's end where none does.
 pub fn end_in(table: &[u8], text: &[u8], w: Word) -> usize
     ensures { result ≡ end_in table.now (bytes_of text.now w) }
 {
+    // A turn goes on by a line.
     let mut at: usize = 0;
     while at < table.len() {
         let v = next_word(table, at);
@@ -21,20 +22,11 @@ pub fn end_in(table: &[u8], text: &[u8], w: Word) -> usize
     table.len()
 }
 
-fn number_or(other: u32, n: Whole) -> u32
-    ensures { result ≡ number_or other n }
-{
-    match n {
-        Whole::Number(x) => x,
-        Whole::No => other,
-    }
-}
-
 // The number that stands after a place of a table, and the other where none does.
 pub fn number_after(table: &[u8], other: u32, at: usize) -> u32
     ensures { result ≡ number_after table.now other at }
 {
-    number_or(other, whole_number(table, next_word(table, at)))
+    whole_number(table, next_word(table, at)).unwrap_or(other)
 }
 
 // The number after a word, and the other where the table does not have the word.

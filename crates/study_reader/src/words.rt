@@ -16,54 +16,25 @@ pub struct Word {
 fn is_blank(b: u8) -> bool
     ensures { result ≡ is_blank b }
 {
-    if b == b' ' {
-        return true;
-    }
-    if b == b'\t' {
-        return true;
-    }
-    b == b'\r'
+    has_byte(b" \t\r", b)
 }
 
 fn ends_word(b: u8) -> bool
     ensures { result ≡ ends_word b }
 {
-    if is_blank(b) {
-        return true;
-    }
-    if b == b'\n' {
-        return true;
-    }
-    b == b'#'
+    is_blank(b) || has_byte(b"\n#", b)
 }
 
 fn has_byte(bytes: &[u8], b: u8) -> bool
     ensures { result ≡ has bytes.now b }
 {
-    let mut i: usize = 0;
-    while i < bytes.len() {
-        if bytes[i] == b {
-            return true;
-        }
-        i += 1;
-    }
-    false
+    bytes.contains(&b)
 }
 
 fn same_bytes(a: &[u8], b: &[u8]) -> bool
     ensures { result ≡ same_bytes a.now b.now }
 {
-    if a.len() != b.len() {
-        return false;
-    }
-    let mut i: usize = 0;
-    while i < a.len() {
-        if a[i] != b[i] {
-            return false;
-        }
-        i += 1;
-    }
-    true
+    a == b
 }
 
 // ---- words
@@ -71,27 +42,23 @@ fn same_bytes(a: &[u8], b: &[u8]) -> bool
 fn after_blanks(text: &[u8], from: usize) -> usize
     ensures { result ≡ after_blanks text.now from }
 {
-    let mut at = from;
-    while at < text.len() {
+    for at in from..text.len() {
         if !is_blank(text[at]) {
             return at;
         }
-        at += 1;
     }
-    at
+    from.max(text.len())
 }
 
 fn after_bytes(text: &[u8], from: usize) -> usize
     ensures { result ≡ after_bytes text.now from }
 {
-    let mut at = from;
-    while at < text.len() {
+    for at in from..text.len() {
         if ends_word(text[at]) {
             return at;
         }
-        at += 1;
     }
-    at
+    from.max(text.len())
 }
 
 // The next word of the line.
@@ -115,33 +82,25 @@ pub fn is_empty(w: Word) -> bool
 fn ends_quoted(b: u8) -> bool
     ensures { result ≡ ends_quoted b }
 {
-    if b == b'"' {
-        return true;
-    }
-    b == b'\n'
+    has_byte(b"\"\n", b)
 }
 
 fn after_quoted(text: &[u8], from: usize) -> usize
     ensures { result ≡ after_quoted text.now from }
 {
-    let mut at = from;
-    while at < text.len() {
+    for at in from..text.len() {
         if ends_quoted(text[at]) {
             return at;
         }
-        at += 1;
     }
-    at
+    from.max(text.len())
 }
 
 // A quote stands at a place.
 pub fn is_quote(text: &[u8], at: usize) -> bool
     ensures { result ≡ is_quote text.now at }
 {
-    if at < text.len() {
-        return text[at] == b'"';
-    }
-    false
+    at < text.len() && text[at] == b'"'
 }
 
 // The bytes from a place up to the next quote, or the end of the line.
@@ -158,32 +117,25 @@ pub fn quoted_word(text: &[u8], start: usize) -> Word
 pub fn next_line(text: &[u8], from: usize) -> usize
     ensures { result ≡ next_line text.now from }
 {
-    let mut at = from;
-    while at < text.len() {
+    for at in from..text.len() {
         if text[at] == b'\n' {
             return at + 1;
         }
-        at += 1;
     }
-    at
+    from.max(text.len())
 }
 
 // The bytes of a word, as far as the text has them.
 pub fn bytes_of(text: &[u8], w: Word) -> &[u8]
     ensures { result.now ≡ bytes_of text.now w }
 {
-    let start = w.start;
-    let end = w.end;
-    if end <= start {
+    if w.end <= w.start || text.len() <= w.start {
         return &text[..0];
     }
-    if text.len() <= start {
-        return &text[..0];
+    if text.len() < w.end {
+        return &text[w.start..];
     }
-    if text.len() < end {
-        return &text[start..];
-    }
-    &text[start..end]
+    &text[w.start..w.end]
 }
 
 // A word is this text.
@@ -213,12 +165,10 @@ fn line_after(bytes: &[u8]) -> u64
     ensures { result ≡ 1 + feeds_in bytes.now }
 {
     let mut line: u64 = 1;
-    let mut i: usize = 0;
-    while i < bytes.len() {
+    for i in 0..bytes.len() {
         if bytes[i] == b'\n' {
             line += 1;
         }
-        i += 1;
     }
     line
 }
@@ -227,14 +177,12 @@ fn column_after(bytes: &[u8]) -> u64
     ensures { result ≡ column_after 1 bytes.now }
 {
     let mut column: u64 = 1;
-    let mut i: usize = 0;
-    while i < bytes.len() {
+    for i in 0..bytes.len() {
         if bytes[i] == b'\n' {
             column = 1;
         } else {
             column += 1;
         }
-        i += 1;
     }
     column
 }
@@ -255,40 +203,31 @@ pub fn column_of(text: &[u8], at: usize) -> u64
 
 // ---- whole numbers
 
-// A whole number without a sign, or what is none (or too large).
-#[derive(Clone, Copy)]
-pub enum Whole {
-    Number(u32),
-    No,
-}
-
-// Digits, up to 4294967289.
-fn whole_in(bytes: &[u8]) -> Whole
+// Digits, up to 4294967289; none where there is a sign, or the number is too large.
+fn whole_in(bytes: &[u8]) -> Option<u32>
     ensures { result ≡ whole_number bytes.now }
 {
-    if bytes.len() == 0 {
-        return Whole::No;
+    if bytes.is_empty() {
+        return None;
     }
     let mut n: u32 = 0;
-    let mut i: usize = 0;
-    while i < bytes.len() {
+    for i in 0..bytes.len() {
         let b = bytes[i];
         if b < b'0' {
-            return Whole::No;
+            return None;
         }
         if b > b'9' {
-            return Whole::No;
+            return None;
         }
         if n > 429496728 {
-            return Whole::No;
+            return None;
         }
         n = n * 10 + (b - b'0') as u32;
-        i += 1;
     }
-    Whole::Number(n)
+    Some(n)
 }
 
-pub fn whole_number(text: &[u8], w: Word) -> Whole
+pub fn whole_number(text: &[u8], w: Word) -> Option<u32>
     ensures { result ≡ whole_of text.now w }
 {
     whole_in(bytes_of(text, w))

@@ -14,7 +14,7 @@ use Rattle.study_run.specs.declared.acts.StudyCall.{StudyCall}
 use Rattle.study_run.specs.declared.acts.Act.{Act}
 use Rattle.study_run.specs.declared.acts.Act.TheVariants.{Call}
 use Rattle.study_run.specs.declared.places.Place.{Place}
-use Rattle.study_run.specs.declared.turns.Told.TheVariants.{Called}
+use Rattle.study_run.specs.Turns.Tells.{called}
 
 module _ (text names : List ℕ) (bodies joints : ℕ) where
   pub skip-done : (lines at : ℕ) → lines ≤ 0 → skip_from text names bodies joints lines at ≡ at
@@ -36,6 +36,6 @@ module _ (text names : List ℕ) (bodies joints : ℕ) where
       let z : suc n - 1 ≡ n = omega arith in
       rw (z, ← e, ← d, f)
 
-pub acted-call : (joints : ℕ) (c : StudyCall) (next : Place) (s : Study) {r : Ran} → r ≡ run_call joints c s → turn_as (Called r.reply) next r.left ≡ acted_on joints (Call c) next s
+pub acted-call : (joints : ℕ) (c : StudyCall) (next : Place) (s : Study) {r : Ran} → r ≡ run_call joints c s → turn_as (called r.reply) next r.left ≡ acted_on joints (Call c) next s
 unfolding acted_on
 acted-call joints c next s e = rw e

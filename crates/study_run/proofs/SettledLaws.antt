@@ -1,6 +1,7 @@
 -- Whether rows are settled, as the loops over rows, joints and rounds find it.
+use Rattle.std.specs.Prelude.{Result, Ok, Err}
 use Prim.Native.Nat.{ℕ, suc, ◌+◌, ◌-◌, ◌≤◌, ◌<◌}
-use mathlib.Core.Path.{◌≡◌}
+use mathlib.Core.Path.{◌≡◌, ap}
 use mathlib.Core.Bool.{Bool, true, false}
 use mathlib.Core.List.{List}
 use native.Mathlib.Numerals.{add-one}
@@ -15,8 +16,9 @@ use Rattle.multibody.specs.Calls.{outcome, run}
 use Rattle.multibody.specs.Calls.Call.{sweep, read_rows}
 use Rattle.model.specs.Planar.{planar}
 use Rattle.model.specs.Answers.{rows_answer}
-use Rattle.model.specs.declared.calls.Plain.{Plain}
-use Rattle.model.specs.declared.calls.RowsAnswer.{RowsAnswer}
+use Rattle.rows.specs.declared.row_ids.RowIds.{RowIds}
+use Rattle.rows.specs.declared.joint_velocity_constraint.Rows.{Rows}
+use Rattle.multibody.specs.declared.refusal.Refusal.{Refusal}
 use Rattle.frames.specs.Studies.{plain}
 use Rattle.study_run.specs.Study.{Study}
 use Rattle.study_run.specs.ModelCalls.{run_model_call}
@@ -41,12 +43,12 @@ module _ (tolerance : Float) (bodies : List Float) (words : List ℕ) (j : ℕ) 
 -- ---- the joints
 
 module _ (tolerance : Float) (m : Model) (rows : List Float) (j : ℕ) where
-  module _ (r : RowsAnswer) {m' : Model} {rs : List Float} (e : outcome (rows_answer r) m' rs ≡ run planar (read_rows j) m rows) where
-    pub joint-granted : r.answer ≡ Plain.Granted → rows_settled tolerance m.bodies m.words j (rows_in r.rows) ≡ joint_settled tolerance m rows j
+  module _ (r : Result (RowIds × Rows) Refusal) {m' : Model} {rs : List Float} (e : outcome (rows_answer r) m' rs ≡ run planar (read_rows j) m rows) where
+    pub joint-granted : {a : RowIds × Rows} → r ≡ Ok a → rows_settled tolerance m.bodies m.words j (rows_in a.1) ≡ joint_settled tolerance m rows j
     unfolding joint_settled answer_settled
     joint-granted d = rw (← e, d)
 
-    pub joint-refused : {k : ℕ} → r.answer ≡ Plain.Refused k → true ≡ joint_settled tolerance m rows j
+    pub joint-refused : {x : Refusal} → r ≡ Err x → true ≡ joint_settled tolerance m rows j
     unfolding joint_settled answer_settled
     joint-refused d = rw (← e, d)
 
@@ -73,11 +75,12 @@ module _ (tolerance : Float) (m : Model) (rows : List Float) (j : ℕ) where
 -- ---- the rounds
 
 module _ (joints : ℕ) (tolerance : Float) (many most : ℕ) (s : Study) where
-  pub rounds-done : most ≤ many → rounds_from joints tolerance (most - many) many s ≡ rounds many s
+  pub rounds-done : many ≤ most → most ≤ many → rounds_from joints tolerance (most - many) many s ≡ rounds most s
   unfolding rounds_from
-  rounds-done g =
+  rounds-done l g =
       let z : most - many ≡ 0 = omega arith in
-      rw z
+      let e : many ≡ most = omega arith in
+      rw z (ap (λ (n : ℕ). rounds n s) e)
 
   module _ (g : many < most) {b : Bool} (e : b ≡ joints_settled tolerance s.model s.rows 0 joints) where
     pub rounds-settled : b ≡ true → rounds_from joints tolerance (most - many) many s ≡ rounds many s

@@ -1,4 +1,5 @@
 -- Turns run the unrolled calls. What remains at a place is the rest of the level that it stands in, that level's turns that are left, and what follows.
+use Rattle.std.specs.Prelude.{Result}
 use Prim.Native.Nat.{ℕ, zero, suc, ◌+◌, ◌-◌, ◌≤◌, ◌<◌}
 use mathlib.Core.Path.{◌≡◌, refl, sym, ap, subst, ◌∙◌}
 use mathlib.Core.Bool.{Bool, true, false, cond}
@@ -21,7 +22,7 @@ use Rattle.study_run.specs.declared.acts.Act.{Act}
 use Rattle.study_run.specs.declared.acts.Act.TheVariants.{Nothing, Repeat, End, Call}
 use Rattle.study_run.specs.declared.places.Place.{Place}
 use Rattle.study_run.specs.declared.runs.Reply.{Reply}
-use Rattle.study_run.specs.declared.turns.Told.TheVariants.{Over, Passed, Called}
+use Rattle.study_run.specs.Turns.Tells.{over, passed, called}
 
 false-not-true : false ≡ true → ⊥
 false-not-true h = let z : ◌≡◌ {A = ℕ} 0 1 = cc in omega arith
@@ -168,7 +169,7 @@ module _ (text names : List ℕ) (bodies joints : ℕ) where
   -- ---- a turn
 
   module _ (p : Place) (s : Study) where
-    turn-over : length text ≤ p.at → turn_of text names bodies joints p s ≡ turn_as Over p s
+    turn-over : length text ≤ p.at → turn_of text names bodies joints p s ≡ turn_as over p s
     unfolding turn_of
     turn-over h = rw (le-leb _ _ h)
 
@@ -177,25 +178,25 @@ module _ (text names : List ℕ) (bodies joints : ℕ) where
     turn-here h e = rw (lt-leb _ _ h, e)
 
     module _ (n : ℕ) (tables : ℕ → List ℕ) where
-      turns-over : turn_of text names bodies joints p s ≡ turn_as Over p s → turns text names bodies joints (suc n) tables p s ≡ []
+      turns-over : turn_of text names bodies joints p s ≡ turn_as over p s → turns text names bodies joints (suc n) tables p s ≡ []
       unfolding turns said
       turns-over e = rw e
 
-      turns-pass : {q : Place} → turn_of text names bodies joints p s ≡ turn_as Passed q s → turns text names bodies joints (suc n) tables p s ≡ turns text names bodies joints n tables q s
+      turns-pass : {q : Place} → turn_of text names bodies joints p s ≡ turn_as passed q s → turns text names bodies joints (suc n) tables p s ≡ turns text names bodies joints n tables q s
       unfolding turns said
       turns-pass e = rw e
 
-      ends-pass : {q : Place} → turn_of text names bodies joints p s ≡ turn_as Passed q s → ends_within text names bodies joints (suc n) tables p s ≡ ends_within text names bodies joints n tables q s
+      ends-pass : {q : Place} → turn_of text names bodies joints p s ≡ turn_as passed q s → ends_within text names bodies joints (suc n) tables p s ≡ ends_within text names bodies joints n tables q s
       unfolding ends_within ended
       ends-pass e = rw e
 
-      turns-call : {q : Place} {reply : Reply} {left : Study} → turn_of text names bodies joints p s ≡ turn_as (Called reply) q left
-          → turns text names bodies joints (suc n) tables p s ≡ said (tables 0) (Called reply) left (λ x. turns text names bodies joints n tables q x) (λ x. turns text names bodies joints n (λ i. tables (suc i)) q x)
+      turns-call : {q : Place} {reply : Result Reply ℕ} {left : Study} → turn_of text names bodies joints p s ≡ turn_as (called reply) q left
+          → turns text names bodies joints (suc n) tables p s ≡ said (tables 0) (called reply) left (λ x. turns text names bodies joints n tables q x) (λ x. turns text names bodies joints n (λ i. tables (suc i)) q x)
       unfolding turns
       turns-call e = rw e
 
-      ends-call : {q : Place} {reply : Reply} {left : Study} → turn_of text names bodies joints p s ≡ turn_as (Called reply) q left
-          → ends_within text names bodies joints (suc n) tables p s ≡ ended (tables 0) (Called reply) left (λ x. ends_within text names bodies joints n tables q x) (λ x. ends_within text names bodies joints n (λ i. tables (suc i)) q x)
+      ends-call : {q : Place} {reply : Result Reply ℕ} {left : Study} → turn_of text names bodies joints p s ≡ turn_as (called reply) q left
+          → ends_within text names bodies joints (suc n) tables p s ≡ ended (tables 0) (called reply) left (λ x. ends_within text names bodies joints n tables q x) (λ x. ends_within text names bodies joints n (λ i. tables (suc i)) q x)
       unfolding ends_within
       ends-call e = rw e
 
@@ -226,19 +227,19 @@ module _ (text names : List ℕ) (bodies joints : ℕ) where
     abbrev turned : Turn
     turned = turn_of text names bodies joints (place at first left) s
 
-    turn-nothing : act at ≡ Nothing → turned ≡ turn_as Passed (place (next_line text at) first left) s
+    turn-nothing : act at ≡ Nothing → turned ≡ turn_as passed (place (next_line text at) first left) s
     unfolding acted_on place_after
     turn-nothing e = turn-here (place at first left) s h e
 
-    turn_end : act at ≡ End → turned ≡ turn_as Passed (after_end text (place at first left)) s
+    turn_end : act at ≡ End → turned ≡ turn_as passed (after_end text (place at first left)) s
     unfolding acted_on place_after
     turn_end e = turn-here (place at first left) s h e
 
-    turn-repeat : (n : ℕ) → act at ≡ Repeat n → turned ≡ turn_as Passed (after_repeat text names bodies joints (place at first left) n) s
+    turn-repeat : (n : ℕ) → act at ≡ Repeat n → turned ≡ turn_as passed (after_repeat text names bodies joints (place at first left) n) s
     unfolding acted_on place_after
     turn-repeat n e = turn-here (place at first left) s h e
 
-    turn-call : (c : StudyCall) → act at ≡ Call c → turned ≡ turn_as (Called (run_call joints c s).reply) (place (next_line text at) first left) (run_call joints c s).left
+    turn-call : (c : StudyCall) → act at ≡ Call c → turned ≡ turn_as (called (run_call joints c s).reply) (place (next_line text at) first left) (run_call joints c s).left
     unfolding acted_on place_after
     turn-call c e = turn-here (place at first left) s h e
 
@@ -257,7 +258,7 @@ module _ (text names : List ℕ) (bodies joints : ℕ) where
         ends_within text names bodies joints (suc n) tables (place at first left) s ≡ true
         → turns text names bodies joints (suc n) tables (place at first left) s ≡ runs joints tables (remaining (acts at) (acts first) left) s
 
-    passes : (left to start turns-left : ℕ) → turn_of text names bodies joints (place at first left) s ≡ turn_as Passed (place to start turns-left) s
+    passes : (left to start turns-left : ℕ) → turn_of text names bodies joints (place at first left) s ≡ turn_as passed (place to start turns-left) s
         → Fits (acts to) (acts start) turns-left → remaining (acts at) (acts first) left ≡ remaining (acts to) (acts start) turns-left → Rights left
     passes left to start turns-left e f q w =
         turns-pass (place at first left) s n tables e ∙ ih tables to start turns-left s f (sym (ends-pass (place at first left) s n tables e) ∙ w) ∙ ap (λ (l : List StudyCall). runs joints tables l s) (sym q)
@@ -293,12 +294,12 @@ module _ (text names : List ℕ) (bodies joints : ℕ) where
       unfolding Fits closed
       ends zero e f =
           let q = acts-here at h e in
-          passes 0 next first 0 (turn_end at first 0 s h e ∙ ap (λ (p : Place). turn_as Passed p s) (end_none at first)) (subst (λ (l : List Act). Fits l (acts first) 0) q f)
+          passes 0 next first 0 (turn_end at first 0 s h e ∙ ap (λ (p : Place). turn_as passed p s) (end_none at first)) (subst (λ (l : List Act). Fits l (acts first) 0) q f)
           (ap (λ (l : List Act). remaining l (acts first) 0) q ∙ on-last-end (acts next) (acts first))
       ends (suc k) e f =
           let q = acts-here at h e in
           let g = subst (λ (l : List Act). Fits l (acts first) (suc k)) q f in
-          passes (suc k) first first k (turn_end at first (suc k) s h e ∙ ap (λ (p : Place). turn_as Passed p s) (end_more at first k)) (fits-begun (acts first) k g.1)
+          passes (suc k) first first k (turn_end at first (suc k) s h e ∙ ap (λ (p : Place). turn_as passed p s) (end_more at first k)) (fits-begun (acts first) k g.1)
           (ap (λ (l : List Act). remaining l (acts first) (suc k)) q ∙ on-end (acts next) (acts first) k g)
 
       -- none is open
@@ -317,11 +318,11 @@ module _ (text names : List ℕ) (bodies joints : ℕ) where
       repeats zero zero e f =
           let q = acts-here at h e in
           let p = past (length text) next (omega arith) (closed_on 0 e f) in
-          passes 0 (skipped (length text) next) first 0 (turn-repeat at first 0 s h 0 e ∙ ap (λ (p : Place). turn_as Passed p s) (repeat-none at first 0)) p.outside
+          passes 0 (skipped (length text) next) first 0 (turn-repeat at first 0 s h 0 e ∙ ap (λ (p : Place). turn_as passed p s) (repeat-none at first 0)) p.outside
           (ap (λ (l : List Act). remaining l (acts first) 0) q ∙ on_none (acts next) (acts first) ∙ p.follows ∙ at-start (acts (skipped (length text) next)) (acts first))
       repeats zero (suc k) e f =
           let q = acts-here at h e in
-          passes 0 next next k (turn-repeat at first 0 s h (suc k) e ∙ ap (λ (p : Place). turn_as Passed p s) (repeat-some at first 0 k)) (fits-begun (acts next) k (closed_on (suc k) e f))
+          passes 0 next next k (turn-repeat at first 0 s h (suc k) e ∙ ap (λ (p : Place). turn_as passed p s) (repeat-some at first 0 k)) (fits-begun (acts next) k (closed_on (suc k) e f))
           (ap (λ (l : List Act). remaining l (acts first) 0) q ∙ on-repeat (acts next) (acts first) k)
 
       line : (left : ℕ) (a : Act) → act at ≡ a → Fits (acts at) (acts first) left → Rights left
@@ -330,17 +331,17 @@ module _ (text names : List ℕ) (bodies joints : ℕ) where
       line left (Repeat m) e f = repeats left m e f
       line left (Call c) e f = calls left c e f
 
-  over : (n : ℕ) (tables : ℕ → List ℕ) (at begun left : ℕ) (s : Study) → length text ≤ at → Fits (acts at) (acts begun) left
+  at-end : (n : ℕ) (tables : ℕ → List ℕ) (at begun left : ℕ) (s : Study) → length text ≤ at → Fits (acts at) (acts begun) left
       → turns text names bodies joints (suc n) tables (place at begun left) s ≡ runs joints tables (remaining (acts at) (acts begun) left) s
   unfolding Fits closed levels first others joined times runs
-  over n tables at begun zero s h f = turns-over (place at begun 0) s n tables (turn-over (place at begun 0) s h) ∙ ap (λ (l : List Act). runs joints tables (remaining l (acts begun) 0) s) (sym (acts-over at h))
-  over n tables at begun (suc k) s h f = absurd (false-not-true (subst (λ (l : List Act). closed true l ≡ true) (acts-over at h) f.0))
+  at-end n tables at begun zero s h f = turns-over (place at begun 0) s n tables (turn-over (place at begun 0) s h) ∙ ap (λ (l : List Act). runs joints tables (remaining l (acts begun) 0) s) (sym (acts-over at h))
+  at-end n tables at begun (suc k) s h f = absurd (false-not-true (subst (λ (l : List Act). closed true l ≡ true) (acts-over at h) f.0))
 
   right : (n : ℕ) → Right n
   unfolding ends_within
   right zero tables at first left s f w = absurd (false-not-true w)
   right (suc n) tables at first left s f w =
-      by_cases (leb (length text) at) (λ e. over n tables at first left s (leb-true (length text) at e) f)
+      by_cases (leb (length text) at) (λ e. at-end n tables at first left s (leb-true (length text) at e) f)
       (λ e. line n (right n) tables at first s (leb-false _ _ e) left (act at) refl f w)
 
   -- ---- every study ends
@@ -349,14 +350,14 @@ module _ (text names : List ℕ) (bodies joints : ℕ) where
   EndsAt tables p s = Ends text names bodies joints tables p s
 
   module _ {tables : ℕ → List ℕ} {p : Place} {s : Study} where
-    from-over : turn_of text names bodies joints p s ≡ turn_as Over p s → EndsAt tables p s
+    from-over : turn_of text names bodies joints p s ≡ turn_as over p s → EndsAt tables p s
     unfolding ends_within ended
     from-over e = record { within = suc zero; ends = rw e }
 
-    from-pass : {q : Place} → turn_of text names bodies joints p s ≡ turn_as Passed q s → EndsAt tables q s → EndsAt tables p s
+    from-pass : {q : Place} → turn_of text names bodies joints p s ≡ turn_as passed q s → EndsAt tables q s → EndsAt tables p s
     from-pass e d = record { within = suc d.within; ends = ends-pass p s d.within tables e ∙ d.ends }
 
-    from-call : {q : Place} {reply : Reply} {left : Study} → turn_of text names bodies joints p s ≡ turn_as (Called reply) q left
+    from-call : {q : Place} {reply : Result Reply ℕ} {left : Study} → turn_of text names bodies joints p s ≡ turn_as (called reply) q left
         → ((more : ℕ → List ℕ) (x : Study) → EndsAt more q x) → EndsAt tables p s
     unfolding ended
     from-call {q} {reply} {left} e h =
@@ -408,11 +409,11 @@ module _ (text names : List ℕ) (bodies joints : ℕ) where
       → (at : ℕ) → low ≤ at → closed true (acts at) ≡ true → From at first k
   level zero low first b c after at l f =
       in-level low first 0
-      (λ to m h e d tables s. from-pass (turn_end to first 0 s h e ∙ ap (λ (p : Place). turn_as Passed p s) (end_none to first))
+      (λ to m h e d tables s. from-pass (turn_end to first 0 s h e ∙ ap (λ (p : Place). turn_as passed p s) (end_none to first))
       (after (next_line text to) (omega (arith, m, next-on to)) d tables s)) (length text) at (omega arith) l f
   level (suc k) low first b c after at l f =
       in-level low first (suc k)
-      (λ to m h e d tables s. from-pass (turn_end to first (suc k) s h e ∙ ap (λ (p : Place). turn_as Passed p s) (end_more to first k))
+      (λ to m h e d tables s. from-pass (turn_end to first (suc k) s h e ∙ ap (λ (p : Place). turn_as passed p s) (end_more to first k))
       (level k low first b c after first b c tables s)) (length text) at (omega arith) l f
 
   outer-line : (at : ℕ) (a : Act) → at < length text → act at ≡ a → closed false (acts at) ≡ true
@@ -421,16 +422,16 @@ module _ (text names : List ℕ) (bodies joints : ℕ) where
   outer-line at Nothing h e f ih first tables s = from-pass (turn-nothing at first 0 s h e) (ih (next_line text at) (omega arith) (outside-levels at h e f) first tables s)
   outer-line at (Call c) h e f ih first tables s = from-call (turn-call at first 0 s h c e) (ih (next_line text at) (omega arith) (outside-levels at h e f) first)
   outer-line at End h e f ih first tables s =
-      from-pass (turn_end at first 0 s h e ∙ ap (λ (p : Place). turn_as Passed p s) (end_none at first)) (ih (next_line text at) (omega arith) (outside-levels at h e f) first tables s)
+      from-pass (turn_end at first 0 s h e ∙ ap (λ (p : Place). turn_as passed p s) (end_none at first)) (ih (next_line text at) (omega arith) (outside-levels at h e f) first tables s)
   outer-line at (Repeat zero) h e f ih first tables s =
       let to = skipped (length text) (next_line text at) in
       let p = past (length text) (next_line text at) (omega arith) (outside-levels at h e f) in
-      from-pass (turn-repeat at first 0 s h 0 e ∙ ap (λ (p : Place). turn_as Passed p s) (repeat-none at first 0))
+      from-pass (turn-repeat at first 0 s h 0 e ∙ ap (λ (p : Place). turn_as passed p s) (repeat-none at first 0))
       (ih to (skip-far (length text) (next_line text at)) p.outside first tables s)
   outer-line at (Repeat (suc k)) h e f ih first tables s =
       let next = next_line text at in
       let c = outside-levels at h e f in
-      from-pass (turn-repeat at first 0 s h (suc k) e ∙ ap (λ (p : Place). turn_as Passed p s) (repeat-some at first 0 k))
+      from-pass (turn-repeat at first 0 s h (suc k) e ∙ ap (λ (p : Place). turn_as passed p s) (repeat-some at first 0 k))
       (level k next next (omega arith) c (λ to l d. ih to l d next) next (omega arith) c tables s)
 
   outer : (g at : ℕ) → length text ≤ at + g → closed false (acts at) ≡ true → (first : ℕ) → From at first 0

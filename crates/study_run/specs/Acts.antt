@@ -1,7 +1,6 @@
 -- What a line of calls asks for. `Act` and `StudyCall` are the program's enums: a call, `repeat` with its turns, `end`, or none of them.
-use Rattle.std.specs.Prelude.{cond, List, ℕ, eqb}
+use Rattle.std.specs.Prelude.{cond, List, ℕ, eqb, Option, Some, None, Float}
 use Rattle.floats.specs.declared.pose.Pose.{Pose}
-use Rattle.rows.specs.declared.joint_constraint_builder.Warmstart.{Warmstart}
 use Rattle.study_reader.specs.Words.{next_word, is_empty}
 use Rattle.study_reader.specs.Keywords.{load_keyword, place_keyword, build_keyword, warm_start_keyword, sweep_keyword, remove_bias_keyword, write_back_keyword, read_rows_keyword, read_velocity_keyword, set_targets_keyword, repeat_keyword, end_keyword, table_keyword, settle_keyword, masks_keyword, frame_keyword, call_keyword}
 use Rattle.study_reader.specs.Calls.{read_call}
@@ -11,8 +10,8 @@ use Rattle.study_run.specs.declared.acts.Act.{Act}
 use Rattle.study_run.specs.declared.acts.Act.TheVariants.{Nothing, Repeat, End, Call}
 
 -- the warm coefficient of a build or a frame, where the line has one
-abbrev pub warmstart_of : Line → Warmstart
-warmstart_of l = cond l.warm (Warmstart.Warm l.x) Warmstart.Cold
+abbrev pub warmstart_of : Line → Option Float
+warmstart_of l = cond l.warm (Some l.x) None
 
 -- the new pose of a body
 abbrev pub pose_of : Line → Pose

@@ -1,5 +1,5 @@
 -- Each call of a study on what the one before left, up to the first that is refused.
-use Rattle.std.specs.Prelude.{ℕ, zero, suc, ◌+◌, Bool, cond, List, [], ◌∷◌, eqb, Float}
+use Rattle.std.specs.Prelude.{ℕ, zero, suc, ◌+◌, Bool, cond, List, [], ◌∷◌, eqb, Float, Result, Ok, Err}
 use Rattle.multibody.specs.Model.{Model}
 use Rattle.multibody.specs.Calls.{run}
 use Rattle.multibody.specs.Calls.Call.{load, place, build, warm_start, sweep, remove_bias, write_back, read_rows, read_velocity, set_masks, further}
@@ -21,10 +21,10 @@ first_refused m rows j (suc n) =
     let k = refusal_in (run planar (read_rows j) m rows).answer in
     cond (eqb k 0) (first_refused m rows (j + 1) n) k
 
-unfoldable pub table_reply : ℕ → Bool → Study → Reply
+unfoldable pub table_reply : ℕ → Bool → Study → Result Reply ℕ
 table_reply joints csv s =
     let k = first_refused s.model s.rows 0 joints in
-    cond s.model.built (cond (eqb k 0) (Reply.Table csv) (Reply.Refused k)) (Reply.Refused 10)
+    cond s.model.built (cond (eqb k 0) (Ok (Reply.Table csv)) (Err k)) (Err 10)
 
 -- ---- a call, among so many joints
 
@@ -40,21 +40,21 @@ run_call joints (SetMasks j ms) s = run_model_call (plain (set_masks j ms)) s
 run_call joints (Frame warm sweeps n) s = run_model_call (frame warm sweeps n) s
 run_call joints (Settle tolerance most) s = settle_of joints tolerance most s
 -- the bytes of the table are still to be read: see `with_table`
-run_call joints (SetTargets from to) s = ran (Reply.Targets from to) s
+run_call joints (SetTargets from to) s = ran (Ok (Reply.Targets from to)) s
 run_call joints (ReadRows j) s = ran (rows_reply j (run planar (read_rows j) s.model s.rows).answer) s
 run_call joints (ReadVelocity i) s = ran (velocity_reply i (run planar (read_velocity i) s.model s.rows).answer) s
 run_call joints (Table csv) s = ran (table_reply joints csv s) s
 
 -- ---- the bytes of a motor table, where a call asked for one
 
-unfoldable pub with_table : List ℕ → Reply → Study → Ran
-with_table bytes (Reply.Targets from to) s = run_model_call (plain (further bytes)) s
-with_table bytes Reply.Granted s = ran Reply.Granted s
-with_table bytes (Reply.Rows j) s = ran (Reply.Rows j) s
-with_table bytes (Reply.Velocity i v) s = ran (Reply.Velocity i v) s
-with_table bytes (Reply.Table csv) s = ran (Reply.Table csv) s
-with_table bytes (Reply.Settled b n) s = ran (Reply.Settled b n) s
-with_table bytes (Reply.Refused k) s = ran (Reply.Refused k) s
+unfoldable pub with_table : List ℕ → Result Reply ℕ → Study → Ran
+with_table bytes (Ok (Reply.Targets from to)) s = run_model_call (plain (further bytes)) s
+with_table bytes (Ok Reply.Granted) s = ran (Ok Reply.Granted) s
+with_table bytes (Ok (Reply.Rows j)) s = ran (Ok (Reply.Rows j)) s
+with_table bytes (Ok (Reply.Velocity i v)) s = ran (Ok (Reply.Velocity i v)) s
+with_table bytes (Ok (Reply.Table csv)) s = ran (Ok (Reply.Table csv)) s
+with_table bytes (Ok (Reply.Settled b n)) s = ran (Ok (Reply.Settled b n)) s
+with_table bytes (Err k) s = ran (Err k) s
 
 -- ---- all calls
 

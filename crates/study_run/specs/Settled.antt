@@ -1,5 +1,5 @@
 -- Sweeps, round by round, until the rows are settled: no row's residual, what one more step would change of its impulse, is above a tolerance in size.
-use Rattle.std.specs.Prelude.{ℕ, zero, suc, ◌+◌, Bool, true, cond, ◌&&◌, List, [], ◌∷◌, Float}
+use Rattle.std.specs.Prelude.{ℕ, zero, suc, ◌+◌, Bool, true, cond, ◌&&◌, List, [], ◌∷◌, Float, Ok}
 use Rattle.std.specs.Float.Ieee.{lt, le, neg}
 use Rattle.floats.specs.Operators.{bits}
 use Rattle.rows.specs.declared.joint_velocity_constraint.JointConstraint.{JointConstraint}
@@ -58,7 +58,7 @@ rounds_from joints tolerance (suc n) many s =
 
 -- what is said: whether the rows are settled now, and how many rounds there were
 abbrev pub settled_after : ℕ → Float → Rounds → Ran
-settled_after joints tolerance r = ran (Settled (joints_settled tolerance r.left.model r.left.rows 0 joints) r.many) r.left
+settled_after joints tolerance r = ran (Ok (Settled (joints_settled tolerance r.left.model r.left.rows 0 joints) r.many)) r.left
 
 -- refused as a sweep of no round is
 unfoldable pub settle_of : ℕ → Float → ℕ → Study → Ran

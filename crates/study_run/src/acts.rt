@@ -6,7 +6,6 @@ use floats::pose::Pose;
 use floats::rotation_ops::Rotation;
 use floats::vector::Vector;
 use rows::generic_joint::Masks;
-use rows::joint_constraint_builder::Warmstart;
 use study_reader::calls::{Line, read_call};
 use study_reader::keywords::{
     BUILD, END, FRAME, LOAD, MASKS, PLACE, READ_ROWS, READ_VELOCITY, REMOVE_BIAS, REPEAT,
@@ -21,13 +20,13 @@ use study_reader::words::{is_empty, next_word};
 pub enum StudyCall {
     Load,
     Place(u32, Pose),
-    Build(Warmstart, u32),
+    Build(Option<f32>, u32),
     WarmStart,
     Sweep(u32),
     RemoveBias,
     WriteBack,
     SetMasks(u32, Masks),
-    Frame(Warmstart, u32, u32),
+    Frame(Option<f32>, u32, u32),
     Settle(f32, u32),
     SetTargets(usize, usize),
     ReadRows(u32),
@@ -35,7 +34,7 @@ pub enum StudyCall {
     Table(bool),
 }
 
-// A call, `repeat` with its turns, `end`, or none of them.
+// A call, `repeat` with its turns, `end`, or none of them, each a kind of line.
 #[derive(Clone, Copy)]
 pub enum Act {
     Nothing,
@@ -44,13 +43,10 @@ pub enum Act {
     Call(StudyCall),
 }
 
-fn warmstart_of(l: Line) -> Warmstart
+fn warmstart_of(l: Line) -> Option<f32>
     ensures { result ≡ warmstart_of l }
 {
-    if l.warm {
-        return Warmstart::Warm(l.x);
-    }
-    Warmstart::Cold
+    if l.warm { Some(l.x) } else { None }
 }
 
 fn pose_of(l: Line) -> Pose
@@ -62,60 +58,29 @@ fn pose_of(l: Line) -> Pose
     }
 }
 
+#[tactic(auto, unfolding(crate::specs::Acts::act_of))]
 pub fn act_of(l: Line) -> Act
     ensures { result ≡ act_of l }
 {
-    let keyword = l.keyword;
-    if keyword == REPEAT {
-        return Act::Repeat(l.number);
+    match l.keyword {
+        REPEAT => Act::Repeat(l.number),
+        END => Act::End,
+        LOAD => Act::Call(StudyCall::Load),
+        PLACE => Act::Call(StudyCall::Place(l.number, pose_of(l))),
+        BUILD => Act::Call(StudyCall::Build(warmstart_of(l), l.number)),
+        WARM_START => Act::Call(StudyCall::WarmStart),
+        SWEEP => Act::Call(StudyCall::Sweep(l.number)),
+        REMOVE_BIAS => Act::Call(StudyCall::RemoveBias),
+        WRITE_BACK => Act::Call(StudyCall::WriteBack),
+        MASKS => Act::Call(StudyCall::SetMasks(l.number, l.masks)),
+        FRAME => Act::Call(StudyCall::Frame(warmstart_of(l), l.sweeps, l.number)),
+        SETTLE => Act::Call(StudyCall::Settle(l.x, l.number)),
+        SET_TARGETS => Act::Call(StudyCall::SetTargets(l.start, l.end)),
+        READ_ROWS => Act::Call(StudyCall::ReadRows(l.number)),
+        READ_VELOCITY => Act::Call(StudyCall::ReadVelocity(l.number)),
+        TABLE => Act::Call(StudyCall::Table(l.csv)),
+        _ => Act::Nothing,
     }
-    if keyword == END {
-        return Act::End;
-    }
-    if keyword == LOAD {
-        return Act::Call(StudyCall::Load);
-    }
-    if keyword == PLACE {
-        return Act::Call(StudyCall::Place(l.number, pose_of(l)));
-    }
-    if keyword == BUILD {
-        return Act::Call(StudyCall::Build(warmstart_of(l), l.number));
-    }
-    if keyword == WARM_START {
-        return Act::Call(StudyCall::WarmStart);
-    }
-    if keyword == SWEEP {
-        return Act::Call(StudyCall::Sweep(l.number));
-    }
-    if keyword == REMOVE_BIAS {
-        return Act::Call(StudyCall::RemoveBias);
-    }
-    if keyword == WRITE_BACK {
-        return Act::Call(StudyCall::WriteBack);
-    }
-    if keyword == MASKS {
-        let masks = l.masks;
-        return Act::Call(StudyCall::SetMasks(l.number, masks));
-    }
-    if keyword == FRAME {
-        return Act::Call(StudyCall::Frame(warmstart_of(l), l.sweeps, l.number));
-    }
-    if keyword == SETTLE {
-        return Act::Call(StudyCall::Settle(l.x, l.number));
-    }
-    if keyword == SET_TARGETS {
-        return Act::Call(StudyCall::SetTargets(l.start, l.end));
-    }
-    if keyword == READ_ROWS {
-        return Act::Call(StudyCall::ReadRows(l.number));
-    }
-    if keyword == READ_VELOCITY {
-        return Act::Call(StudyCall::ReadVelocity(l.number));
-    }
-    if keyword == TABLE {
-        return Act::Call(StudyCall::Table(l.csv));
-    }
-    Act::Nothing
 }
 
 // The act of the line at a place, among so many bodies and joints.
@@ -128,6 +93,5 @@ pub fn act_at(text: &[u8], names: &[u32], body_count: u32, joint_count: u32, at:
     }
     // A `repeat` is read where none is open, an `end` where one is: the text was read before.
     let open = call_keyword(text, w) == END;
-    let l = read_call(text, names, body_count, joint_count, open, w);
-    act_of(l)
+    act_of(read_call(text, names, body_count, joint_count, open, w))
 }

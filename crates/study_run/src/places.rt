@@ -5,6 +5,7 @@ ghost use Rattle.study_run.specs.Places.{is_end, skip_from, moved, repeating, af
 use crate::acts::{Act, act_at};
 use study_reader::words::next_line;
 
+// Where no turn is left, whether a `repeat` is open makes no difference.
 #[derive(Clone, Copy)]
 pub struct Place {
     pub at: usize,
@@ -15,12 +16,7 @@ pub struct Place {
 fn is_end(act: Act) -> bool
     ensures { result ≡ is_end act }
 {
-    match act {
-        Act::Nothing => false,
-        Act::Repeat(_) => false,
-        Act::End => true,
-        Act::Call(_) => false,
-    }
+    matches!(act, Act::End)
 }
 
 // Past the `end` of a `repeat` of no turns.
@@ -28,14 +24,12 @@ fn skip(text: &[u8], names: &[u32], body_count: u32, joint_count: u32, from: usi
     ensures { result ≡ skip_from text.now names.now body_count joint_count (length text.now) from }
 {
     let mut at = from;
-    let mut lines = text.len();
-    while 0 < lines {
+    for _line in 0..text.len() {
         let ends = is_end(act_at(text, names, body_count, joint_count, at));
         at = next_line(text, at);
         if ends {
             return at;
         }
-        lines -= 1;
     }
     at
 }
@@ -44,11 +38,7 @@ fn skip(text: &[u8], names: &[u32], body_count: u32, joint_count: u32, from: usi
 fn moved(p: Place, at: usize) -> Place
     ensures { result ≡ moved p at }
 {
-    Place {
-        at,
-        first: p.first,
-        left: p.left,
-    }
+    Place { at, ..p }
 }
 
 // A turn of a `repeat` begins.
@@ -74,19 +64,20 @@ fn after_repeat(
 {
     let next = next_line(text, p.at);
     if turns == 0 {
-        return moved(p, skip(text, names, body_count, joint_count, next));
+        moved(p, skip(text, names, body_count, joint_count, next))
+    } else {
+        repeating(next, turns - 1)
     }
-    repeating(next, turns - 1)
 }
 
 fn after_end(text: &[u8], p: Place) -> Place
     ensures { result ≡ after_end text.now p }
 {
-    let left = p.left;
-    if left == 0 {
-        return moved(p, next_line(text, p.at));
+    if p.left == 0 {
+        moved(p, next_line(text, p.at))
+    } else {
+        repeating(p.first, p.left - 1)
     }
-    repeating(p.first, left - 1)
 }
 
 // After the act at the place.
@@ -101,9 +92,8 @@ pub fn place_after(
     ensures { result ≡ place_after text.now names.now body_count joint_count p act }
 {
     match act {
-        Act::Nothing => moved(p, next_line(text, p.at)),
+        Act::Nothing | Act::Call(_) => moved(p, next_line(text, p.at)),
         Act::Repeat(turns) => after_repeat(text, names, body_count, joint_count, p, turns),
         Act::End => after_end(text, p),
-        Act::Call(_) => moved(p, next_line(text, p.at)),
     }
 }

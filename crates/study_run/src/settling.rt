@@ -8,20 +8,18 @@ ghost use Rattle.study_run.specs.Study.{study_of, ran_of};
 ghost use Rattle.study_run.specs.ModelCalls.{run_model_call};
 ghost use Rattle.study_run.specs.Settled.{size_of, row_settled, rows_settled, joint_settled, joints_settled, rounds, rounds_from, settle_of};
 
-use crate::motors::{Motors, kept};
-use crate::runs::{Done, Reply, is_refused, run_sweep};
-use model::calls::{Plain, read_rows, sweep};
-use model::header::Header;
+use crate::motors::{Motors, found, kept};
+use crate::runs::{Done, Reply, run_sweep};
+use model::calls::{read_rows, sweep};
 use model::reactions::residual_at;
+use multibody::header::Header;
 use rows::joint_velocity_constraint::{JointConstraint, Rows};
 
+// Not `abs`: of -0 the definition has -0.
 fn size(x: f32) -> f32
     ensures { result ≡ size_of x }
 {
-    if x < 0.0 {
-        return -x;
-    }
-    x
+    if x < 0.0 { -x } else { x }
 }
 
 fn row_settled(
@@ -41,10 +39,7 @@ fn held(made: Rows) -> usize
     ensures value { result ≡ length (rows_in made) }
     ensures upper_bound { result ≤ 6 }
 {
-    if made.len < 6 {
-        return made.len;
-    }
-    6
+    made.len.min(6)
 }
 
 // The rows of one joint.
@@ -52,12 +47,10 @@ fn rows_settled(bodies: &[f32], words: &[u32], made: Rows, joint: u32, tolerance
     ensures { result ≡ rows_settled tolerance bodies.now words.now joint (rows_in made) }
 {
     let n = held(made);
-    let mut k = 0usize;
-    while k < n {
+    for k in 0..n {
         if !row_settled(bodies, words, made.rows[k], joint, tolerance) {
             return false;
         }
-        k += 1;
     }
     true
 }
@@ -73,12 +66,9 @@ fn joint_settled(
 ) -> bool
     ensures { result ≡ joint_settled tolerance (model_of header bodies.now words.now numbers.now) rows.now joint }
 {
-    let read = read_rows(header, bodies, words, numbers, rows, joint);
-    let answer = read.answer;
-    let made = read.rows;
-    match answer {
-        Plain::Granted => rows_settled(bodies, words, made, joint, tolerance),
-        Plain::Refused(_) => true,
+    match read_rows(header, bodies, words, numbers, rows, joint) {
+        Ok((_, made)) => rows_settled(bodies, words, made, joint, tolerance),
+        Err(_) => true,
     }
 }
 
@@ -93,12 +83,10 @@ fn joints_settled(
 ) -> bool
     ensures { result ≡ joints_settled tolerance (model_of header bodies.now words.now numbers.now) rows.now 0 joints }
 {
-    let mut j: u32 = 0;
-    while j < joints {
+    for j in 0..joints {
         if !joint_settled(header, bodies, words, numbers, rows, j, tolerance) {
             return false;
         }
-        j += 1;
     }
     true
 }
@@ -120,9 +108,11 @@ fn one_round(
 ) -> Motors
     ensures { study_of header result bodies.new words.now numbers.now rows.new ≡ (run_model_call (plain (sweep 1)) (study_of header motors bodies.old words.now numbers.now rows.old)).left }
 {
-    let swept = sweep(header, bodies, words, numbers, rows, 1);
-    let counts = swept.counts;
-    kept(1, counts, motors)
+    kept(
+        1,
+        found(sweep(header, bodies, words, numbers, rows, 1)),
+        motors,
+    )
 }
 
 // So many rounds at most, each where the rows are not settled.
@@ -140,8 +130,7 @@ fn run_rounds(
     ensures { rounds result.many (study_of header result.motors bodies.new words.now numbers.now rows.new) ≡ rounds_from joints tolerance most 0 (study_of header motors bodies.old words.now numbers.now rows.old) }
 {
     let mut found = motors;
-    let mut many: u32 = 0;
-    while many < most {
+    for many in 0..most {
         if joints_settled(header, bodies, words, numbers, rows, joints, tolerance) {
             return Swept {
                 many,
@@ -149,10 +138,9 @@ fn run_rounds(
             };
         }
         found = one_round(header, bodies, words, numbers, rows, found);
-        many += 1;
     }
     Swept {
-        many,
+        many: most,
         motors: found,
     }
 }
@@ -171,20 +159,25 @@ pub fn run_settle(
     ensures { ran_of result bodies.new words.now numbers.now rows.new ≡ settle_of joints tolerance most (study_of header motors bodies.old words.now numbers.now rows.old) }
 {
     let first = run_sweep(header, bodies, words, numbers, rows, motors, 0);
-    let reply = first.reply;
-    if is_refused(reply) {
+    if first.reply.is_err() {
         return first;
     }
-    let h = first.header;
-    let found = first.motors;
+    let header = first.header;
     let swept = run_rounds(
-        h, bodies, words, numbers, rows, found, joints, tolerance, most,
+        header,
+        bodies,
+        words,
+        numbers,
+        rows,
+        first.motors,
+        joints,
+        tolerance,
+        most,
     );
-    let settled = joints_settled(h, bodies, words, numbers, rows, joints, tolerance);
-    let last = swept.motors;
+    let settled = joints_settled(header, bodies, words, numbers, rows, joints, tolerance);
     Done {
-        reply: Reply::Settled(settled, swept.many),
-        header: h,
-        motors: last,
+        reply: Ok(Reply::Settled(settled, swept.many)),
+        header,
+        motors: swept.motors,
     }
 }

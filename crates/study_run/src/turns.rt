@@ -12,14 +12,15 @@ use crate::runs::{
     run_sweep, run_warm_start, run_write_back, table_reply, velocity_reply,
 };
 use crate::settling::run_settle;
-use model::header::Header;
+use multibody::header::Header;
+use multibody::refusal::Refusal;
 
 // The text is at its end; a line that is no call; what a call said.
 #[derive(Clone, Copy)]
 pub enum Told {
     Over,
     Passed,
-    Called(Reply),
+    Called(Result<Reply, Refusal>),
 }
 
 #[derive(Clone, Copy)]
@@ -65,34 +66,25 @@ pub fn run_call(
             header, bodies, words, numbers, rows, motors, joints, tolerance, most,
         ),
         StudyCall::SetTargets(from, to) => Done {
-            reply: Reply::Targets(from, to),
+            reply: Ok(Reply::Targets(from, to)),
             header,
             motors,
         },
-        StudyCall::ReadRows(joint) => {
-            let reply = rows_reply(header, bodies, words, numbers, rows, joint);
-            Done {
-                reply,
-                header,
-                motors,
-            }
-        }
-        StudyCall::ReadVelocity(body) => {
-            let reply = velocity_reply(header, bodies, words, numbers, rows, body);
-            Done {
-                reply,
-                header,
-                motors,
-            }
-        }
-        StudyCall::Table(csv) => {
-            let reply = table_reply(header, bodies, words, numbers, rows, motors, joints, csv);
-            Done {
-                reply,
-                header,
-                motors,
-            }
-        }
+        StudyCall::ReadRows(joint) => Done {
+            reply: rows_reply(header, bodies, words, numbers, rows, joint),
+            header,
+            motors,
+        },
+        StudyCall::ReadVelocity(body) => Done {
+            reply: velocity_reply(header, bodies, words, numbers, rows, body),
+            header,
+            motors,
+        },
+        StudyCall::Table(csv) => Done {
+            reply: table_reply(header, bodies, words, numbers, rows, motors, joints, csv),
+            header,
+            motors,
+        },
     }
 }
 
@@ -111,19 +103,7 @@ fn act_on(
     ensures { turned_of result bodies.new words.new numbers.new rows.new ≡ acted_on joints act next (study_of header motors bodies.old words.old numbers.old rows.old) }
 {
     match act {
-        Act::Nothing => Turned {
-            told: Told::Passed,
-            place: next,
-            header,
-            motors,
-        },
-        Act::Repeat(_) => Turned {
-            told: Told::Passed,
-            place: next,
-            header,
-            motors,
-        },
-        Act::End => Turned {
+        Act::Nothing | Act::Repeat(_) | Act::End => Turned {
             told: Told::Passed,
             place: next,
             header,
@@ -131,14 +111,11 @@ fn act_on(
         },
         Act::Call(call) => {
             let done = run_call(call, header, bodies, words, numbers, rows, motors, joints);
-            let reply = done.reply;
-            let after = done.header;
-            let found = done.motors;
             Turned {
-                told: Told::Called(reply),
+                told: Told::Called(done.reply),
                 place: next,
-                header: after,
-                motors: found,
+                header: done.header,
+                motors: done.motors,
             }
         }
     }

@@ -1,19 +1,17 @@
 -- Signed numbers as sign and size, a number at the right of its column, and the texts of what has no millionths.
-use Prim.Native.Nat.{ℕ, zero, suc, ◌-◌, ◌^◌, ◌≤◌, ◌<◌}
-use mathlib.Core.Path.{◌≡◌, refl, sym, ap, subst, ◌∙◌}
+use Prim.Native.Nat.{ℕ, ◌-◌, ◌^◌, ◌≤◌, ◌<◌}
+use mathlib.Core.Path.{◌≡◌, refl, ap, ◌∙◌}
 use mathlib.Core.Bool.{Bool, true, false, cond}
 use mathlib.Core.List.{List, [], ◌∷◌, ◌++◌}
-use native.Mathlib.Nat.{lt_of_lt_of_le}
 use native.Mathlib.Omega.{arith}
-use lib.Dec.{lit≤, T}
-use lib.IntN.{ℤ, pos, negsuc, neg_ℤ, nat_abs, ◌-ℤ◌, +ℤ_idl}
-use lib.Signed.{non_neg, mag, lt_z}
+use lib.IntN.{ℤ, pos, negsuc, nat_abs}
+use lib.Signed.{mag, lt_z}
 use lib.Ieee.{Float, nan, inf, fin}
 use lib.ListN.{length, replicate}
-use mir.Syntax.{w32, w64}
-use mir.Val.{SFits, Fits, to_z, of_z}
+use mir.Syntax.{w32}
+use mir.Val.{SFits, to_z, of_z}
 use mir.ValLaws.{to_z-of_z}
-use borrow.Author.Tests.{ltb-true}
+use Rattle.std.proofs.Common.{le-ltb}
 use Rattle.floats.specs.Bits.{parts_of}
 use Rattle.floats.specs.MicroReport.{micro_report_of}
 use Rattle.floats.specs.declared.bits.Parts.{Parts}
@@ -30,65 +28,16 @@ use Rattle.study_text.specs.Number.{signed, over_text, report_text, millionths_t
 
 -- ---- sign and size
 
-module _ (z : ℤ) (f : SFits w32 z) where
-  pub read : to_z w32 (of_z w32 z) ≡ z
-  read = to_z-of_z w32 z f
+pub read : (z : ℤ) → SFits w32 z → to_z w32 (of_z w32 z) ≡ z
+read z f = to_z-of_z w32 z f
 
-  pub wide : SFits w64 z
-  wide = record { sfits = lt_of_lt_of_le f.sfits (lit≤ tt) }
-
-  pub wide_read : SFits w64 (to_z w32 (of_z w32 z))
-  wide_read = subst (SFits w64) (sym read) wide
-
-  -- the negation at 64 bits
-  pub minus : to_z w64 0 -ℤ to_z w64 (of_z w64 (to_z w32 (of_z w32 z))) ≡ neg_ℤ z
-  minus = ap (λ (a : ℤ). to_z w64 0 -ℤ to_z w64 (of_z w64 a)) read ∙ ap (λ (a : ℤ). to_z w64 0 -ℤ a) (to_z-of_z w64 z wide) ∙ +ℤ_idl (neg_ℤ z)
-
-mag-minus : (z : ℤ) → mag z < 2 ^ 31 → mag (neg_ℤ z) < 2 ^ 63
-mag-minus (pos zero) h = omega arith
-mag-minus (pos (suc n)) h = omega arith
-mag-minus (negsuc n) h = omega arith
-
-module _ (z : ℤ) (f : SFits w32 z) where
-  pub minus-fits : SFits w64 (to_z w64 0 -ℤ to_z w64 (of_z w64 (to_z w32 (of_z w32 z))))
-  minus-fits = subst (SFits w64) (sym (minus z f)) (record { sfits = mag-minus z f.sfits })
-
-  pub minus-read : to_z w64 (of_z w64 (to_z w64 0 -ℤ to_z w64 (of_z w64 (to_z w32 (of_z w32 z))))) ≡ neg_ℤ z
-  minus-read = to_z-of_z w64 _ minus-fits ∙ minus z f
-
-negative : (z : ℤ) → mag z < 2 ^ 31 → lt_z z (pos 0) ≡ true → T (non_neg (neg_ℤ z)) × Fits w32 (nat_abs (neg_ℤ z))
-negative (pos n) h t = absurd (let l : n < 0 = ltb-true n 0 t in omega arith)
-negative (negsuc n) h t = (tt, record { fits = omega arith })
-
-negative-size : (z : ℤ) → lt_z z (pos 0) ≡ true → ◌≡◌ {A = Number} (record { negative = true; size = nat_abs (neg_ℤ z) }) (signed z)
+sized : (z : ℤ) → ◌≡◌ {A = Number} (record { negative = lt_z z (pos 0); size = nat_abs z }) (signed z)
 unfolding signed
-negative-size (pos n) t = absurd (let l : n < 0 = ltb-true n 0 t in omega arith)
-negative-size (negsuc n) t = refl
+sized (pos n) = ap (λ (b : Bool). record { negative = b; size = n }) (le-ltb n 0 (omega arith))
+sized (negsuc n) = refl
 
-plain : (z : ℤ) → mag z < 2 ^ 31 → lt_z z (pos 0) ≡ false → T (non_neg z) × Fits w32 (nat_abs z)
-plain (pos n) h t = (tt, record { fits = omega arith })
-plain (negsuc n) h t = absurd (let e : ◌≡◌ {A = ℕ} 0 1 = cc in omega arith)
-
-plain_size : (z : ℤ) → lt_z z (pos 0) ≡ false → ◌≡◌ {A = Number} (record { negative = false; size = nat_abs z }) (signed z)
-unfolding signed
-plain_size (pos n) t = refl
-plain_size (negsuc n) t = cc
-
-module _ (z : ℤ) (f : SFits w32 z) (b : Bool) (t : lt_z (to_z w32 (of_z w32 z)) (pos 0) ≡ b) where
-  test : lt_z z (pos 0) ≡ b
-  test = sym (ap (λ (a : ℤ). lt_z a (pos 0)) (read z f)) ∙ t
-
-  pub minus-known : b ≡ true → let m = to_z w64 (of_z w64 (to_z w64 0 -ℤ to_z w64 (of_z w64 (to_z w32 (of_z w32 z))))) in T (non_neg m) × Fits w32 (nat_abs m)
-  minus-known e = subst (λ (a : ℤ). T (non_neg a) × Fits w32 (nat_abs a)) (sym (minus-read z f)) (negative z f.sfits (test ∙ e))
-
-  pub minus-signed : b ≡ true → ◌≡◌ {A = Number} (record { negative = true; size = nat_abs (to_z w64 (of_z w64 (to_z w64 0 -ℤ to_z w64 (of_z w64 (to_z w32 (of_z w32 z)))))) }) (signed z)
-  minus-signed e = ap (λ (a : ℤ). record { negative = true; size = nat_abs a }) (minus-read z f) ∙ negative-size z (test ∙ e)
-
-  pub plain_known : b ≡ false → T (non_neg (to_z w32 (of_z w32 z))) × Fits w32 (nat_abs (to_z w32 (of_z w32 z)))
-  plain_known e = subst (λ (a : ℤ). T (non_neg a) × Fits w32 (nat_abs a)) (sym (read z f)) (plain z f.sfits (test ∙ e))
-
-  pub plain-signed : b ≡ false → ◌≡◌ {A = Number} (record { negative = false; size = nat_abs (to_z w32 (of_z w32 z)) }) (signed z)
-  plain-signed e = ap (λ (a : ℤ). record { negative = false; size = nat_abs a }) (read z f) ∙ plain_size z (test ∙ e)
+pub sign-size : (z : ℤ) → SFits w32 z → (n : ℕ) → n ≡ nat_abs (to_z w32 (of_z w32 z)) → ◌≡◌ {A = Number} (record { negative = lt_z (to_z w32 (of_z w32 z)) (pos 0); size = n }) (signed z)
+sign-size z f n e = rw (e, read z f) (sized z)
 
 -- ---- a whole number's text
 

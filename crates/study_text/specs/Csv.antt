@@ -1,5 +1,5 @@
 -- A line of a study's table, as a record of comma-separated values.
-use Rattle.std.specs.Prelude.{ℕ, false, cond, List, [], ◌∷◌, ◌++◌, eqb, Float}
+use Rattle.std.specs.Prelude.{ℕ, false, cond, List, [], ◌∷◌, ◌++◌, Option, Some, None, eqb, Float}
 use Rattle.std.specs.Float.{binary32}
 use Rattle.std.specs.Float.Ieee.{to_bits}
 use Rattle.rows.specs.declared.joint_velocity_constraint.WritebackId.{WritebackId}
@@ -13,7 +13,7 @@ use Rattle.catalogue.specs.Text.{id_text}
 use Rattle.study_text.specs.Words.{bound_of, number_of, definition_text}
 use Rattle.study_text.specs.declared.rules.Rule.{Rule}
 use Rattle.study_text.specs.declared.words.Bound.{Bound}
-use Rattle.study_text.specs.declared.words.Bound.TheVariants.{Low, High, No}
+use Rattle.study_text.specs.declared.words.Bound.TheVariants.{Low, High}
 
 -- a text and a comma
 unfoldable pub field : List ℕ → List ℕ
@@ -28,10 +28,10 @@ unit_of i = cond (eqb i 2) (ascii "N*m*s") (ascii "N*s")
 abbrev pub unit_text : WritebackId → List ℕ
 unit_text id = unit_of (axis_of id)
 
-abbrev pub at_text : Bound → List ℕ
-at_text Low = ascii "low"
-at_text High = ascii "high"
-at_text No = ascii "no"
+abbrev pub at_text : Option Bound → List ℕ
+at_text (Some Low) = ascii "low"
+at_text (Some High) = ascii "high"
+at_text None = ascii "no"
 
 -- the bits of a number, a to f not in capitals
 abbrev pub bits_text : Float → List ℕ
@@ -58,11 +58,11 @@ unfoldable pub csv_end : Rule → List ℕ
 csv_end rule = definition_text rule ++ CR ∷ LF ∷ []
 
 -- the bound that the impulse stands at, the rule's number, and its definition
-unfoldable pub csv_rule : Bound → Rule → List ℕ
+unfoldable pub csv_rule : Option Bound → Rule → List ℕ
 csv_rule bound rule = field (at_text bound) ++ field (number_of rule) ++ csv_end rule
 
 -- the residual, and these
-unfoldable pub csv_standing : Float → Bound → Rule → List ℕ
+unfoldable pub csv_standing : Float → Option Bound → Rule → List ℕ
 csv_standing residual bound rule = csv_number residual ++ csv_rule bound rule
 
 -- all after the names

@@ -1,5 +1,5 @@
 -- A joint's reaction as a record of comma-separated values: each number in millionths, as a decimal, and its bits.
-use Rattle.std.specs.Prelude.{ℕ, Bool, List, ◌++◌, Float}
+use Rattle.std.specs.Prelude.{ℕ, List, ◌++◌, Option, Float}
 use Rattle.rows.specs.declared.reaction.Reaction.{Reaction}
 use Rattle.texts.specs.Ascii.{ascii}
 use Rattle.study_text.specs.Words.{motors_text}
@@ -12,15 +12,15 @@ csv_forces r =
     csv_numbers force.x force.y r.along.x ++ csv_numbers r.along.y r.moment r.impulses.body1.angular
 
 -- what turned body 2; how many of the joint's motors were low or high; the definition, and the record's end
-unfoldable pub csv_turned : Float → Bool → ℕ → List ℕ
-csv_turned angular swept motors = csv_number angular ++ field (motors_text swept motors) ++ ascii "reactionOf\r\n"
+unfoldable pub csv_turned : Float → Option ℕ → List ℕ
+csv_turned angular motors = csv_number angular ++ field (motors_text motors) ++ ascii "reactionOf\r\n"
 
-unfoldable pub csv_reaction_values : Reaction → Bool → ℕ → List ℕ
-csv_reaction_values r swept motors = csv_forces r ++ csv_turned r.impulses.body2.angular swept motors
+unfoldable pub csv_reaction_values : Reaction → Option ℕ → List ℕ
+csv_reaction_values r motors = csv_forces r ++ csv_turned r.impulses.body2.angular motors
 
 -- the line
-unfoldable pub csv_reaction_text : List ℕ → List ℕ → List ℕ → Reaction → Bool → ℕ → List ℕ
-csv_reaction_text joint body1 body2 r swept motors = csv_names joint body1 body2 ++ csv_reaction_values r swept motors
+unfoldable pub csv_reaction_text : List ℕ → List ℕ → List ℕ → Reaction → Option ℕ → List ℕ
+csv_reaction_text joint body1 body2 r motors = csv_names joint body1 body2 ++ csv_reaction_values r motors
 
 -- an empty line, which parts these records from the rows, and their heading
 unfoldable pub csv_reaction_heading : List ℕ

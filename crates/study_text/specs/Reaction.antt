@@ -1,5 +1,5 @@
 -- A joint's reaction, and how many of its motors ran out of force, a line under the table's rows: what the rows of the joint together gave its two bodies, with the definition (rows, `reaction_of`).
-use Rattle.std.specs.Prelude.{ℕ, Bool, List, ◌++◌, Float}
+use Rattle.std.specs.Prelude.{ℕ, List, ◌++◌, Option, Float}
 use Rattle.rows.specs.declared.reaction.Reaction.{Reaction}
 use Rattle.texts.specs.Ascii.{ascii}
 use Rattle.study_text.specs.Number.{number_column}
@@ -13,15 +13,15 @@ forces_text r =
     numbers_text force.x force.y r.along.x ++ numbers_text r.along.y r.moment r.impulses.body1.angular
 
 -- what turned body 2 about its centre of mass; how many of the joint's motors were low or high; and the definition
-unfoldable pub turned_text : Float → Bool → ℕ → List ℕ
-turned_text angular swept motors = number_column angular ++ column 6 (motors_text swept motors) ++ ascii "reactionOf\n"
+unfoldable pub turned_text : Float → Option ℕ → List ℕ
+turned_text angular motors = number_column angular ++ column 6 (motors_text motors) ++ ascii "reactionOf\n"
 
-unfoldable pub reaction_values : Reaction → Bool → ℕ → List ℕ
-reaction_values r swept motors = forces_text r ++ turned_text r.impulses.body2.angular swept motors
+unfoldable pub reaction_values : Reaction → Option ℕ → List ℕ
+reaction_values r motors = forces_text r ++ turned_text r.impulses.body2.angular motors
 
 -- the line
-unfoldable pub reaction_text : List ℕ → List ℕ → List ℕ → Reaction → Bool → ℕ → List ℕ
-reaction_text joint body1 body2 r swept motors = names_text joint body1 body2 ++ reaction_values r swept motors
+unfoldable pub reaction_text : List ℕ → List ℕ → List ℕ → Reaction → Option ℕ → List ℕ
+reaction_text joint body1 body2 r motors = names_text joint body1 body2 ++ reaction_values r motors
 
 -- the line above these lines, and what stands below them
 unfoldable pub reaction_heading : List ℕ

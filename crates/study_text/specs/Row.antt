@@ -1,5 +1,5 @@
 -- A line of a study's table, as text.
-use Rattle.std.specs.Prelude.{ℕ, List, [], ◌∷◌, ◌++◌, Float}
+use Rattle.std.specs.Prelude.{ℕ, List, [], ◌∷◌, ◌++◌, Option, Float}
 use Rattle.rows.specs.declared.joint_velocity_constraint.WritebackId.{WritebackId}
 use Rattle.texts.specs.Ascii.{LF, SPACE}
 use Rattle.decimals.specs.Spelled.{spelled_text}
@@ -23,7 +23,7 @@ unfoldable pub numbers_text : Float → Float → Float → List ℕ
 numbers_text impulse low high = number_column impulse ++ number_column low ++ number_column high
 
 -- the residual, what one more step would change of the impulse (rows, `residual_of`), as a decimal in the row's unit; and the bound that the impulse stands at
-unfoldable pub standing_text : Float → Bound → List ℕ
+unfoldable pub standing_text : Float → Option Bound → List ℕ
 standing_text residual bound = right_column (spelled_text residual) ++ column 4 (bound_text bound)
 
 -- the id, the three numbers, and where the impulse stands

@@ -1,25 +1,26 @@
 -- The words of a line.
-use Rattle.std.specs.Prelude.{ℕ, Bool, cond, List, eqb, Float}
+use Rattle.std.specs.Prelude.{ℕ, cond, List, Option, Some, None, eqb, Float}
 use Rattle.std.specs.Float.Ieee.{eq}
 use Rattle.texts.specs.Ascii.{ascii}
 use Rattle.study_text.specs.Definitions.{definition_of}
 use Rattle.study_text.specs.declared.rules.Rule.{Rule}
 use Rattle.study_text.specs.declared.rules.Rule.TheVariants.{Motor2, Motor0, Motor1, MotorF, Dof2, Dof0, Dof1, Limit2, Limit0, Limit1, LimitF}
 use Rattle.study_text.specs.declared.words.Bound.{Bound}
-use Rattle.study_text.specs.declared.words.Bound.TheVariants.{Low, High, No}
+use Rattle.study_text.specs.declared.words.Bound.TheVariants.{Low, High}
 
 -- the bound that an impulse is equal to, by IEEE 754's equality; none where the two bounds are equal, as those of an idle stop are
-abbrev pub bound_of : Float → Float → Float → Bound
-bound_of impulse low high = cond (eq low high) No (cond (eq impulse low) Low (cond (eq impulse high) High No))
+abbrev pub bound_of : Float → Float → Float → Option Bound
+bound_of impulse low high = cond (eq low high) None (cond (eq impulse low) (Some Low) (cond (eq impulse high) (Some High) None))
 
-abbrev pub bound_text : Bound → List ℕ
-bound_text Low = ascii "low"
-bound_text High = ascii "high"
-bound_text No = ascii "-"
+abbrev pub bound_text : Option Bound → List ℕ
+bound_text (Some Low) = ascii "low"
+bound_text (Some High) = ascii "high"
+bound_text None = ascii "-"
 
 -- how many of a joint's motors the last round that was swept found low or high (multibody, `sweep_counts`), at most its three axes; `-` where no round was swept since the rows were made
-abbrev pub motors_text : Bool → ℕ → List ℕ
-motors_text swept motors = cond swept (cond (eqb motors 0) (ascii "0") (cond (eqb motors 1) (ascii "1") (cond (eqb motors 2) (ascii "2") (ascii "3")))) (ascii "-")
+abbrev pub motors_text : Option ℕ → List ℕ
+motors_text None = ascii "-"
+motors_text (Some motors) = cond (eqb motors 0) (ascii "0") (cond (eqb motors 1) (ascii "1") (cond (eqb motors 2) (ascii "2") (ascii "3")))
 
 -- the rule's number: the group and the place in it
 abbrev pub number_of : Rule → List ℕ
@@ -38,9 +39,3 @@ number_of LimitF = ascii "2.7"
 -- the name of the definition that makes the rule's rows
 abbrev pub definition_text : Rule → List ℕ
 definition_text rule = (definition_of rule).name
-
--- where a program finds a bound's word in its table
-abbrev pub bound_index : Bound → ℕ
-bound_index Low = 0
-bound_index High = 1
-bound_index No = 2

@@ -10,7 +10,7 @@ pub fn write_heading(out: &mut [u8]) -> usize
     ensures { Wrote out.old heading out.new result }
 {
     write_text(
-        &mut *out,
+        out,
         b"joint       body 1    body 2    row            impulse     lower bound     upper bound        residual at   rule\n",
     )
 }
@@ -19,7 +19,7 @@ pub fn write_csv_heading(out: &mut [u8]) -> usize
     ensures { Wrote out.old csv_heading out.new result }
 {
     write_text(
-        &mut *out,
+        out,
         b"joint,body1,body2,id,unit,impulse [1e-6 unit],impulse [unit],impulse [f32 bits],lower bound [1e-6 unit],lower bound [unit],lower bound [f32 bits],upper bound [1e-6 unit],upper bound [unit],upper bound [f32 bits],residual [1e-6 unit],residual [unit],residual [f32 bits],at bound,rule,definition\r\n",
     )
 }

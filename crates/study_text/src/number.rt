@@ -16,43 +16,29 @@ use texts::sink::{put_blanks, put_byte, put_text};
 fn signed(n: i32) -> Number
     ensures { result ≡ signed n }
 {
-    if n < 0 {
-        let size = -(n as i64) as u32;
-        return Number {
-            negative: true,
-            size,
-        };
-    }
     Number {
-        negative: false,
-        size: n as u32,
+        negative: n < 0,
+        size: n.unsigned_abs(),
     }
 }
 
 fn put_over(out: &mut [u8], at: usize, x: f32) -> usize
     ensures { Appended out.old at (over_text x) out.new result }
 {
-    let parts = parts_of(x);
-    match parts {
-        Parts::Infinite(negative) => {
-            if negative {
-                return put_text(&mut *out, at, b"-inf");
-            }
-            put_text(&mut *out, at, b"inf")
-        }
-        Parts::Finite(_, _, _) => put_text(&mut *out, at, b"over"),
-        Parts::Nan => put_text(&mut *out, at, b"over"),
+    match parts_of(x) {
+        Parts::Infinite(true) => put_text(out, at, b"-inf"),
+        Parts::Infinite(false) => put_text(out, at, b"inf"),
+        Parts::Finite(..) | Parts::Nan => put_text(out, at, b"over"),
     }
 }
 
 pub fn put_millionths(out: &mut [u8], at: usize, x: f32) -> usize
     ensures { Appended out.old at (millionths_text x) out.new result }
 {
-    let report = micro_report(x);
-    match report {
-        MicroReport::Whole(n) => put_number(&mut *out, at, signed(n)),
-        MicroReport::Over => put_over(&mut *out, at, x),
-        MicroReport::Nan => put_text(&mut *out, at, b"nan"),
+    match micro_report(x) {
+        MicroReport::Whole(n) => put_number(out, at, signed(n)),
+        MicroReport::Over => put_over(out, at, x),
+        MicroReport::Nan => put_text(out, at, b"nan"),
     }
 }
 
@@ -62,8 +48,7 @@ pub fn put_spelled(out: &mut [u8], at: usize, x: f32) -> usize
 {
     let word = spelled(x);
     let bytes = word.bytes;
-    let len = word.len;
-    put_text(&mut *out, at, &bytes[..len])
+    put_text(out, at, &bytes[..word.len])
 }
 
 // ---- at the right of 15 bytes, and a blank
@@ -71,19 +56,15 @@ pub fn put_spelled(out: &mut [u8], at: usize, x: f32) -> usize
 fn blanks_before(len: usize) -> usize
     ensures { result ≡ 15 - len }
 {
-    if len < 15 {
-        return 15 - len;
-    }
-    0
+    15usize.saturating_sub(len)
 }
 
 fn put_right(out: &mut [u8], at: usize, text: &[u8]) -> usize
     ensures { Appended out.old at (right_column text.now) out.new result }
 {
-    let n = blanks_before(text.len());
-    let a = put_blanks(&mut *out, at, n);
-    let b = put_text(&mut *out, a, text);
-    put_byte(&mut *out, b, b' ')
+    let a = put_blanks(out, at, blanks_before(text.len()));
+    let b = put_text(out, a, text);
+    put_byte(out, b, b' ')
 }
 
 pub(crate) fn put_right_spelled(out: &mut [u8], at: usize, x: f32) -> usize
@@ -91,8 +72,7 @@ pub(crate) fn put_right_spelled(out: &mut [u8], at: usize, x: f32) -> usize
 {
     let word = spelled(x);
     let bytes = word.bytes;
-    let len = word.len;
-    put_right(&mut *out, at, &bytes[..len])
+    put_right(out, at, &bytes[..word.len])
 }
 
 // A first run tells the length.
@@ -102,19 +82,18 @@ fn put_right_whole(out: &mut [u8], at: usize, n: i32) -> usize
     let number = signed(n);
     let mut none = [0u8; 1];
     let len = put_number(&mut none, 0, number);
-    let a = put_blanks(&mut *out, at, blanks_before(len));
-    let b = put_number(&mut *out, a, number);
-    put_byte(&mut *out, b, b' ')
+    let a = put_blanks(out, at, blanks_before(len));
+    let b = put_number(out, a, number);
+    put_byte(out, b, b' ')
 }
 
 // An impulse or a bound: its millionths, or the number itself where it has none.
 pub(crate) fn put_number_column(out: &mut [u8], at: usize, x: f32) -> usize
     ensures { Appended out.old at (number_column x) out.new result }
 {
-    let report = micro_report(x);
-    match report {
-        MicroReport::Whole(n) => put_right_whole(&mut *out, at, n),
-        MicroReport::Over => put_right_spelled(&mut *out, at, x),
-        MicroReport::Nan => put_right(&mut *out, at, b"nan"),
+    match micro_report(x) {
+        MicroReport::Whole(n) => put_right_whole(out, at, n),
+        MicroReport::Over => put_right_spelled(out, at, x),
+        MicroReport::Nan => put_right(out, at, b"nan"),
     }
 }

@@ -11,18 +11,18 @@ use texts::sink::{has_room, length_to, put_text};
 fn put_change(out: &mut [u8], at: usize, id: WritebackId, x: f32) -> usize
     ensures { Appended out.old at (change_text id x) out.new result }
 {
-    let a = put_text(&mut *out, at, b" ");
-    let b = put_id(&mut *out, a, id);
-    let c = put_text(&mut *out, b, b" has the largest residual: ");
-    let d = put_spelled(&mut *out, c, x);
-    put_text(&mut *out, d, b"\n")
+    let a = put_text(out, at, b" ");
+    let b = put_id(out, a, id);
+    let c = put_text(out, b, b" has the largest residual: ");
+    let d = put_spelled(out, c, x);
+    put_text(out, d, b"\n")
 }
 
 fn put_residual(out: &mut [u8], joint: &[u8], id: WritebackId, x: f32) -> usize
     ensures { Appended out.old 0 (residual_text joint.now id x) out.new result }
 {
-    let a = put_text(&mut *out, 0, joint);
-    put_change(&mut *out, a, id, x)
+    let a = put_text(out, 0, joint);
+    put_change(out, a, id, x)
 }
 
 // Writes the line of the row whose impulse one more step would change most to the front of `out` and answers its length: the name of its joint, its id, and
@@ -33,7 +33,8 @@ pub fn write_residual(out: &mut [u8], joint: &[u8], id: WritebackId, x: f32) -> 
     let mut none = [0u8; 1];
     let len = put_residual(&mut none, joint, id, x);
     if has_room(len, out.len()) {
-        return put_residual(&mut *out, joint, id, x);
+        put_residual(out, joint, id, x)
+    } else {
+        length_to(len)
     }
-    length_to(len)
 }

@@ -15,19 +15,15 @@ fn blanks_after(len: usize, width: usize) -> usize
     requires { width ≤ 11 }
     ensures { result ≡ width - len + 1 }
 {
-    if len < width {
-        return width - len + 1;
-    }
-    1
+    width.saturating_sub(len) + 1
 }
 
 fn put_column(out: &mut [u8], at: usize, text: &[u8], width: usize) -> usize
     requires { width ≤ 11 }
     ensures { Appended out.old at (column width text.now) out.new result }
 {
-    let n = blanks_after(text.len(), width);
-    let end = put_text(&mut *out, at, text);
-    put_blanks(&mut *out, end, n)
+    let end = put_text(out, at, text);
+    put_blanks(out, end, blanks_after(text.len(), width))
 }
 
 pub(crate) fn put_names(
@@ -39,17 +35,17 @@ pub(crate) fn put_names(
 ) -> usize
     ensures { Appended out.old at (names_text joint.now body1.now body2.now) out.new result }
 {
-    let a = put_column(&mut *out, at, joint, 11);
-    let b = put_column(&mut *out, a, body1, 9);
-    put_column(&mut *out, b, body2, 9)
+    let a = put_column(out, at, joint, 11);
+    let b = put_column(out, a, body1, 9);
+    put_column(out, b, body2, 9)
 }
 
 pub(crate) fn put_numbers(out: &mut [u8], at: usize, impulse: f32, low: f32, high: f32) -> usize
     ensures { Appended out.old at (numbers_text impulse low high) out.new result }
 {
-    let a = put_number_column(&mut *out, at, impulse);
-    let b = put_number_column(&mut *out, a, low);
-    put_number_column(&mut *out, b, high)
+    let a = put_number_column(out, at, impulse);
+    let b = put_number_column(out, a, low);
+    put_number_column(out, b, high)
 }
 
 fn put_values(
@@ -63,20 +59,19 @@ fn put_values(
 ) -> usize
     ensures { Appended out.old at (values_text id impulse low high residual) out.new result }
 {
-    let bound = bound_of(impulse, low, high);
-    let a = put_id_column(&mut *out, at, id);
-    let b = put_numbers(&mut *out, a, impulse, low, high);
-    let c = put_right_spelled(&mut *out, b, residual);
-    put_bound(&mut *out, c, bound)
+    let a = put_id_column(out, at, id);
+    let b = put_numbers(out, a, impulse, low, high);
+    let c = put_right_spelled(out, b, residual);
+    put_bound(out, c, bound_of(impulse, low, high))
 }
 
 fn put_rule(out: &mut [u8], at: usize, rule: Rule) -> usize
     ensures { Appended out.old at (rule_text rule) out.new result }
 {
-    let a = put_rule_number(&mut *out, at, rule);
-    let b = put_byte(&mut *out, a, b' ');
-    let c = put_definition(&mut *out, b, rule);
-    put_byte(&mut *out, c, b'\n')
+    let a = put_rule_number(out, at, rule);
+    let b = put_byte(out, a, b' ');
+    let c = put_definition(out, b, rule);
+    put_byte(out, c, b'\n')
 }
 
 fn put_row(
@@ -93,12 +88,12 @@ fn put_row(
 ) -> usize
     ensures { Appended out.old 0 (row_text joint.now body1.now body2.now id coupled impulse low high residual) out.new result }
 {
-    let rule = rule_of(id, coupled);
-    let a = put_names(&mut *out, 0, joint, body1, body2);
-    let b = put_values(&mut *out, a, id, impulse, low, high, residual);
-    put_rule(&mut *out, b, rule)
+    let a = put_names(out, 0, joint, body1, body2);
+    let b = put_values(out, a, id, impulse, low, high, residual);
+    put_rule(out, b, rule_of(id, coupled))
 }
 
+// The names are three texts of the caller's, each its own slice.
 // Writes the line of a row to the front of `out` and answers its length: the row's joint and bodies by name, its id and the joint's coupled
 // axes, its impulse, bounds and residual. Where `out` is shorter nothing is written, and the length is answered all the same.
 pub fn write_row(
@@ -120,9 +115,10 @@ pub fn write_row(
         &mut none, joint, body1, body2, id, coupled, impulse, low, high, residual,
     );
     if has_room(len, out.len()) {
-        return put_row(
-            &mut *out, joint, body1, body2, id, coupled, impulse, low, high, residual,
-        );
+        put_row(
+            out, joint, body1, body2, id, coupled, impulse, low, high, residual,
+        )
+    } else {
+        length_to(len)
     }
-    length_to(len)
 }

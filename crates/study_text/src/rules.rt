@@ -6,7 +6,7 @@ ghost use Rattle.study_text.specs.Rules.{motor_rule, dof_rule, limit_rule, rule_
 use rows::generic_joint::has_axis;
 use rows::joint_velocity_constraint::WritebackId;
 
-#[derive(Clone, Copy)]
+#[derive(Clone, Copy, PartialEq, Eq)]
 pub enum Rule {
     Motor2,
     Motor0,
@@ -24,43 +24,33 @@ pub enum Rule {
 fn motor_rule(axis: usize, coupled: u32) -> Rule
     ensures { result ≡ motor_rule axis coupled }
 {
-    if axis == 2 {
-        return Rule::Motor2;
+    match axis {
+        2 => Rule::Motor2,
+        _ if has_axis(coupled, axis) => Rule::MotorF,
+        0 => Rule::Motor0,
+        _ => Rule::Motor1,
     }
-    if has_axis(coupled, axis) {
-        return Rule::MotorF;
-    }
-    if axis == 0 {
-        return Rule::Motor0;
-    }
-    Rule::Motor1
 }
 
 fn dof_rule(axis: usize) -> Rule
     ensures { result ≡ dof_rule axis }
 {
-    if axis == 2 {
-        return Rule::Dof2;
+    match axis {
+        2 => Rule::Dof2,
+        0 => Rule::Dof0,
+        _ => Rule::Dof1,
     }
-    if axis == 0 {
-        return Rule::Dof0;
-    }
-    Rule::Dof1
 }
 
 fn limit_rule(axis: usize, coupled: u32) -> Rule
     ensures { result ≡ limit_rule axis coupled }
 {
-    if axis == 2 {
-        return Rule::Limit2;
+    match axis {
+        2 => Rule::Limit2,
+        _ if has_axis(coupled, axis) => Rule::LimitF,
+        0 => Rule::Limit0,
+        _ => Rule::Limit1,
     }
-    if has_axis(coupled, axis) {
-        return Rule::LimitF;
-    }
-    if axis == 0 {
-        return Rule::Limit0;
-    }
-    Rule::Limit1
 }
 
 // The rule of a row, by its id and its joint's coupled axes.

@@ -9,20 +9,20 @@ use texts::sink::{has_room, length_to, put_text};
 fn put_moves(out: &mut [u8], at: usize, x: f32, y: f32) -> usize
     ensures { Appended out.old at (moves_text x y) out.new result }
 {
-    let a = put_text(&mut *out, at, b" moves ");
-    let b = put_millionths(&mut *out, a, x);
-    let c = put_text(&mut *out, b, b" ");
-    let d = put_millionths(&mut *out, c, y);
-    put_text(&mut *out, d, b" millionths of m/s, turns ")
+    let a = put_text(out, at, b" moves ");
+    let b = put_millionths(out, a, x);
+    let c = put_text(out, b, b" ");
+    let d = put_millionths(out, c, y);
+    put_text(out, d, b" millionths of m/s, turns ")
 }
 
 fn put_velocity(out: &mut [u8], name: &[u8], x: f32, y: f32, angular: f32) -> usize
     ensures { Appended out.old 0 (velocity_text name.now x y angular) out.new result }
 {
-    let a = put_text(&mut *out, 0, name);
-    let b = put_moves(&mut *out, a, x, y);
-    let c = put_millionths(&mut *out, b, angular);
-    put_text(&mut *out, c, b" millionths of rad/s\n")
+    let a = put_text(out, 0, name);
+    let b = put_moves(out, a, x, y);
+    let c = put_millionths(out, b, angular);
+    put_text(out, c, b" millionths of rad/s\n")
 }
 
 // Writes the line to the front of `out` and answers its length. Where `out` is shorter nothing is written, and the length is answered all
@@ -33,7 +33,8 @@ pub fn write_velocity(out: &mut [u8], name: &[u8], x: f32, y: f32, angular: f32)
     let mut none = [0u8; 1];
     let len = put_velocity(&mut none, name, x, y, angular);
     if has_room(len, out.len()) {
-        return put_velocity(&mut *out, name, x, y, angular);
+        put_velocity(out, name, x, y, angular)
+    } else {
+        length_to(len)
     }
-    length_to(len)
 }

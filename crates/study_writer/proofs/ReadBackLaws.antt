@@ -21,8 +21,9 @@ use Rattle.multibody.specs.Refusals.{present_or_world, bodies_present}
 use Rattle.model.specs.Planar.{plane}
 use Rattle.model.specs.Refusals.{masks_fit}
 use Rattle.study_reader.specs.Storage.{most_items, settings_width, joints_place, numbers_size, words_size, names_size, joint_base}
+use Rattle.std.specs.Prelude.{None}
 use Rattle.study_reader.specs.Draft.{Draft, draft, with_state, start, puts, settings_defaults}
-use Rattle.study_reader.specs.Study.{line_read, lines_read, ended, is_left_out, center_joint, center_joints, read_study, study_of, settings_read, bodies_read, joints_read}
+use Rattle.study_reader.specs.Study.{line_read, lines_read, left_open, ended, is_left_out, center_joint, center_joints, read_study, study_of, settings_read, bodies_read, joints_read}
 use Rattle.study_reader.specs.declared.draft.State.{State}
 use Rattle.study_reader.specs.Keywords.{no_item, settings_item, body_item, joint_item, calls_item}
 use Rattle.study_writer.specs.Text.{Line, items_from, lines_text, settings_lines, body_lines, bodies_from, joint_lines, joints_from, study_lines, study_text}
@@ -48,7 +49,7 @@ all_lines text (l ∷ ls) n d =
     ap (λ (k : ℕ). lines_read text k d) e ∙ all_lines text ls n (line_read text d)
 
 -- at the end of the text nothing more is read
-idle : (text : List ℕ) (d : Draft) → d.state.fault ≡ 0 → drop d.state.at text ≡ [] → line_read text d ≡ d
+idle : (text : List ℕ) (d : Draft) → d.state.fault ≡ None → drop d.state.at text ≡ [] → line_read text d ≡ d
 unfolding line_read
 idle text d f h =
     let a = length-drop d.state.at text in
@@ -56,7 +57,7 @@ idle text d f h =
     let c : leb (length text) d.state.at ≡ true = le-leb (length text) d.state.at (omega arith) in
     simp (f, c)
 
-at-end : (text : List ℕ) (d : Draft) → d.state.fault ≡ 0 → drop d.state.at text ≡ [] → (n : ℕ) → lines_read text n d ≡ d
+at-end : (text : List ℕ) (d : Draft) → d.state.fault ≡ None → drop d.state.at text ≡ [] → (n : ℕ) → lines_read text n d ≡ d
 unfolding lines_read
 at-end text d f h zero = refl
 at-end text d f h (suc n) = ap (lines_read text n) (idle text d f h) ∙ at-end text d f h n
@@ -297,7 +298,7 @@ module _ (m : Model) (f32 : AllF32 m) (p : Accepted m) (numbers : List Float) (o
 
   -- no `repeat` is open
   no-repeat : ended state' ≡ state'
-  unfolding ended
+  unfolding left_open ended
   no-repeat = ap ended at-state ∙ sym at-state
 
   read_is : read_study text numbers origins words names ≡ last

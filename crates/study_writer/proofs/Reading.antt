@@ -10,6 +10,7 @@ use lib.ListN.{length, drop, length-drop}
 use Rattle.model.specs.Layout.{body_width, words_width, body1_place, body2_place, center_choice_place, numbers_width}
 use Rattle.multibody.specs.Model.{Model}
 use Rattle.study_reader.specs.Storage.{most_items, settings_width, joints_place, numbers_size, words_size, body_base, joint_base, words_base, kept}
+use Rattle.std.specs.Prelude.{None}
 use Rattle.study_reader.specs.Draft.{Draft, with_state, state_of, reached, opened, item_base, body_defaults, joint_defaults}
 use Rattle.study_reader.specs.Items.{ends, no_center, line_of}
 use Rattle.study_reader.specs.Study.{numbers_with, origins_with, center_with, word_with, origin_with, open_body, open_joint, applied, line_read}
@@ -26,7 +27,7 @@ use Rattle.study_writer.proofs.Agrees.{Agrees, NumbersAgree, Told, IsContents, m
 
 -- with no fault and no call
 abbrev pub on : ℕ → ℕ → ℕ → ℕ → ℕ → State
-on at kind item nb nj = state_of at kind item nb nj 0 0 4294967295 false 0
+on at kind item nb nj = state_of at kind item nb nj None 4294967295 None
 
 -- the lines ls are left
 pub record Reading (text : List ℕ) (m : Model) (kind item nb nj top done : ℕ) (ls : List Line) (d : Draft) : Type 0 where
@@ -70,7 +71,7 @@ module _ {text : List ℕ} {m : Model} {kind item nb nj top done : ℕ} {l : Lin
         → line_read text d ≡ with_state (applied change d) (reached (applied change d).state (d.state.at + line_size l))
     unfolding line_read
     line-is-read change e =
-        let f : d.state.fault ≡ 0 = ap (λ (s : State). s.fault) r.state in
+        let f : d.state.fault ≡ None = ap (λ (s : State). s.fault) r.state in
         let b : leb (length text) d.state.at ≡ false = lt-leb (length text) d.state.at (omega (arith, length-drop d.state.at text, ap length here, line-some l (lines_text ls))) in
         simp (f, b, e, (line_after text d.state.at l (lines_text ls) here p).0)
 

@@ -13,7 +13,7 @@ use lib.ListN.{length}
 use Rattle.decimals.specs.Words.{reading_of}
 use Rattle.texts.specs.Hex.{hex_digit, hex_word}
 use Rattle.decimals.specs.Text.{bits_text}
-use Rattle.decimals.specs.declared.number.Reading.TheVariants.{Number}
+use Rattle.std.specs.Prelude.{Ok}
 use Rattle.decimals.proofs.TextLaws.{number-read-back}
 use Rattle.motor_table.specs.WholeNumber.{digits_after}
 use Rattle.motor_table.proofs.RoundTrip.{decimal-back}
@@ -22,7 +22,7 @@ use Rattle.texts.specs.Ascii.{ascii}
 use Rattle.study_reader.specs.Words.{has, same_bytes, bytes_of, whole_number, whole_up_to}
 use Rattle.study_reader.specs.Numbers.{number_in}
 use Rattle.study_reader.specs.declared.words.Word.{Word}
-use Rattle.study_reader.specs.declared.words.Whole.{Whole}
+use Rattle.std.specs.Prelude.{Some, None}
 use Rattle.study_writer.specs.Text.{number_word, body_word, joint_word}
 use Rattle.study_writer.proofs.Lexical.{plain, proper, both, proper-plain, other-byte'}
 
@@ -40,7 +40,7 @@ pub number-proper : (x : Float) → proper (number_word x) ≡ true
 unfolding number_word bits_text hex_word
 number-proper x = simp letter
 
-pub number_read : (text : List ℕ) (w : Word) (x : Float) → T (fits binary32 x) → bytes_of text w ≡ number_word x → number_in text w ≡ Number x
+pub number_read : (text : List ℕ) (w : Word) (x : Float) → T (fits binary32 x) → bytes_of text w ≡ number_word x → number_in text w ≡ Ok x
 unfolding number_word number_in
 number_read text w x f h = ap reading_of h ∙ number-read-back x f
 
@@ -75,12 +75,12 @@ pub decimal-short : (n : ℕ) → length (decimal n) ≤ 1 + n / 10
 unfolding decimal
 decimal-short n = onto-short n n []
 
-whole_back : (bs : List ℕ) (n : ℕ) → proper bs ≡ true → digits_after 0 bs ≡ some n → n ≤ 4294967289 → whole_number bs ≡ Whole.Number n
+whole_back : (bs : List ℕ) (n : ℕ) → proper bs ≡ true → digits_after 0 bs ≡ some n → n ≤ 4294967289 → whole_number bs ≡ Some n
 unfolding whole_number whole_up_to
 whole_back [] n p e h = let z : false ≡ true = p in cc
-whole_back (b ∷ bs) n p e h = ap whole_up_to e ∙ ap (λ (t : Bool). cond t (Whole.Number n) Whole.No) (le-leb n 4294967289 h)
+whole_back (b ∷ bs) n p e h = ap whole_up_to e ∙ ap (λ (t : Bool). cond t (Some n) None) (le-leb n 4294967289 h)
 
-pub whole-read : (n : ℕ) → n ≤ 4294967289 → whole_number (decimal n) ≡ Whole.Number n
+pub whole-read : (n : ℕ) → n ≤ 4294967289 → whole_number (decimal n) ≡ Some n
 whole-read n h = whole_back (decimal n) n (decimal-proper n) (decimal-back n) h
 
 -- ---- the same bytes

@@ -2,8 +2,9 @@
 use mathlib.Core.Path.{◌≡◌, refl, sym, ap, ◌∙◌}
 use mathlib.Core.Bool.{Bool, true, false, cond}
 use mathlib.Core.List.{List, [], ◌++◌}
-use Prim.Native.Nat.{ℕ, ◌+◌, ◌*◌, ◌/◌, ◌≤◌, ◌<◌}
+use Prim.Native.Nat.{ℕ, ◌+◌, ◌*◌, ◌/◌, ◌≤◌, ◌<◌, min}
 use native.Mathlib.Omega.{arith}
+use Rattle.std.proofs.Math.Nat.{min-le_right, le-min, min-eq_left}
 use borrow.Author.Tests.{le-leb, lt-leb, ltb-true, ltb-false}
 use lib.Dec.{leb, ltb}
 use lib.Ieee.{Float}
@@ -15,7 +16,7 @@ use Rattle.model.specs.Model.{model_of}
 use Rattle.multibody.specs.Model.{Model, most_bodies, most_joints}
 use Rattle.multibody.specs.Counts.{body_count, joint_count}
 use Rattle.model.specs.Planar.{plane}
-use Rattle.model.specs.declared.header.Header.{Header}
+use Rattle.multibody.specs.declared.header.Header.{Header}
 use Rattle.study_writer.specs.Text.{lines_text, settings_lines, bodies_from, joints_from, study_lines, study_text}
 use Rattle.texts.specs.Sink.{Appended}
 use Rattle.study_writer.specs.Printed.{printed_text}
@@ -30,6 +31,14 @@ bodies-room bodies nb e = omega arith
 joint-cases : (t : Bool) (a b : ℕ) → ltb a b ≡ t → (cond t a b ≤ a) × (cond t a b ≤ b)
 joint-cases true a b e = (omega arith, omega (arith, ltb-true a b e))
 joint-cases false a b e = (omega (arith, ltb-false a b e), omega arith)
+
+pub least : (a b : ℕ) → min a b ≡ cond (ltb a b) a b
+least a b = go (ltb a b) refl
+  where
+    go : (t : Bool) → ltb a b ≡ t → min a b ≡ cond t a b
+    go true e = min-eq_left (omega (arith, ltb-true a b e))
+    go false e =
+        let l : b ≤ min a b = le-min (ltb-false a b e) (omega arith) in omega (arith, l, min-le_right a b)
 
 pub words_room : (words : List ℕ) (numbers : List Float) (nj : ℕ) → nj ≡ joint_count plane words numbers → nj * words_width ≤ length words
 unfolding joint_count

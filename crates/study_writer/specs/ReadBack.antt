@@ -2,7 +2,7 @@
 -- rows decode it (joint_at of crates/model/specs/Store.antt): of words that mean the same, such as a motor model of 7 for 1, one spelling is printed, and the
 -- number beside a typed angle, which is nobody's, is not printed. Nor is a joint's first row, which is none of its contents: a text has no word for it, the
 -- storage that is read into keeps what it has there, and a load writes it.
-use Rattle.std.specs.Prelude.{ℕ, ◌≤◌, ◌<◌, ◌≡◌, true, cond, List, [], T, leb, Float, length, get_or}
+use Rattle.std.specs.Prelude.{None, ℕ, ◌≤◌, ◌<◌, ◌≡◌, true, cond, List, [], T, leb, Float, length, get_or}
 use Rattle.std.specs.Float.{nan, binary32}
 use Rattle.std.specs.Float.Ieee.{fits}
 use Rattle.model.specs.Layout.{body_width}
@@ -47,7 +47,7 @@ pub record Room (numbers : List Float) (origins words names : List ℕ) : Type 0
 
 -- what was read is the model, and no fault
 pub record IsRead (m : Model) (d : Draft) : Type 0 where
-  pub no_fault : d.state.fault ≡ 0
+  pub no_fault : d.state.fault ≡ None
   pub body-count : d.state.bodies ≡ body_count plane m.bodies
   pub joint-count : d.state.joints ≡ joint_count plane m.words m.numbers
   pub settings : settings_read d ≡ m.params

@@ -4,7 +4,7 @@ ghost use Rattle.study_reader.specs.Draft.{draft};
 ghost use Rattle.study_writer.specs.ReadBack.{WroteAndRead};
 
 use crate::study::write_study;
-use model::header::Header;
+use multibody::header::Header;
 use study_reader::draft::State;
 use study_reader::read::read_study;
 

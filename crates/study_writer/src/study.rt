@@ -17,13 +17,13 @@ use crate::lines::{
     put_body_line, put_center, put_enabled, put_joint_line, put_mask, put_model, put_one,
     put_one_of, put_two, put_two_of,
 };
-use model::header::Header;
 use model::layout::{
     BODY_WIDTH, BODY2, CENTER_CHOICE, COUPLED_AXES, DAMPING_RATIO, DOF_ANGULAR, DOF_X, DOF_Y,
     ENABLED, FRAME1, FRAME2, INERTIA, LIMIT_AXES, LIMITS_ANGULAR, LIMITS_X, LIMITS_Y, LOCKED_AXES,
     MASS_X, MODEL_ANGULAR, MODEL_X, MODEL_Y, MOTOR_ANGULAR, MOTOR_AXES, MOTOR_X, MOTOR_Y,
     NATURAL_FREQUENCY, NUMBERS_WIDTH, POSE, VELOCITY_ANGULAR, VELOCITY_X, WORDS_WIDTH,
 };
+use multibody::header::Header;
 use rows::integration_parameters::IntegrationParameters;
 use texts::sink::put_text;
 
@@ -96,10 +96,8 @@ fn put_bodies(out: &mut [u8], at: usize, n: u32, bodies: &[f32]) -> usize
     ensures { Appended out.old at (lines_text (bodies_from bodies.now 0 n)) out.new result }
 {
     let mut end = at;
-    let mut i: u32 = 0;
-    while i < n {
+    for i in 0..n {
         end = put_body(&mut *out, end, i, bodies);
-        i += 1;
     }
     end
 }
@@ -242,10 +240,8 @@ fn put_joints(out: &mut [u8], at: usize, n: u32, words: &[u32], s: &[f32]) -> us
     ensures { Appended out.old at (lines_text (joints_from words.now s.now 0 n)) out.new result }
 {
     let mut end = at;
-    let mut j: u32 = 0;
-    while j < n {
+    for j in 0..n {
         end = put_joint(&mut *out, end, j, words, s);
-        j += 1;
     }
     end
 }
@@ -261,12 +257,7 @@ fn body_count(bodies: &[f32]) -> usize
 fn joint_count(words: &[u32], numbers: &[f32]) -> usize
     ensures { result ≡ joint_count plane words.now numbers.now }
 {
-    let a = words.len() / WORDS_WIDTH;
-    let b = numbers.len() / NUMBERS_WIDTH;
-    if a < b {
-        return a;
-    }
-    b
+    (words.len() / WORDS_WIDTH).min(numbers.len() / NUMBERS_WIDTH)
 }
 
 fn put_study(
@@ -305,14 +296,25 @@ pub fn write_study(
     if MOST_JOINTS < nj {
         return 0;
     }
-    let params = header.params;
     let mut none = [0u8; 1];
     let len = put_study(
-        &mut none, params, bodies, words, numbers, nb as u32, nj as u32,
+        &mut none,
+        header.params,
+        bodies,
+        words,
+        numbers,
+        nb as u32,
+        nj as u32,
     );
     if len <= out.len() {
         return put_study(
-            &mut *out, params, bodies, words, numbers, nb as u32, nj as u32,
+            &mut *out,
+            header.params,
+            bodies,
+            words,
+            numbers,
+            nb as u32,
+            nj as u32,
         );
     }
     len

@@ -7,6 +7,6 @@ pub returns-then-st-eq-CALLS : goal.returns-then-st-eq-CALLS
 unfolding calls_at
 returns-then-st-eq-CALLS c = rw (eq-eqb _ _ c.if-st-eq-CALLS.true)
 
-pub returns : goal.returns
+pub returns-else-st-eq-CALLS : goal.returns-else-st-eq-CALLS
 unfolding calls_at
-returns c = rw (ne_eqb _ _ c.if-st-eq-CALLS.false)
+returns-else-st-eq-CALLS c = rw (ne_eqb _ _ c.if-st-eq-CALLS.false)

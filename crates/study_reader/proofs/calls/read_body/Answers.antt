@@ -8,14 +8,14 @@ use Rattle.study_reader.specs.declared.calls.Line.{Line}
 use Rattle.study_reader.proofs.CallLaws.{at_first, name-is, name-not}
 use Rattle.study_reader.proofs.calls.read_body.Goals as goal
 
-pub returns-then-i : goal.returns-then-i
-returns-then-i c =
+pub returns-in-None : goal.returns-in-None
+returns-in-None c =
     let s3 = c.before.before.before in
     let a = s3.args in
-    c.wrong.ensures ∙ name-not a.l s3.next_word-w.result fault_no_body _ c.if-i.true ∙ ap (of_named a.l _ fault_no_body) c.find_body-i.ensures ∙ at_first a.text.now a.l (λ (u : Word). of_named a.l u fault_no_body (find_body a.text.now a.names.now a.bodies u)) _ s3.next_word-w.ensures
+    c.wrong.ensures ∙ name-not a.l s3.next_word-w.result fault_no_body _ c.in-None.is ∙ ap (of_named a.l _ fault_no_body) c.find_body.ensures ∙ at_first a.text.now a.l (λ (u : Word). of_named a.l u fault_no_body (find_body a.text.now a.names.now a.bodies u)) _ s3.next_word-w.ensures
 
-pub returns : goal.returns
-returns c =
-    let s3 = c.before.before.before in
+pub returns-in-Some : goal.returns-in-Some
+returns-in-Some c =
+    let s3 = c.before.before in
     let a = s3.args in
-    c.with_number.ensures ∙ ap (λ (m : Line). with_number m s3.find_body-i.result) c.with_word.ensures ∙ name-is a.l s3.next_word-w.result fault_no_body _ c.if-i.false ∙ ap (of_named a.l _ fault_no_body) s3.find_body-i.ensures ∙ at_first a.text.now a.l (λ (u : Word). of_named a.l u fault_no_body (find_body a.text.now a.names.now a.bodies u)) _ s3.next_word-w.ensures
+    c.with_number.ensures ∙ ap (λ (m : Line). with_number m c.in-Some.i) c.with_word.ensures ∙ name-is a.l _ fault_no_body _ _ s3.in-Some.is ∙ ap (of_named a.l _ fault_no_body) s3.find_body.ensures ∙ at_first a.text.now a.l (λ (u : Word). of_named a.l u fault_no_body (find_body a.text.now a.names.now a.bodies u)) _ s3.next_word-w.ensures

@@ -5,26 +5,18 @@ use Rattle.study_reader.specs.Calls.{read_sweeps, frame_of}
 use Rattle.study_reader.proofs.CallLaws.{at_second, false-is, frame-warm-not, frame-warm-is}
 use Rattle.study_reader.proofs.calls.read_frame.Goals as goal
 
-pub returns-then-fault-ne0 : goal.returns-then-fault-ne0
-returns-then-fault-ne0 c =
-    let s3 = c.before.before.before in
-    let s5 = s3.before.before in
-    let s8 = s5.before.before.before in
-    let a = s8.args in
-    c.wrong.ensures ∙ frame-warm-not a.text.now a.l s8.next_word-v.result s3.next_word-w.result s3.number_in-c.result c.number_fault-fault.result s3.number_in-c.ensures c.number_fault-fault.ensures (sym s5.is.ensures ∙ s5.if-is.true) c.if-fault-ne0.true ∙ at_second a.text.now a.l (frame_of a.text.now a.l) s8.next_word-v.result s3.next_word-w.result s8.next_word-v.ensures s3.next_word-w.ensures
+pub returns-in-Some : goal.returns-in-Some
+returns-in-Some c =
+    let a = c.args in
+    c.wrong.ensures ∙ frame-warm-not a.text.now a.l c.next_word-v.result c.next_word-w.result c.number_in-c.result c.number_fault.result c.number_in-c.ensures c.number_fault.ensures (sym c.is.ensures ∙ c.if-is.true) _ c.in-Some.is ∙ at_second a.text.now a.l (frame_of a.text.now a.l) c.next_word-v.result c.next_word-w.result c.next_word-v.ensures c.next_word-w.ensures
 
 pub returns-then-is : goal.returns-then-is
 returns-then-is c =
-    let s3 = c.before.before.before in
-    let s5 = s3.before.before in
-    let s7 = s5.before.before in
-    let s10 = s7.before.before.before in
-    let a = s10.args in
-    c.read_sweeps.ensures ∙ ap (read_sweeps a.text.now) c.with_warm.ensures ∙ frame-warm-is a.text.now a.l s10.next_word-v.result s5.next_word-w.result s5.number_in-c.result s3.number_fault-fault.result s5.number_in-c.ensures s3.number_fault-fault.ensures (sym s7.is.ensures ∙ s7.if-is.true) s3.if-fault-ne0.false _ c.value_of.ensures ∙ at_second a.text.now a.l (frame_of a.text.now a.l) s10.next_word-v.result s5.next_word-w.result s10.next_word-v.ensures s5.next_word-w.ensures
+    let a = c.args in
+    c.read_sweeps.ensures ∙ ap (read_sweeps a.text.now) c.with_warm.ensures ∙ frame-warm-is a.text.now a.l c.next_word-v.result c.next_word-w.result c.number_in-c.result c.number_fault.result c.number_in-c.ensures c.number_fault.ensures (sym c.is.ensures ∙ c.if-is.true) c.in_default.is _ c.value_of.ensures ∙ at_second a.text.now a.l (frame_of a.text.now a.l) c.next_word-v.result c.next_word-w.result c.next_word-v.ensures c.next_word-w.ensures
 
 pub returns : goal.returns
 unfolding frame_of
 returns c =
-    let s4 = c.before.before.before.before in
-    let a = s4.args in
-    c.read_sweeps-2.ensures ∙ false-is _ _ _ (sym c.is.ensures ∙ c.if-is.false) ∙ at_second a.text.now a.l (frame_of a.text.now a.l) s4.next_word-v.result (next_word a.text.now s4.next_word-v.result.end) s4.next_word-v.ensures refl
+    let a = c.args in
+    c.read_sweeps-2.ensures ∙ false-is _ _ _ (sym c.is.ensures ∙ c.if-is.false) ∙ at_second a.text.now a.l (frame_of a.text.now a.l) c.next_word-v.result (next_word a.text.now c.next_word-v.result.end) c.next_word-v.ensures refl

@@ -8,14 +8,14 @@ use Rattle.study_reader.specs.declared.calls.Line.{Line}
 use Rattle.study_reader.proofs.CallLaws.{at_first, name-is, name-not}
 use Rattle.study_reader.proofs.calls.read_joint.Goals as goal
 
-pub returns-then-j : goal.returns-then-j
-returns-then-j c =
+pub returns-in-None : goal.returns-in-None
+returns-in-None c =
     let s3 = c.before.before.before in
     let a = s3.args in
-    c.wrong.ensures ∙ name-not a.l s3.next_word-w.result fault_no_joint _ c.if-j.true ∙ ap (of_named a.l _ fault_no_joint) c.find_joint-j.ensures ∙ at_first a.text.now a.l (λ (u : Word). of_named a.l u fault_no_joint (find_joint a.text.now a.names.now a.joints u)) _ s3.next_word-w.ensures
+    c.wrong.ensures ∙ name-not a.l s3.next_word-w.result fault_no_joint _ c.in-None.is ∙ ap (of_named a.l _ fault_no_joint) c.find_joint.ensures ∙ at_first a.text.now a.l (λ (u : Word). of_named a.l u fault_no_joint (find_joint a.text.now a.names.now a.joints u)) _ s3.next_word-w.ensures
 
-pub returns : goal.returns
-returns c =
-    let s3 = c.before.before.before in
+pub returns-in-Some : goal.returns-in-Some
+returns-in-Some c =
+    let s3 = c.before.before in
     let a = s3.args in
-    c.with_number.ensures ∙ ap (λ (m : Line). with_number m s3.find_joint-j.result) c.with_word.ensures ∙ name-is a.l s3.next_word-w.result fault_no_joint _ c.if-j.false ∙ ap (of_named a.l _ fault_no_joint) s3.find_joint-j.ensures ∙ at_first a.text.now a.l (λ (u : Word). of_named a.l u fault_no_joint (find_joint a.text.now a.names.now a.joints u)) _ s3.next_word-w.ensures
+    c.with_number.ensures ∙ ap (λ (m : Line). with_number m c.in-Some.j) c.with_word.ensures ∙ name-is a.l _ fault_no_joint _ _ s3.in-Some.is ∙ ap (of_named a.l _ fault_no_joint) s3.find_joint.ensures ∙ at_first a.text.now a.l (λ (u : Word). of_named a.l u fault_no_joint (find_joint a.text.now a.names.now a.joints u)) _ s3.next_word-w.ensures

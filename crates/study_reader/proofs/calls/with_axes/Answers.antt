@@ -1,4 +1,4 @@
 use Rattle.study_reader.proofs.calls.with_axes.Goals as goal
 
 pub returns : goal.returns
-returns c = rw c.masks_with-r.ensures
+returns c = rw c.masks_with.ensures

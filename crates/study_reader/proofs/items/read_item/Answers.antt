@@ -17,23 +17,12 @@ returns-then-keyword-ge-SETTINGS c =
     let ik = b1 in
     rw (c.read_open.ensures, ← ik.item_keyword-keyword.ensures, ne_eqb _ _ b1.if-keyword-eq0.false, le-leb _ _ b2.if-keyword-ge-SETTINGS.true)
 
-pub returns-then-fault-ne0 : goal.returns-then-fault-ne0
+pub returns-in-Some : goal.returns-in-Some
 unfolding item_line or_fault
-returns-then-fault-ne0 c =
-    let kf = c.before in
-    let ko = kf.before in
-    let b2 = ko.before in
-    let b1 = b2.before in
-    let ik = b1 in
-    rw (← ik.item_keyword-keyword.ensures, ne_eqb _ _ b1.if-keyword-eq0.false, lt-leb _ _ b2.if-keyword-ge-SETTINGS.false, ← ko.kind_of.ensures, ← kf.kind_fault-fault.ensures, ne_eqb _ _ c.if-fault-ne0.true)
+returns-in-Some c =
+    rw (← c.item_keyword-keyword.ensures, ne_eqb _ _ c.if-keyword-eq0.false, lt-leb _ _ c.if-keyword-ge-SETTINGS.false, ← c.kind_of.ensures, ← c.kind_fault.ensures, c.in-Some.is)
 
 pub returns : goal.returns
 unfolding item_line or_fault
 returns c =
-    let b3 = c.before in
-    let kf = b3.before in
-    let ko = kf.before in
-    let b2 = ko.before in
-    let b1 = b2.before in
-    let ik = b1 in
-    rw (c.read_word.ensures, ← ik.item_keyword-keyword.ensures, ne_eqb _ _ b1.if-keyword-eq0.false, lt-leb _ _ b2.if-keyword-ge-SETTINGS.false, ← ko.kind_of.ensures, ← kf.kind_fault-fault.ensures, eq-eqb _ _ b3.if-fault-ne0.false)
+    rw (c.read_word.ensures, ← c.item_keyword-keyword.ensures, ne_eqb _ _ c.if-keyword-eq0.false, lt-leb _ _ c.if-keyword-ge-SETTINGS.false, ← c.kind_of.ensures, ← c.kind_fault.ensures, c.in_default.is)

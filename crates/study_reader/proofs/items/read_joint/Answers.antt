@@ -1,24 +1,15 @@
-use borrow.Author.Tests.{eq-eqb, ne_eqb, lt-ltb, le-ltb}
+use borrow.Author.Tests.{lt-ltb, le-ltb}
 use Rattle.study_reader.specs.Items.{joint_line, or_fault}
 use Rattle.study_reader.proofs.items.read_joint.Goals as goal
 
-pub returns-then-fault-ne0 : goal.returns-then-fault-ne0
+pub returns-in-Some : goal.returns-in-Some
 unfolding joint_line or_fault
-returns-then-fault-ne0 c = rw (← c.next_word-w.ensures, ← c.name_fault-fault.ensures, ne_eqb _ _ c.if-fault-ne0.true)
+returns-in-Some c = rw (← c.next_word-w.ensures, ← c.name_fault.ensures, c.in-Some.is)
 
 pub returns-then-st-lt-MOST : goal.returns-then-st-lt-MOST
 unfolding joint_line or_fault
-returns-then-st-lt-MOST c =
-    let b2 = c.before.before in
-    let b1 = b2.before.before in
-    let nf = b1.before in
-    let nw = nf in
-    rw (c.read_ends.ensures, ← nw.next_word-w.ensures, ← nf.name_fault-fault.ensures, eq-eqb _ _ b1.if-fault-ne0.false, lt-ltb _ _ b2.if-st-lt-MOST.true)
+returns-then-st-lt-MOST c = rw (c.read_ends.ensures, ← c.next_word-w.ensures, ← c.name_fault.ensures, c.in_default.is, lt-ltb _ _ c.if-st-lt-MOST.true)
 
 pub returns : goal.returns
 unfolding joint_line or_fault
-returns c =
-    let b1 = c.before.before in
-    let nf = b1.before in
-    let nw = nf in
-    rw (← nw.next_word-w.ensures, ← nf.name_fault-fault.ensures, eq-eqb _ _ b1.if-fault-ne0.false, le-ltb _ _ c.if-st-lt-MOST.false)
+returns c = rw (← c.next_word-w.ensures, ← c.name_fault.ensures, c.in_default.is, le-ltb _ _ c.if-st-lt-MOST.false)

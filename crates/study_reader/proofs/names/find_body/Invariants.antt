@@ -13,6 +13,3 @@ named text names w i = same_words text (body_name names i) w
 
 abbrev pub invariant-loop-i : goal.invariant-loop-i
 invariant-loop-i l = first_from (named l.text l.names l.w) l.i (l.bodies - l.i) ≡ first_from (named l.text l.names l.w) 0 l.bodies
-
-abbrev pub decreases-loop-i : goal.decreases-loop-i
-decreases-loop-i l = l.bodies - l.i

@@ -13,6 +13,3 @@ named text names w j = same_words text (joint_name names j) w
 
 abbrev pub invariant-loop-j : goal.invariant-loop-j
 invariant-loop-j l = first_from (named l.text l.names l.w) l.j (l.joints - l.j) ≡ first_from (named l.text l.names l.w) 0 l.joints
-
-abbrev pub decreases-loop-j : goal.decreases-loop-j
-decreases-loop-j l = l.joints - l.j

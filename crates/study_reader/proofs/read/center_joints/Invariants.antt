@@ -10,6 +10,3 @@ use Rattle.study_reader.proofs.read.center_joints.Given as goal
 abbrev pub invariant-loop-j : goal.invariant-loop-j
 invariant-loop-j l = (l.j ≤ l.joints) × (length l.numbers ≡ length l.initial.numbers) × (length l.words ≡ length l.initial.words)
     × ((st : State) (names : List ℕ) → center_joints l.j (l.joints - l.j) (draft st l.numbers l.origins l.words names) ≡ center_joints 0 l.joints (draft st l.initial.numbers l.origins l.initial.words names))
-
-abbrev pub decreases-loop-j : goal.decreases-loop-j
-decreases-loop-j l = l.joints - l.j

@@ -1,16 +1,16 @@
-use borrow.Author.Tests.{eq-eqb, ne_eqb, le-leb, lt-leb}
+use borrow.Author.Tests.{le-leb, lt-leb}
 use Rattle.study_reader.specs.Study.{line_read}
 use Rattle.study_reader.proofs.read.next_state.Goals as goal
 
-pub returns-then-st-ne0 : goal.returns-then-st-ne0
+pub returns-then-is_some : goal.returns-then-is_some
 unfolding line_read
-returns-then-st-ne0 c = rw (ne_eqb _ _ c.if-st-ne0.true)
+returns-then-is_some c = rw (← c.is_some.ensures, c.if-is_some.true)
 
 pub returns-then-text-st : goal.returns-then-text-st
 unfolding line_read
-returns-then-text-st c = rw (eq-eqb _ _ c.if-st-ne0.false, le-leb _ _ c.if-text-st.true)
+returns-then-text-st c = rw (← c.is_some.ensures, c.if-is_some.false, le-leb _ _ c.if-text-st.true)
 
 pub returns : goal.returns
 unfolding line_read
 returns c =
-    rw (eq-eqb _ _ c.if-st-ne0.false, lt-leb _ _ c.if-text-st.false, ← c.read_line-change.ensures, ← c.apply-after.ensures, c.reached.ensures, c.next_line.ensures)
+    rw (← c.is_some.ensures, c.if-is_some.false, lt-leb _ _ c.if-text-st.false, ← c.read_line-change.ensures, ← c.apply-after.ensures, c.reached.ensures, c.next_line.ensures)

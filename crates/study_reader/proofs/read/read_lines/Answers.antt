@@ -1,23 +1,25 @@
 use native.Mathlib.Omega.{arith}
-use mathlib.Core.Path.{sym, ◌∙◌, refl}
+use native.Mathlib.Nat.{sub-zero}
+use mathlib.Core.Path.{sym, ◌≡◌, ◌∙◌, refl}
+use Prim.Native.Nat.{◌+◌, ◌-◌}
+use lib.ListN.{length}
 use Rattle.study_reader.proofs.ReadLaws.{lines_step, lines-done}
 use Rattle.study_reader.proofs.read.read_lines.Goals as goal
 
-pub loop-lines-init : goal.loop-lines-init
-loop-lines-init c = (refl, refl, refl, refl, rw c.start-st.ensures)
+pub loop-init : goal.loop-init
+loop-init c = (refl, refl, refl, refl, rw (c.start-st.ensures, sub-zero))
 
-pub loop-lines-smaller : goal.loop-lines-smaller
-loop-lines-smaller c = omega arith
-
-pub loop-lines-preserved : goal.loop-lines-preserved
-loop-lines-preserved c = (
-  c.next_state-st.auto.numbers ∙ c.loop-lines.invariant.0,
-  c.next_state-st.auto.origins ∙ c.loop-lines.invariant.1,
-  c.next_state-st.auto.words ∙ c.loop-lines.invariant.2,
-  c.next_state-st.auto.names ∙ c.loop-lines.invariant.3,
-  rw c.next_state-st.ensures (sym (lines_step c.args.text.now c.loop-lines.lines _ c.loop-lines-test.true) ∙ c.loop-lines.invariant.4),
-)
+pub loop-preserved : goal.loop-preserved
+loop-preserved c =
+    let n = length c.args.text.now in
+    let e : n - (c.loop.counter + 1) ≡ n - c.loop.counter - 1 = omega arith in (
+      c.next_state-st.auto.numbers ∙ c.loop.invariant.0,
+      c.next_state-st.auto.origins ∙ c.loop.invariant.1,
+      c.next_state-st.auto.words ∙ c.loop.invariant.2,
+      c.next_state-st.auto.names ∙ c.loop.invariant.3,
+      rw (c.next_state-st.ensures, e) (sym (lines_step c.args.text.now (n - c.loop.counter) _ (omega arith)) ∙ c.loop.invariant.4),
+    )
 
 pub returns : goal.returns
 returns c =
-    sym (lines-done c.args.text.now c.loop-lines.lines _ c.loop-lines-test.false) ∙ c.loop-lines.invariant.4
+    sym (lines-done c.args.text.now (length c.args.text.now - c.loop.counter) _ (omega arith)) ∙ c.loop.invariant.4

@@ -1,8 +1,8 @@
 use mathlib.Core.Path.{refl, sym, ◌∙◌}
 use mathlib.Core.Bool.{not}
 use Prim.Native.Nat.{ℕ}
-use Rattle.study_reader.specs.Words.{ends_word}
-use Rattle.study_reader.proofs.WordLaws.{run_more, run-stop, run_end, open-test, shut-test}
+use Rattle.study_reader.specs.Words.{ends_word, after_bytes}
+use Rattle.study_reader.proofs.WordLaws.{past-end, run_more, run-stop, run_end, open-test, shut-test}
 use Rattle.study_reader.proofs.words.after_bytes.Goals as goal
 
 pub loop-at-init : goal.loop-at-init
@@ -21,4 +21,4 @@ loop-at-preserved c =
     run_more (λ (b : ℕ). not (ends_word b)) s6.args.text.now s3.loop-at.at s3.loop-at-test.true (open-test _ (sym c.ends_word.ensures ∙ c.if-ends_word.false)) ∙ s3.loop-at.invariant
 
 pub returns : goal.returns
-returns c = run_end (λ (b : ℕ). not (ends_word b)) c.args.text.now c.loop-at.at c.loop-at-test.false ∙ c.loop-at.invariant
+returns c = past-end c.args.text.now (after_bytes c.args.text.now) (λ k. run_end (λ b. not (ends_word b)) c.args.text.now k) c.args.from c.loop-at.at _ c.max.ensures c.loop-at.auto.at-end c.loop-at-test.false c.loop-at.invariant

@@ -1,12 +1,7 @@
 -- `after_quoted` meets its contract. The loop's invariant: where the quoted bytes end from `at` on they end from the start.
 use mathlib.Core.Path.{◌≡◌}
-use Prim.Native.Nat.{◌-◌}
-use lib.ListN.{length}
 use Rattle.study_reader.specs.Words.{after_quoted}
 use Rattle.study_reader.proofs.words.after_quoted.Given as goal
 
 abbrev pub invariant-loop-at : goal.invariant-loop-at
 invariant-loop-at l = after_quoted l.text l.at ≡ after_quoted l.text l.from
-
-abbrev pub decreases-loop-at : goal.decreases-loop-at
-decreases-loop-at l = length l.text - l.at

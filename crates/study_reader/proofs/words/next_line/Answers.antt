@@ -1,6 +1,6 @@
 use mathlib.Core.Path.{refl, ◌∙◌}
 use Rattle.study_reader.specs.Words.{next_line}
-use Rattle.study_reader.proofs.WordLaws.{line-more, line-stop, line-end}
+use Rattle.study_reader.proofs.WordLaws.{line-more, line-stop, past-end, line-end}
 use Rattle.study_reader.proofs.words.next_line.Goals as goal
 
 pub loop-at-init : goal.loop-at-init
@@ -16,4 +16,4 @@ loop-at-preserved c = line-more c.args.text.now c.loop-at.at c.loop-at-test.true
 
 pub returns : goal.returns
 unfolding next_line
-returns c = line-end c.args.text.now c.loop-at.at c.loop-at-test.false ∙ c.loop-at.invariant
+returns c = past-end c.args.text.now (next_line c.args.text.now) (λ k. line-end c.args.text.now k) c.args.from c.loop-at.at _ c.max.ensures c.loop-at.auto.at-end c.loop-at-test.false c.loop-at.invariant

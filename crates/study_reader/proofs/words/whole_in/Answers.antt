@@ -1,10 +1,11 @@
-use mathlib.Core.Path.{◌∙◌}
+use mathlib.Core.Path.{sym, ◌∙◌}
+use borrow.Author.Tests.{eqb-true}
 use Rattle.study_reader.proofs.WordLaws.{whole-empty, whole-some, whole-low, whole-high, whole-large, whole-digit, whole-end}
 use borrow.Author.Rules.{rules}
 use Rattle.study_reader.proofs.words.whole_in.Goals as goal
 
-pub returns-then-bytes-eq0 : goal.returns-then-bytes-eq0
-returns-then-bytes-eq0 c = whole-empty c.args.bytes.now c.if-bytes-eq0.true
+pub returns-then-is_empty : goal.returns-then-is_empty
+returns-then-is_empty c = whole-empty c.args.bytes.now (eqb-true _ _ (sym c.is_empty.ensures ∙ c.if-is_empty.true))
 
 pub loop-i-init : goal.loop-i-init
 loop-i-init c = (search rules, whole-some c.args.bytes.now (search rules))

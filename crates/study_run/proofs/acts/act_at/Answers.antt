@@ -12,4 +12,4 @@ returns c =
     let rc = c.before in
     let b1 = rc.before.before in
     let ie = b1.before in
-    rw (c.act_of.ensures, rc.read_call-l.ensures, rc.call_keyword-open.ensures, ← ie.next_word-w.ensures, ← ie.is_empty.ensures, b1.if-is_empty.false)
+    rw (c.act_of.ensures, rc.read_call.ensures, rc.call_keyword-open.ensures, ← ie.next_word-w.ensures, ← ie.is_empty.ensures, b1.if-is_empty.false)

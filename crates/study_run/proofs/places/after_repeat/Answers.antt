@@ -7,6 +7,6 @@ pub returns-then-turns-eq0 : goal.returns-then-turns-eq0
 unfolding after_repeat
 returns-then-turns-eq0 c = rw (c.moved.ensures, c.skip.ensures, c.next_line-next.ensures, eq-eqb _ _ c.if-turns-eq0.true)
 
-pub returns : goal.returns
+pub returns-else-turns-eq0 : goal.returns-else-turns-eq0
 unfolding after_repeat
-returns c = rw (c.repeating.ensures, c.next_line-next.ensures, ne_eqb _ _ c.if-turns-eq0.false)
+returns-else-turns-eq0 c = rw (c.repeating.ensures, c.next_line-next.ensures, ne_eqb _ _ c.if-turns-eq0.false)

@@ -1,8 +1,10 @@
 -- `run_remove_bias` meets its contract, by that of the call.
-use Rattle.study_run.proofs.RunLaws.{call-ran}
+use mathlib.Core.Path.{refl}
 use Rattle.frames.specs.Studies.{plain}
+use Rattle.multibody.specs.Calls.Answer.{granted}
 use Rattle.multibody.specs.Calls.Call.{remove_bias}
+use Rattle.study_run.proofs.RunLaws.{answered-ran}
 use Rattle.study_run.proofs.runs.run_remove_bias.Goals as goal
 
 pub returns : goal.returns
-returns c = rw c.plain_done.ensures (call-ran (plain remove_bias) _ c.remove_bias-answer.ensures)
+returns c = rw c.granted.ensures (answered-ran (λ a. granted) (λ a. refl) (plain remove_bias) _ c.remove_bias.result c.remove_bias.ensures)

@@ -3,8 +3,8 @@ use mathlib.Core.Path.{◌∙◌}
 use Rattle.study_run.proofs.SettledLaws.{joint-granted, joint-refused}
 use Rattle.study_run.proofs.settling.joint_settled.Goals as goal
 
-pub returns-in-Granted : goal.returns-in-Granted
-returns-in-Granted c = let rr = c in c.rows_settled.ensures ∙ joint-granted _ _ _ _ rr.read_rows-read.result rr.read_rows-read.ensures.rows_value c.in-Granted.is
+pub returns-in-Ok : goal.returns-in-Ok
+returns-in-Ok c = c.rows_settled.ensures ∙ joint-granted _ _ _ _ _ c.read_rows.ensures.rows_value c.in-Ok.is
 
-pub returns-in-Refused : goal.returns-in-Refused
-returns-in-Refused c = let rr = c in joint-refused _ _ _ _ rr.read_rows-read.result rr.read_rows-read.ensures.rows_value c.in-Refused.is
+pub returns-in-Err : goal.returns-in-Err
+returns-in-Err c = joint-refused _ _ _ _ _ c.read_rows.ensures.rows_value c.in-Err.is

@@ -8,6 +8,3 @@ use Rattle.study_run.proofs.settling.joints_settled.Given as goal
 abbrev pub invariant-loop-j : goal.invariant-loop-j
 invariant-loop-j l =
     joints_settled l.tolerance (model_of l.header l.bodies l.words l.numbers) l.rows l.j (l.joints - l.j) ≡ joints_settled l.tolerance (model_of l.header l.bodies l.words l.numbers) l.rows 0 l.joints
-
-abbrev pub decreases-loop-j : goal.decreases-loop-j
-decreases-loop-j l = l.joints - l.j

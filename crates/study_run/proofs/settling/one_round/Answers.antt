@@ -8,5 +8,4 @@ use Rattle.study_run.proofs.settling.one_round.Goals as goal
 
 pub returns : goal.returns
 returns c =
-    let sw = c in
-    rw c.kept.ensures (ap (λ (x : Ran). x.left) (counted_ran (plain (sweep 1)) 1 _ c.args.motors _ sw.sweep-swept.result (λ x. refl) sw.sweep-swept.ensures.rows_after sw.sweep-swept.ensures.value))
+    rw (c.kept.ensures, c.found.ensures) (ap (λ (x : Ran). x.left) (counted_ran (plain (sweep 1)) 1 _ c.args.motors _ c.sweep.result (λ x. refl) c.sweep.ensures.rows_after c.sweep.ensures.filled))

@@ -1,5 +1,5 @@
 -- `rows_settled` meets its contract. Before turn k, the rows from k on decide.
-use Prim.Native.Nat.{◌-◌, ◌≤◌}
+use Prim.Native.Nat.{◌≤◌}
 use mathlib.Core.Path.{◌≡◌}
 use lib.ListN.{length, drop}
 use Rattle.rows.specs.Reaction.{rows_in}
@@ -8,7 +8,4 @@ use Rattle.study_run.proofs.settling.rows_settled.Given as goal
 
 abbrev pub invariant-loop-k : goal.invariant-loop-k
 invariant-loop-k l =
-    (l.k ≤ l.n) × (l.n ≤ 6) × (l.n ≡ length (rows_in l.made)) × (rows_settled l.tolerance l.bodies l.words l.joint (drop l.k (rows_in l.made)) ≡ rows_settled l.tolerance l.bodies l.words l.joint (rows_in l.made))
-
-abbrev pub decreases-loop-k : goal.decreases-loop-k
-decreases-loop-k l = l.n - l.k
+    (l.n ≤ 6) × (l.n ≡ length (rows_in l.made)) × (rows_settled l.tolerance l.bodies l.words l.joint (drop l.k (rows_in l.made)) ≡ rows_settled l.tolerance l.bodies l.words l.joint (rows_in l.made))

@@ -18,4 +18,4 @@ loop-many-preserved c =
     )
 
 pub returns : goal.returns
-returns c = sym (rounds-done _ _ _ _ _ c.loop-many-test.false) ∙ c.loop-many.invariant.2
+returns c = sym (rounds-done _ _ _ _ _ c.loop-many.auto.many-end c.loop-many-test.false) ∙ c.loop-many.invariant.2

@@ -10,6 +10,3 @@ abbrev pub invariant-loop-many : goal.invariant-loop-many
 invariant-loop-many l =
     (length l.bodies ≡ length l.initial.bodies) × (length l.rows ≡ length l.initial.rows)
     × (rounds_from l.joints l.tolerance (l.most - l.many) l.many (study_of l.header l.found l.bodies l.words l.numbers l.rows) ≡ rounds_from l.joints l.tolerance l.most 0 (study_of l.header l.initial.found l.initial.bodies l.words l.numbers l.initial.rows))
-
-abbrev pub decreases-loop-many : goal.decreases-loop-many
-decreases-loop-many l = l.most - l.many

@@ -4,5 +4,5 @@ use Rattle.study_run.proofs.settling.size.Goals as goal
 pub returns-then-x : goal.returns-then-x
 returns-then-x c = rw c.if-x.true
 
-pub returns : goal.returns
-returns c = rw c.if-x.false
+pub returns-else-x : goal.returns-else-x
+returns-else-x c = rw c.if-x.false

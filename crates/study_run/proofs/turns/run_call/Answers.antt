@@ -48,12 +48,12 @@ returns-in-SetTargets c = rw c.in-SetTargets.is
 
 pub returns-in-ReadRows : goal.returns-in-ReadRows
 unfolding run_call
-returns-in-ReadRows c = rw (c.in-ReadRows.is, c.rows_reply-reply.ensures)
+returns-in-ReadRows c = rw (c.in-ReadRows.is, c.rows_reply.ensures)
 
 pub returns-in-ReadVelocity : goal.returns-in-ReadVelocity
 unfolding run_call
-returns-in-ReadVelocity c = rw (c.in-ReadVelocity.is, c.velocity_reply-reply.ensures)
+returns-in-ReadVelocity c = rw (c.in-ReadVelocity.is, c.velocity_reply.ensures)
 
 pub returns-in-Table : goal.returns-in-Table
 unfolding run_call
-returns-in-Table c = rw (c.in-Table.is, c.table_reply-reply.ensures)
+returns-in-Table c = rw (c.in-Table.is, c.table_reply.ensures)

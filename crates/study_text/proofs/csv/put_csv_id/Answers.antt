@@ -7,4 +7,4 @@ use Rattle.study_text.proofs.csv.put_csv_id.Goals as goal
 
 pub returns : goal.returns
 unfolding csv_id field
-returns c = appended_then (appended_then c.put_id-a.ensures c.put_byte-b.ensures) (appended-text (ap (λ (i : ℕ). field (unit_of i)) c.axis_of-axis.ensures) c.put_unit.ensures)
+returns c = appended_then (appended_then c.put_id-a.ensures c.put_byte-b.ensures) (appended-text (ap (λ (i : ℕ). field (unit_of i)) c.axis_of.ensures) c.put_unit.ensures)

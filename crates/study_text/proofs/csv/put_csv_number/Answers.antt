@@ -8,4 +8,4 @@ use Rattle.study_text.proofs.csv.put_csv_number.Goals as goal
 
 pub returns : goal.returns
 unfolding csv_number field
-returns c = appended_then (appended_then (appended_then c.put_millionths-a.ensures c.put_byte-b.ensures) (appended_then c.put_spelled-c.ensures c.put_byte-d.ensures)) (appended-text (ap field (c.hex_word-bits.ensures ∙ ap (hex_word false) c.to_bits.ensures)) c.put_field.ensures)
+returns c = appended_then (appended_then (appended_then c.put_millionths-a.ensures c.put_byte-b.ensures) (appended_then c.put_spelled-c.ensures c.put_byte-d.ensures)) (appended-text (ap field (c.hex_word.ensures ∙ ap (hex_word false) c.to_bits.ensures)) c.put_field.ensures)

@@ -7,4 +7,4 @@ use Rattle.study_text.proofs.csv.put_csv_row.Goals as goal
 
 pub returns : goal.returns
 unfolding csv_text
-returns c = let a = c.args in appended_then c.put_csv_names-a.ensures (appended-text (ap (λ (rule : Rule). csv_values a.id rule a.impulse a.low a.high a.residual) c.rule_of-rule.ensures) c.put_csv_values.ensures)
+returns c = let a = c.args in appended_then c.put_csv_names-a.ensures (appended-text (ap (λ (rule : Rule). csv_values a.id rule a.impulse a.low a.high a.residual) c.rule_of.ensures) c.put_csv_values.ensures)

@@ -7,4 +7,4 @@ use Rattle.study_text.proofs.csv_reaction.put_csv_turned.Goals as goal
 
 pub returns : goal.returns
 unfolding csv_turned field
-returns c = appended_then (appended_then c.put_csv_number-a.ensures (appended-text (ap field c.motors_digit-digit.ensures) (appended_then c.put_byte-b.ensures c.put_byte-c.ensures))) c.put_text.ensures
+returns c = appended_then (appended_then c.put_csv_number-a.ensures (appended-text (ap field c.motors_digit.ensures) (appended_then c.put_byte-b.ensures c.put_byte-c.ensures))) c.put_text.ensures

@@ -1,22 +1,26 @@
 -- `put_over` meets its contract.
-use mathlib.Core.Path.{sym, ap, ◌∙◌}
+use Rattle.std.proofs.Common.{sym, ap, ◌∙◌, inl, inr}
 use Rattle.texts.proofs.SinkLaws.{appended-text}
 use Rattle.floats.specs.declared.bits.Parts.TheVariants.{Infinite}
 use Rattle.study_text.proofs.NumberLaws.{over-parts, over-by-parts}
 use Rattle.study_text.proofs.number.put_over.Goals as goal
 
-pub returns-then-negative : goal.returns-then-negative
+pub returns-in-Infinite-true : goal.returns-in-Infinite-true
 unfolding over-parts
-returns-then-negative c = appended-text (sym (ap (λ s. over-parts (Infinite s)) c.if-negative.true) ∙ ap over-parts (sym c.in-Infinite.is ∙ c.parts_of-parts.ensures) ∙ over-by-parts _) c.put_text.ensures
+returns-in-Infinite-true c =
+    let i = c.in-Infinite-true in
+    appended-text (ap over-parts (sym (i.is ∙ ap Infinite i.field-0-test) ∙ c.parts_of.ensures) ∙ over-by-parts _) c.put_text.ensures
 
-pub returns-else-negative : goal.returns-else-negative
+pub returns-in-Infinite-false : goal.returns-in-Infinite-false
 unfolding over-parts
-returns-else-negative c = appended-text (sym (ap (λ s. over-parts (Infinite s)) c.if-negative.false) ∙ ap over-parts (sym c.in-Infinite.is ∙ c.parts_of-parts.ensures) ∙ over-by-parts _) c.put_text-in-Infinite.ensures
+returns-in-Infinite-false c =
+    let i = c.in-Infinite-false in
+    appended-text (ap over-parts (sym (i.is ∙ ap Infinite i.field-0-test) ∙ c.parts_of.ensures) ∙ over-by-parts _) c.put_text-in-Infinite-false.ensures
 
 pub returns-in-Finite : goal.returns-in-Finite
 unfolding over-parts
-returns-in-Finite c = appended-text (ap over-parts (sym c.in-Finite.is ∙ c.parts_of-parts.ensures) ∙ over-by-parts _) c.put_text-in-Finite.ensures
-
-pub returns-in-Nan : goal.returns-in-Nan
-unfolding over-parts
-returns-in-Nan c = appended-text (ap over-parts (sym c.in-Nan.is ∙ c.parts_of-parts.ensures) ∙ over-by-parts _) c.put_text-in-Nan.ensures
+returns-in-Finite c =
+    elim c.in-Finite.is [
+      | inl w ↦ appended-text (ap over-parts (sym w.3 ∙ c.parts_of.ensures) ∙ over-by-parts _) c.put_text-in-Finite.ensures
+      | inr e ↦ appended-text (ap over-parts (sym e ∙ c.parts_of.ensures) ∙ over-by-parts _) c.put_text-in-Finite.ensures
+    ]

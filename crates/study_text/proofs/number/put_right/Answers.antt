@@ -9,4 +9,4 @@ use Rattle.study_text.proofs.number.put_right.Goals as goal
 
 pub returns : goal.returns
 unfolding right_column
-returns c = appended_then (appended_then (appended-text (ap (λ (n : ℕ). replicate n SPACE) c.blanks_before-n.ensures) c.put_blanks-a.ensures) c.put_text-b.ensures) c.put_byte.ensures
+returns c = appended_then (appended_then (appended-text (ap (λ (n : ℕ). replicate n SPACE) c.blanks_before.ensures) c.put_blanks-a.ensures) c.put_text-b.ensures) c.put_byte.ensures

@@ -7,4 +7,4 @@ use Rattle.study_text.proofs.reaction.put_turned.Goals as goal
 
 pub returns : goal.returns
 unfolding turned_text column
-returns c = appended_then (appended_then c.put_number_column-a.ensures (appended-text (ap (column 6) c.motors_digit-digit.ensures) (appended_then c.put_byte-b.ensures c.put_text-c.ensures))) c.put_text.ensures
+returns c = appended_then (appended_then c.put_number_column-a.ensures (appended-text (ap (column 6) c.motors_digit.ensures) (appended_then c.put_byte-b.ensures c.put_text-c.ensures))) c.put_text.ensures

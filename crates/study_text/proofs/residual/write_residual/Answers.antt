@@ -6,5 +6,5 @@ use Rattle.study_text.proofs.residual.write_residual.Goals as goal
 pub returns-then-has_room : goal.returns-then-has_room
 returns-then-has_room c = wrote-there c.put_residual-len.ensures _ (sym c.has_room.ensures ∙ c.if-has_room.true) c.put_residual.ensures
 
-pub returns : goal.returns
-returns c = wrote_nothing c.put_residual-len.ensures _ (sym c.has_room.ensures ∙ c.if-has_room.false) c.length_to.ensures
+pub returns-else-has_room : goal.returns-else-has_room
+returns-else-has_room c = wrote_nothing c.put_residual-len.ensures _ (sym c.has_room.ensures ∙ c.if-has_room.false) c.length_to.ensures

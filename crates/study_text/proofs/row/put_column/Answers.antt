@@ -9,4 +9,4 @@ use Rattle.study_text.proofs.WordsLaws.{column-blanks}
 use Rattle.study_text.proofs.row.put_column.Goals as goal
 
 pub returns : goal.returns
-returns c = appended-text (ap (λ (n : ℕ). c.args.text.now ++ replicate n SPACE) c.blanks_after-n.ensures ∙ column-blanks _ _) (appended_then c.put_text-end.ensures c.put_blanks.ensures)
+returns c = appended-text (ap (λ (n : ℕ). c.args.text.now ++ replicate n SPACE) c.blanks_after.ensures ∙ column-blanks _ _) (appended_then c.put_text-end.ensures c.put_blanks.ensures)

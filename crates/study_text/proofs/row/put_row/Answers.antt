@@ -6,4 +6,4 @@ use Rattle.study_text.proofs.row.put_row.Goals as goal
 
 pub returns : goal.returns
 unfolding row_text line_with
-returns c = appended_then (appended_then c.put_names-a.ensures c.put_values-b.ensures) (appended-text (ap rule_text c.rule_of-rule.ensures) c.put_rule.ensures)
+returns c = appended_then (appended_then c.put_names-a.ensures c.put_values-b.ensures) (appended-text (ap rule_text c.rule_of.ensures) c.put_rule.ensures)

@@ -1,5 +1,6 @@
 -- `put_values` meets its contract.
 use mathlib.Core.Path.{ap}
+use Rattle.std.specs.Prelude.{Option}
 use Rattle.texts.proofs.SinkLaws.{appended_then, appended-text}
 use Rattle.study_text.specs.Words.{bound_text}
 use Rattle.study_text.specs.Row.{column, standing_text, values_text}
@@ -8,4 +9,4 @@ use Rattle.study_text.proofs.row.put_values.Goals as goal
 
 pub returns : goal.returns
 unfolding values_text standing_text
-returns c = appended_then (appended_then c.put_id_column-a.ensures c.put_numbers-b.ensures) (appended_then c.put_right_spelled-c.ensures (appended-text (ap (λ (b : Bound). column 4 (bound_text b)) c.bound_of-bound.ensures) c.put_bound.ensures))
+returns c = appended_then (appended_then c.put_id_column-a.ensures c.put_numbers-b.ensures) (appended_then c.put_right_spelled-c.ensures (appended-text (ap (λ (b : Option Bound). column 4 (bound_text b)) c.bound_of.ensures) c.put_bound.ensures))

@@ -1,6 +1,6 @@
 -- `put_bound` meets its contract.
-use Rattle.study_text.proofs.WordsLaws.{bound-entry}
+use Rattle.texts.proofs.SinkLaws.{appended-text}
 use Rattle.study_text.proofs.words.put_bound.Goals as goal
 
 pub returns : goal.returns
-returns c = bound-entry c.args.bound _ c.bound_index-index.ensures c.put_entry.ensures
+returns c = appended-text c.bound_column.ensures c.put_text.ensures

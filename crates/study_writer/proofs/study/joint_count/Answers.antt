@@ -1,12 +1,9 @@
 -- `joint_count` meets its contract.
-use borrow.Author.Tests.{lt-ltb, le-ltb}
+use mathlib.Core.Path.{◌∙◌}
 use Rattle.multibody.specs.Counts.{joint_count}
+use Rattle.study_writer.proofs.WriteLaws.{least}
 use Rattle.study_writer.proofs.study.joint_count.Goals as goal
-
-pub returns-then-a-b : goal.returns-then-a-b
-unfolding joint_count
-returns-then-a-b c = rw (lt-ltb _ _ c.if-a-b.true)
 
 pub returns : goal.returns
 unfolding joint_count
-returns c = rw (le-ltb _ _ c.if-a-b.false)
+returns c = c.min.ensures ∙ least _ _

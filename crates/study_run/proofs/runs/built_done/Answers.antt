@@ -1,8 +1,0 @@
--- `built_done` meets its contract, by cases of the answer.
-use Rattle.study_run.proofs.runs.built_done.Goals as goal
-
-pub returns-in-Built : goal.returns-in-Built
-returns-in-Built c = rw c.in-Built.is
-
-pub returns-in-Refused : goal.returns-in-Refused
-returns-in-Refused c = rw c.in-Refused.is
