@@ -7,21 +7,20 @@ use borrow.Author.Tests.{lt-leb, le-leb}
 use lib.Dec.{leb}
 use lib.ListN.{length}
 use lib.Ieee.{Float}
-use Rattle.model.specs.declared.header.Header.{Header}
+use Rattle.std.specs.Prelude.{Option, Some, None}
 use Rattle.seeded.specs.Left.{Left, left, seeded_of}
-use Rattle.seeded.specs.declared.seeded.SeededAnswer.{SeededAnswer}
-use Rattle.seeded.specs.declared.seeded.SeededAnswer.TheVariants.{Seeded, TooShort}
+use Rattle.seeded.specs.declared.seeded.SeededModel.{SeededModel}
 use Rattle.capi.specs.Stored.{put_three}
 use Rattle.capi.specs.SeedExports.{seeded_number, settings_out, seeded_at}
 
 -- ---- a model is drawn
 
-pub answer-told : {a : SeededAnswer} {h : Header} {n j : ℕ} → a ≡ Seeded h n j → 4294967296 + 65536 * n + j ≡ seeded_number a
+pub answer-told : {a : Option SeededModel} {d : SeededModel} → a ≡ Some d → 4294967296 + 65536 * d.bodies + d.joints ≡ seeded_number a
 answer-told e = ap seeded_number (sym e)
 
-pub settings-told : {a : SeededAnswer} {h : Header} {n j : ℕ} (s : List Float) {out : List Float} → a ≡ Seeded h n j
-    → out ≡ put_three s 0 h.params.dt h.params.length_unit h.params.normalized_max_corrective_velocity → out ≡ settings_out a s
-settings-told s e o = o ∙ ap (λ (a : SeededAnswer). settings_out a s) (sym e)
+pub settings-told : {a : Option SeededModel} {d : SeededModel} (s : List Float) {out : List Float} → a ≡ Some d
+    → out ≡ put_three s 0 d.header.params.dt d.header.params.length_unit d.header.params.normalized_max_corrective_velocity → out ≡ settings_out a s
+settings-told s e o = o ∙ ap (λ (a : Option SeededModel). settings_out a s) (sym e)
 
 -- ---- the exported call: its answer, and each of its slices
 
@@ -33,7 +32,7 @@ pub record Drawn (seed : ℕ) (st b : List Float) (w : List ℕ) (n : List Float
   pub numbers : n' ≡ (seeded_at seed st b w n).numbers
 
 module _ (seed : ℕ) (st b : List Float) (w : List ℕ) (n : List Float) where
-  short-at : length st < 3 → left TooShort b w n ≡ seeded_at seed st b w n
+  short-at : length st < 3 → left None b w n ≡ seeded_at seed st b w n
   unfolding seeded_at
   short-at h =
       let e : leb 3 (length st) ≡ false = lt-leb _ _ h in
@@ -56,7 +55,7 @@ module _ (seed : ℕ) (st b : List Float) (w : List ℕ) (n : List Float) where
         numbers = ap (λ (l : Left). l.numbers) e;
       }
 
-  pub room-drawn : {r : SeededAnswer} {k : ℕ} {st' b' : List Float} {w' : List ℕ} {n' : List Float} → 3 ≤ length st → left r b' w' n' ≡ seeded_of seed b w n
+  pub room-drawn : {r : Option SeededModel} {k : ℕ} {st' b' : List Float} {w' : List ℕ} {n' : List Float} → 3 ≤ length st → left r b' w' n' ≡ seeded_of seed b w n
       → k ≡ seeded_number r → st' ≡ settings_out r st → Drawn seed st b w n k st' b' w' n'
   room-drawn h d told settings =
       let e = d ∙ room_at h in

@@ -14,28 +14,29 @@ use Rattle.motor_table.specs.Text.{written_answer, text_of}
 use Rattle.capi.specs.TableExports.{refused_number, table_number, written_number, number_word, words_after}
 use Rattle.motor_table.specs.declared.whole_number.Number.{Number}
 use Rattle.motor_table.specs.declared.record.Entry.{Entry}
-use Rattle.motor_table.specs.declared.table.TableAnswer.{TableAnswer}
-use Rattle.motor_table.specs.declared.text.Written.{Written}
+use Rattle.motor_table.specs.Refusals.{refusal_number}
+use Rattle.motor_table.specs.declared.refusal.TableRefusal.{TableRefusal}
+use Rattle.std.specs.Prelude.{Ok, Err}
 
-pub read_count : (t : Table) (n : ℕ) → table_answer 0 t ≡ TableAnswer.Granted n → n ≡ table_number t
+pub read_count : (t : Table) (n : ℕ) → table_answer 0 t ≡ Ok n → n ≡ table_number t
 unfolding table_answer table_number
 read_count (granted es) n h = let e : 0 + length es ≡ n = cc in sym e ∙ zero-add (length es)
 read_count (refused k) n h = cc
 
-pub read-refused : (t : Table) (k : ℕ) → table_answer 0 t ≡ TableAnswer.Refused k → refused_number k ≡ table_number t
+pub read-refused : (t : Table) (k : TableRefusal) → table_answer 0 t ≡ Err k → refused_number (refusal_number k) ≡ table_number t
 unfolding table_answer table_number
 read-refused (granted es) k h = cc
-read-refused (refused j) k h = let e : j ≡ k = cc in ap refused_number (sym e)
+read-refused (refused j) k h = let e : j ≡ k = cc in ap (λ r. refused_number (refusal_number r)) (sym e)
 
-pub written-length : (t : Table) (n : ℕ) → written_answer 0 t ≡ Written.Length n → n ≡ written_number t
+pub written-length : (t : Table) (n : ℕ) → written_answer 0 t ≡ Ok n → n ≡ written_number t
 unfolding written_answer written_number
 written-length (granted es) n h = let e : 0 + length (text_of es) ≡ n = cc in sym e ∙ zero-add (length (text_of es))
 written-length (refused k) n h = cc
 
-pub written-refused : (t : Table) (k : ℕ) → written_answer 0 t ≡ Written.Refused k → refused_number k ≡ written_number t
+pub written-refused : (t : Table) (k : TableRefusal) → written_answer 0 t ≡ Err k → refused_number (refusal_number k) ≡ written_number t
 unfolding written_answer written_number
 written-refused (granted es) k h = cc
-written-refused (refused j) k h = let e : j ≡ k = cc in ap refused_number (sym e)
+written-refused (refused j) k h = let e : j ≡ k = cc in ap (λ r. refused_number (refusal_number r)) (sym e)
 
 word : (n : Number) (a b : Bool) → n.negative ≡ a → ltb 0 n.size ≡ b → number_word n ≡ cond (a && b) (2 ^ 32 - n.size) n.size
 unfolding number_word

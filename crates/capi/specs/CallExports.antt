@@ -1,10 +1,8 @@
 -- The exported calls of the model: a header from its numbers, an answer as a number, and what is stored of a row read and of a velocity read.
-use Rattle.std.specs.Prelude.{ℕ, ◌+◌, ◌%◌, Bool, true, false, not, cond, ◌&&◌, List, [], ◌∷◌, ◌++◌, leb, eqb, length, drop, Float}
+use Rattle.std.specs.Prelude.{ℕ, ◌+◌, ◌%◌, Bool, true, false, not, cond, ◌&&◌, List, [], ◌∷◌, ◌++◌, leb, eqb, length, drop, Float, Option, Some, None, Result, Ok, Err}
 use Rattle.floats.specs.declared.pose.Pose.{Pose}
 use Rattle.rows.specs.declared.generic_joint.Masks.{Masks}
 use Rattle.rows.specs.declared.integration_parameters.IntegrationParameters.{IntegrationParameters}
-use Rattle.rows.specs.declared.joint_constraint_builder.Warmstart.{Warmstart}
-use Rattle.rows.specs.declared.joint_constraint_builder.Warmstart.TheVariants.{Cold, Warm}
 use Rattle.rows.specs.declared.joint_velocity_constraint.SolverVel.{SolverVel}
 use Rattle.rows.specs.declared.joint_velocity_constraint.Rows.{Rows}
 use Rattle.rows.specs.declared.row_ids.RowIds.{RowIds}
@@ -16,11 +14,11 @@ use Rattle.multibody.specs.Calls.Answer.{granted, total, rows_read, velocity_rea
 use Rattle.multibody.specs.Calls.Call.{sweep, read_rows}
 use Rattle.model.specs.Planar.{plane, planar}
 use Rattle.model.specs.Model.{model_of}
-use Rattle.model.specs.Answers.{rows_answer_of, sweep_answer_of}
-use Rattle.model.specs.declared.header.Header.{Header}
-use Rattle.model.specs.declared.calls.Plain.{Plain}
-use Rattle.model.specs.declared.calls.RowsAnswer.{RowsAnswer}
-use Rattle.model.specs.declared.calls.SweepAnswer.{SweepAnswer}
+use Rattle.rows.specs.RowIds.{row_ids_array, filled}
+use Rattle.rows.specs.Update.{rows_array}
+use Rattle.multibody.specs.Answers.{refusal_number}
+use Rattle.multibody.specs.declared.header.Header.{Header}
+use Rattle.multibody.specs.declared.refusal.Refusal.{Refusal}
 use Rattle.capi.specs.Stored.{put_three, put_first, put_ids}
 
 -- ---- what is handed over
@@ -49,8 +47,8 @@ pose_from re im x y = record { rotation = record { re = re; im = im }; translati
 abbrev pub masks_from : ℕ → ℕ → ℕ → ℕ → Masks
 masks_from locked limit motor coupled = record { locked_axes = locked; limit_axes = limit; motor_axes = motor; coupled_axes = coupled }
 
-abbrev pub warm_of : ℕ → Float → Warmstart
-warm_of warm coefficient = cond (flag warm) (Warm coefficient) Cold
+abbrev pub warm_of : ℕ → Float → Option Float
+warm_of warm coefficient = cond (flag warm) (Some coefficient) None
 
 -- ---- answers as numbers
 
@@ -77,6 +75,15 @@ marked (velocity_read v) built = 0
 marked (swept counts) built = 0
 marked (refused k) built = k
 
+-- what a load, and a build, come to in that number, by what the program answers (`load-marked`, `build-marked` in proofs/CallExportsLaws.antt)
+abbrev pub loaded_number : Result Header Refusal → ℕ
+loaded_number (Ok h) = cond h.built 100 0
+loaded_number (Err e) = refusal_number e
+
+abbrev pub built_number : Result (Header × ℕ) Refusal → ℕ
+built_number (Ok b) = cond b.0.built (rows_granted b.1) (8589934592 + b.1 % 4294967296)
+built_number (Err e) = refusal_number e
+
 abbrev pub marked_number : {store : Store} → Outcome store → ℕ
 marked_number o = marked o.answer o.after.built
 
@@ -86,19 +93,29 @@ short_slice = 1000
 
 -- ---- a joint's rows and ids, stored
 
-abbrev pub rows_read_at : ℕ → Model → List Float → RowsAnswer
-rows_read_at joint m rows = rows_answer_of (row_masks_at plane m.words joint) (run planar (read_rows joint) m rows).answer
+-- a row read's ids and rows in the arrays that the program has them in, of a joint with these masks; or the number of the refusal
+abbrev pub rows_given : Masks → Answer plane → Result (RowIds × Rows) ℕ
+rows_given masks (rows_read ids rows) = Ok (row_ids_array masks, rows_array rows)
+rows_given masks (refused k) = Err k
+-- a row read answers none of these
+rows_given masks granted = Err 0
+rows_given masks (total n) = Err 0
+rows_given masks (velocity_read v) = Err 0
+rows_given masks (swept counts) = Err 0
 
-abbrev pub rows_granted_or : Plain → ℕ → Bool → ℕ
-rows_granted_or Plain.Granted n stored = cond stored (rows_granted n) short_slice
-rows_granted_or (Plain.Refused k) n stored = k
+abbrev pub rows_read_at : ℕ → Model → List Float → Result (RowIds × Rows) ℕ
+rows_read_at joint m rows = rows_given (row_masks_at plane m.words joint) (run planar (read_rows joint) m rows).answer
+
+abbrev pub rows_granted_or : ℕ → Bool → ℕ
+rows_granted_or n stored = cond stored (rows_granted n) short_slice
 
 -- there is room for six rows and six ids, however many a joint has
 unfoldable pub room_for_rows : List Float → List ℕ → Bool
 room_for_rows out ids = leb 108 (length out) && leb 6 (length ids)
 
-abbrev pub rows_number : RowsAnswer → List Float → List ℕ → ℕ
-rows_number r out ids = rows_granted_or r.answer r.rows.len (room_for_rows out ids)
+abbrev pub rows_number : Result (RowIds × Rows) ℕ → List Float → List ℕ → ℕ
+rows_number (Ok r) out ids = rows_granted_or r.1.len (room_for_rows out ids)
+rows_number (Err k) out ids = k
 
 unfoldable pub rows_if_room : Rows → List Float → List ℕ → List Float
 rows_if_room made out ids = cond (room_for_rows out ids) (put_first out made) out
@@ -106,24 +123,28 @@ rows_if_room made out ids = cond (room_for_rows out ids) (put_first out made) ou
 unfoldable pub ids_if_room : RowIds → List Float → List ℕ → List ℕ
 ids_if_room named out ids = cond (room_for_rows out ids) (put_ids ids named) ids
 
-abbrev pub rows_out : RowsAnswer → List Float → List ℕ → List Float
-rows_out r out ids = rows_if_room r.rows out ids
+abbrev pub rows_out : Result (RowIds × Rows) ℕ → List Float → List ℕ → List Float
+rows_out (Ok r) out ids = rows_if_room r.1 out ids
+rows_out (Err k) out ids = out
 
-abbrev pub ids_out : RowsAnswer → List Float → List ℕ → List ℕ
-ids_out r out ids = ids_if_room r.ids out ids
+abbrev pub ids_out : Result (RowIds × Rows) ℕ → List Float → List ℕ → List ℕ
+ids_out (Ok r) out ids = ids_if_room r.0 out ids
+ids_out (Err k) out ids = ids
 
 -- ---- a sweep's counts, stored
 
-abbrev pub swept_at : ℕ → Model → List Float → SweepAnswer
-swept_at n m rows = sweep_answer_of (run planar (sweep n) m rows).answer
+abbrev pub swept_at : ℕ → Model → List Float → Answer plane
+swept_at n m rows = (run planar (sweep n) m rows).answer
 
 -- all 128 where it is granted, and nothing where it is refused
-abbrev pub counts_if : Plain → List ℕ → List ℕ → List ℕ
-counts_if Plain.Granted counts out = counts ++ drop 128 out
-counts_if (Plain.Refused k) counts out = out
-
-abbrev pub counts_out : SweepAnswer → List ℕ → List ℕ
-counts_out r out = counts_if r.answer r.counts out
+abbrev pub counts_out : {store : Store} → Answer store → List ℕ → List ℕ
+counts_out (swept counts) out = filled 128 0 counts ++ drop 128 out
+counts_out (refused k) out = out
+-- a sweep answers none of these
+counts_out granted out = out
+counts_out (total n) out = out
+counts_out (rows_read ids rows) out = out
+counts_out (velocity_read v) out = out
 
 -- where fewer than 128 bytes are lent for them, nothing is done
 abbrev pub room_for_counts : List ℕ → Bool

@@ -2,9 +2,8 @@
 use Rattle.std.specs.Prelude.{ℕ, List}
 use Rattle.multibody.specs.Calls.{Answer}
 use Rattle.model.specs.Planar.{plane}
-use Rattle.model.specs.Answers.{sweep_answer_of}
 use Rattle.capi.specs.CallExports.{counts_out}
 
 -- all 128 of the last sweep where it is granted, and nothing where it is refused
 abbrev pub frame_counts_out : Answer plane → List ℕ → List ℕ
-frame_counts_out a out = counts_out (sweep_answer_of a) out
+frame_counts_out a out = counts_out a out

@@ -8,22 +8,21 @@ ghost use Rattle.std.specs.Prelude.{◌≡◌, [], ◌++◌, cond, ◌≤◌, le
 ghost use Rattle.multibody.specs.Calls.{run};
 ghost use Rattle.multibody.specs.Calls.Call.{load, place, build, warm_start, sweep, remove_bias, write_back, read_rows, read_velocity, set_masks, further};
 ghost use Rattle.model.specs.Planar.{planar};
-ghost use Rattle.model.specs.Answers.{plain_answer, load_answer, load_header, build_answer, build_header};
-ghost use Rattle.model.specs.declared.header.Header.{Header};
-ghost use Rattle.capi.specs.CallExports.{flag, header_of, lent, pose_from, masks_from, warm_of, number, marked, marked_number, rows_read_at, rows_granted_or, rows_number, rows_out, ids_out, room_for_rows, rows_if_room, ids_if_room, short_slice, swept_at, counts_out, room_for_counts, room_for_velocity, velocity_number, put_velocity, velocity_out};
+ghost use Rattle.multibody.specs.Answers.{refused_number};
+ghost use Rattle.capi.specs.CallExports.{flag, header_of, lent, pose_from, masks_from, warm_of, number, loaded_number, built_number, marked_number, rows_read_at, rows_granted_or, rows_number, rows_out, ids_out, room_for_rows, rows_if_room, ids_if_room, short_slice, swept_at, counts_out, room_for_counts, room_for_velocity, velocity_number, put_velocity, velocity_out};
 
 use crate::stored::{put_first, put_ids, put_three};
 use floats::pose::Pose;
 use floats::rotation_ops::Rotation;
 use floats::vector::Vector;
 use model::calls::{
-    BuildAnswer, LoadAnswer, Plain, VelocityAnswer, build, load, place, read_rows, read_velocity,
-    remove_bias, set_masks, set_targets, sweep, warm_start, write_back,
+    build, load, place, read_rows, read_velocity, remove_bias, set_masks, set_targets, sweep,
+    warm_start, write_back,
 };
-use model::header::Header;
+use multibody::header::Header;
+use multibody::refusal::Refusal;
 use rows::generic_joint::Masks;
 use rows::integration_parameters::IntegrationParameters;
-use rows::joint_constraint_builder::Warmstart;
 use rows::joint_velocity_constraint::{Rows, SolverVel};
 use rows::row_ids::RowIds;
 
@@ -51,75 +50,66 @@ pub fn header(dt: f32, length_unit: f32, normalized: f32, built: u32) -> Header
 {
     Header {
         params: IntegrationParameters {
-            dt: dt,
-            length_unit: length_unit,
+            dt,
+            length_unit,
             normalized_max_corrective_velocity: normalized,
         },
         built: flag_of(built),
     }
 }
 
-fn plain_number(answer: Plain) -> u64
-    ensures { result ≡ number (plain_answer answer) }
+pub fn plain_number(answer: Result<(), Refusal>) -> u64
+    ensures { result ≡ refused_number answer }
 {
     match answer {
-        Plain::Granted => 0,
-        Plain::Refused(k) => k as u64,
+        Ok(()) => 0,
+        Err(refused) => refused.number() as u64,
     }
 }
 
-// The mark that counts is that of the header that came back; a refusal's number does not depend on
-// the header before.
-fn load_number(answer: LoadAnswer) -> u64
-    ensures { (before : Header) → result ≡ marked (load_answer answer) (load_header before answer).built }
+// The mark that counts is that of the header that came back.
+pub fn load_number(answer: Result<Header, Refusal>) -> u64
+    ensures { result ≡ loaded_number answer }
 {
     match answer {
-        LoadAnswer::Loaded(after) => {
-            if after.built {
-                return 100;
-            }
-            0
-        }
-        LoadAnswer::Refused(k) => k as u64,
+        Ok(after) => { if after.built { 100 } else { 0 } }
+        Err(refused) => refused.number() as u64,
     }
 }
 
-fn build_number(answer: BuildAnswer) -> u64
-    ensures { (before : Header) → result ≡ marked (build_answer answer) (build_header before answer).built }
+pub fn build_number(answer: Result<(Header, usize), Refusal>) -> u64
+    ensures { result ≡ built_number answer }
 {
     match answer {
-        BuildAnswer::Built(after, n) => {
+        Ok((after, n)) => {
             let total = (n % 4294967296) as u64;
             if after.built {
-                return ROWS_GRANTED + total;
+                ROWS_GRANTED + total
+            } else {
+                8589934592 + total
             }
-            8589934592 + total
         }
-        BuildAnswer::Refused(k) => k as u64,
+        Err(refused) => refused.number() as u64,
     }
 }
 
-fn rows_number(answer: Plain, n: usize, stored: bool) -> u64
-    ensures { result ≡ rows_granted_or answer n stored }
+pub fn rows_number(n: usize, stored: bool) -> u64
+    ensures { result ≡ rows_granted_or n stored }
 {
-    match answer {
-        Plain::Granted => {
-            if stored {
-                return ROWS_GRANTED + (n % 4294967296) as u64;
-            }
-            SHORT_SLICE
-        }
-        Plain::Refused(k) => k as u64,
+    if stored {
+        ROWS_GRANTED + (n % 4294967296) as u64
+    } else {
+        SHORT_SLICE
     }
 }
 
-pub fn warm_of(warm: u32, coefficient: f32) -> Warmstart
+pub fn warm_of(warm: u32, coefficient: f32) -> Option<f32>
     ensures { result ≡ warm_of warm coefficient }
 {
     if flag_of(warm) {
-        return Warmstart::Warm(coefficient);
+        return Some(coefficient);
     }
-    Warmstart::Cold
+    None
 }
 
 #[unsafe(no_mangle)]
@@ -189,8 +179,8 @@ pub extern "C" fn katydidzinc_place(
 {
     let h = header(dt, length_unit, normalized, built);
     let pose = Pose {
-        rotation: Rotation { re: re, im: im },
-        translation: Vector { x: x, y: y },
+        rotation: Rotation { re, im },
+        translation: Vector { x, y },
     };
     plain_number(place(h, bodies, words, numbers, body, pose))
 }
@@ -240,11 +230,7 @@ pub fn put_counts(out: &mut [u8], counts: [u8; 128])
     requires { 128 ≤ length out.old }
     ensures { out.new ≡ counts ++ drop 128 out.old }
 {
-    let mut i = 0usize;
-    while i < 128 {
-        out[i] = counts[i];
-        i += 1;
-    }
+    out[..128].copy_from_slice(&counts);
 }
 
 // 128 bytes are lent for the counts, one a joint. Where there are fewer the answer says so, and nothing is done.
@@ -270,15 +256,12 @@ pub extern "C" fn katydidzinc_sweep(
         return SHORT_SLICE;
     }
     let h = header(dt, length_unit, normalized, built);
-    let swept = sweep(h, bodies, words, numbers, rows, n);
-    let answer = swept.answer;
-    let made = swept.counts;
-    match answer {
-        Plain::Granted => {
+    match sweep(h, bodies, words, numbers, rows, n) {
+        Ok(made) => {
             put_counts(counts, made);
             0
         }
-        Plain::Refused(k) => k as u64,
+        Err(refused) => refused.number() as u64,
     }
 }
 
@@ -324,10 +307,7 @@ fn put_read(out: &mut [f32], ids: &mut [u32], made: Rows, named: RowIds) -> bool
     ensures out_after { out.new ≡ rows_if_room made out.old ids.old }
     ensures ids_after { ids.new ≡ ids_if_room named out.old ids.old }
 {
-    if out.len() < READ_NUMBERS {
-        return false;
-    }
-    if ids.len() < READ_IDS {
+    if out.len() < READ_NUMBERS || ids.len() < READ_IDS {
         return false;
     }
     put_first(out, made);
@@ -354,12 +334,13 @@ pub extern "C" fn katydidzinc_read_rows(
     ensures ids_after { ids.new ≡ ids_out (rows_read_at joint (lent dt length_unit normalized built bodies.now words.now numbers.now) rows.now) out.old ids.old }
 {
     let h = header(dt, length_unit, normalized, built);
-    let read = read_rows(h, bodies, words, numbers, rows, joint);
-    let answer = read.answer;
-    let named = read.ids;
-    let made = read.rows;
-    let stored = put_read(out, ids, made, named);
-    rows_number(answer, made.len, stored)
+    match read_rows(h, bodies, words, numbers, rows, joint) {
+        Ok((named, made)) => {
+            let stored = put_read(out, ids, made, named);
+            rows_number(made.len, stored)
+        }
+        Err(refused) => refused.number() as u64,
+    }
 }
 
 // A velocity, stored where the slice has room; the read's answer.
@@ -370,8 +351,7 @@ fn put_velocity(out: &mut [f32], v: SolverVel) -> u64
     if out.len() < VELOCITY_NUMBERS {
         return SHORT_SLICE;
     }
-    let linear = v.linear;
-    put_three(out, 0, linear.x, linear.y, v.angular);
+    put_three(out, 0, v.linear.x, v.linear.y, v.angular);
     0
 }
 
@@ -391,10 +371,9 @@ pub extern "C" fn katydidzinc_read_velocity(
     ensures out_after { out.new ≡ velocity_out (run planar (read_velocity body) (lent dt length_unit normalized built bodies.now words.now numbers.now) []).answer out.old }
 {
     let h = header(dt, length_unit, normalized, built);
-    let answer = read_velocity(h, bodies, words, numbers, body);
-    match answer {
-        VelocityAnswer::Velocity(v) => put_velocity(out, v),
-        VelocityAnswer::Refused(k) => k as u64,
+    match read_velocity(h, bodies, words, numbers, body) {
+        Ok(v) => put_velocity(out, v),
+        Err(refused) => refused.number() as u64,
     }
 }
 

@@ -6,7 +6,6 @@ ghost use Rattle.capi.specs.FrameExports.{frame_counts_out};
 
 use crate::calls::{SHORT_SLICE, header, put_counts, warm_of};
 use frames::frame::frame;
-use model::calls::Plain;
 
 // 128 bytes are lent for the counts of the last sweep, one a joint. Where there are fewer the answer says so, and nothing is done. A granted frame leaves the mark set, a refused one as it was: the caller keeps it.
 #[unsafe(no_mangle)]
@@ -36,14 +35,12 @@ pub extern "C" fn katydidzinc_frame(
     }
     let h = header(dt, length_unit, normalized, built);
     let warmstart = warm_of(warm, coefficient);
-    let made = frame(h, bodies, words, numbers, rows, warmstart, sweeps, n);
-    let answer = made.answer;
-    let told = made.counts;
-    match answer {
-        Plain::Granted => {
+    match frame(h, bodies, words, numbers, rows, warmstart, sweeps, n) {
+        Ok(made) => {
+            let told = made.1;
             put_counts(counts, told);
             0
         }
-        Plain::Refused(k) => k as u64,
+        Err(refused) => refused.number() as u64,
     }
 }

@@ -4,7 +4,7 @@ ghost use Rattle.capi.specs.SeedExports.{seeded_number, settings_out, seeded_at}
 
 use crate::calls::SHORT_SLICE;
 use crate::stored::put_three;
-use seeded::seeded::{SeededAnswer, seeded};
+use seeded::seeded::{SeededModel, seeded};
 
 // What a drawn model adds to its numbers of bodies, times 2^16, and of joints.
 pub const SEEDED_GRANTED: u64 = 4294967296;
@@ -12,14 +12,14 @@ pub const SEEDED_GRANTED: u64 = 4294967296;
 // The settings are stored in a slice of the caller's: dt, `length_unit`, `normalized_max_corrective_velocity`.
 pub const SEEDED_SETTINGS: usize = 3;
 
-fn put_answer(settings: &mut [f32], answer: SeededAnswer) -> u64
+fn put_answer(settings: &mut [f32], answer: Option<SeededModel>) -> u64
     requires { 3 ≤ length settings.old }
     ensures value { result ≡ seeded_number answer }
     ensures settings_after { settings.new ≡ settings_out answer settings.old }
 {
     match answer {
-        SeededAnswer::Seeded(h, n, joints) => {
-            let p = h.params;
+        Some(m) => {
+            let p = m.header.params;
             put_three(
                 settings,
                 0,
@@ -27,9 +27,9 @@ fn put_answer(settings: &mut [f32], answer: SeededAnswer) -> u64
                 p.length_unit,
                 p.normalized_max_corrective_velocity,
             );
-            SEEDED_GRANTED + 65536 * n as u64 + joints as u64
+            SEEDED_GRANTED + 65536 * m.bodies as u64 + m.joints as u64
         }
-        SeededAnswer::TooShort => SHORT_SLICE,
+        None => SHORT_SLICE,
     }
 }
 
@@ -50,6 +50,5 @@ pub extern "C" fn katydidzinc_seeded(
     if settings.len() < SEEDED_SETTINGS {
         return SHORT_SLICE;
     }
-    let answer = seeded(seed, bodies, words, numbers);
-    put_answer(settings, answer)
+    put_answer(settings, seeded(seed, bodies, words, numbers))
 }

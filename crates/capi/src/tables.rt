@@ -5,18 +5,20 @@ ghost use Rattle.motor_table.specs.Records.{read_at};
 ghost use Rattle.motor_table.specs.Tables.{read_table};
 ghost use Rattle.motor_table.specs.Targets.{target_of};
 ghost use Rattle.motor_table.specs.Text.{word_number, entries_of, table_of, written_text};
+ghost use Rattle.motor_table.specs.Refusals.{refusal_number};
 ghost use Rattle.capi.specs.TableExports.{refused_number, number_word, words_after, next_position, words_read, table_number, written_number};
 
-use motor_table::record::{Entry, RecordRead, record_at};
-use motor_table::table::{TableAnswer, read_table};
+use motor_table::record::{Entry, record_at};
+use motor_table::refusal::TableRefusal;
+use motor_table::table::read_table;
 use motor_table::target::target_velocity;
-use motor_table::text::{Written, word_number, write_table};
+use motor_table::text::{word_number, write_table};
 use motor_table::whole_number::Number;
 
-fn refused_number(k: u32) -> u64
-    ensures { result ≡ refused_number k }
+fn refused_number(refused: TableRefusal) -> u64
+    ensures { result ≡ refused_number (refusal_number refused) }
 {
-    4294967296 + k as u64
+    4294967296 + refused.number() as u64
 }
 
 // How many records a table holds, or its refusal by a model of so many joints.
@@ -24,10 +26,9 @@ fn refused_number(k: u32) -> u64
 pub extern "C" fn katydidzinc_motor_table_read(text: &[u8], joints: u32) -> u64
     ensures { result ≡ table_number (read_table joints text.now) }
 {
-    let answer = read_table(text, joints);
-    match answer {
-        TableAnswer::Granted(n) => n as u64,
-        TableAnswer::Refused(k) => refused_number(k),
+    match read_table(text, joints) {
+        Ok(n) => n as u64,
+        Err(refused) => refused_number(refused),
     }
 }
 
@@ -35,25 +36,20 @@ pub extern "C" fn katydidzinc_motor_table_read(text: &[u8], joints: u32) -> u64
 fn number_word(n: Number) -> u32
     ensures { result ≡ number_word n }
 {
-    let size = n.size;
-    if n.negative {
-        if 0 < size {
-            return 0xffff_ffff - (size - 1);
-        }
+    if n.negative && 0 < n.size {
+        0xffff_ffff - (n.size - 1)
+    } else {
+        n.size
     }
-    size
 }
 
 fn put_words(words: &mut [u32], e: Entry)
     ensures { words.new ≡ words_after words.old e }
 {
-    let joint = e.joint;
-    let axis = e.axis;
-    let thousandths = e.thousandths;
     if 3 <= words.len() {
-        words[0] = number_word(joint);
-        words[1] = number_word(axis);
-        words[2] = number_word(thousandths);
+        words[0] = number_word(e.joint);
+        words[1] = number_word(e.axis);
+        words[2] = number_word(e.thousandths);
     }
 }
 
@@ -63,14 +59,12 @@ pub extern "C" fn katydidzinc_motor_table_record(text: &[u8], at: usize, words: 
     ensures value { result ≡ next_position (read_at text.now at) }
     ensures words_after { words.new ≡ words_read words.old (read_at text.now at) }
 {
-    let read = record_at(text, at);
-    match read {
-        RecordRead::Record(e, next) => {
-            put_words(&mut *words, e);
-            next
+    match record_at(text, at) {
+        Ok(read) => {
+            put_words(&mut *words, read.entry);
+            read.next
         }
-        RecordRead::Broken => 0,
-        RecordRead::NotThreeNumbers => 0,
+        Err(_) => 0,
     }
 }
 
@@ -88,9 +82,8 @@ pub extern "C" fn katydidzinc_motor_table_write(table: &[u32], joints: u32, out:
     ensures value { result ≡ written_number (table_of joints (entries_of table.now)) }
     ensures out_after { out.new ≡ written_text out.old (table_of joints (entries_of table.now)) }
 {
-    let answer = write_table(table, joints, &mut *out);
-    match answer {
-        Written::Length(n) => n as u64,
-        Written::Refused(k) => refused_number(k),
+    match write_table(table, joints, &mut *out) {
+        Ok(n) => n as u64,
+        Err(refused) => refused_number(refused),
     }
 }

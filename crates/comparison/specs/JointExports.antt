@@ -1,5 +1,5 @@
 -- What the exported functions on the rows of a joint leave in the slices that they are lent. Where a slice is shorter than what is read or written of it, all stays.
-use Rattle.std.specs.Prelude.{ℕ, ◌+◌, ◌%◌, Bool, cond, ◌&&◌, List, [], ◌∷◌, leb, ltb, eqb, length, get_or, take, drop, Float}
+use Rattle.std.specs.Prelude.{ℕ, ◌+◌, ◌%◌, Bool, cond, ◌&&◌, List, [], ◌∷◌, leb, ltb, eqb, length, get_or, take, drop, Float, Option, Some, None}
 use Rattle.comparison.specs.Exports.{at, vector_at, put_two}
 use Rattle.rows.specs.Step.{step_of, warmstart_of, remove_bias_of}
 use Rattle.rows.specs.Finalize.{finalize_groups}
@@ -12,8 +12,6 @@ use Rattle.rows.specs.Builder.{builder_update_of}
 use Rattle.rows.specs.declared.generic_joint.Masks.{Masks}
 use Rattle.rows.specs.declared.joint_constraint_builder.SolverPose.{SolverPose}
 use Rattle.rows.specs.declared.joint_constraint_builder.ImpulseJoint.{ImpulseJoint}
-use Rattle.rows.specs.declared.joint_constraint_builder.Warmstart.{Warmstart}
-use Rattle.rows.specs.declared.joint_constraint_builder.Warmstart.TheVariants.{Cold, Warm}
 use Rattle.rows.specs.declared.integration_parameters.SpringCoefficients.{SpringCoefficients}
 use Rattle.rows.specs.declared.joint_velocity_constraint.JointConstraint.{JointConstraint}
 use Rattle.rows.specs.declared.joint_velocity_constraint.WritebackId.{WritebackId}
@@ -128,8 +126,8 @@ unfoldable pub joint_from : List ℕ → List Float → ImpulseJoint
 joint_from w x =
     joint_at (0 ∷ 0 ∷ word_at w 0 ∷ word_at w 1 ∷ word_at w 2 ∷ word_at w 3 ∷ word_at w 4 ∷ word_at w 5 ∷ word_at w 6 ∷ 0 ∷ 0 ∷ 0 ∷ []) (take numbers_width (drop 17 x)) 0
 
-unfoldable pub warm_from : List ℕ → List Float → Warmstart
-warm_from w x = cond (eqb (word_at w 7) 0) Cold (Warm (at x 59))
+unfoldable pub warm_from : List ℕ → List Float → Option Float
+warm_from w x = cond (eqb (word_at w 7) 0) None (Some (at x 59))
 
 -- the impulses that six rows hold
 abbrev pub impulses_from : List Float → List Float

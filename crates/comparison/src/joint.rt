@@ -22,7 +22,7 @@ use model::layout::{NUMBERS_WIDTH, ROW_WIDTH};
 use model::single_records::{read_joint, read_row, write_impulse};
 use rows::generic_joint::{JointMotor, Masks};
 use rows::integration_parameters::{IntegrationParameters, SpringCoefficients};
-use rows::joint_constraint_builder::{ImpulseJoint, SolverPose, Warmstart, update};
+use rows::joint_constraint_builder::{ImpulseJoint, SolverPose, update};
 use rows::joint_constraint_helper::{AngularLimitParams, finalize_groups};
 use rows::joint_velocity_constraint::{
     JointConstraint, Rows, SolverVel, SolverVels, WritebackId, solve_row,
@@ -326,15 +326,15 @@ fn joint_from(words: &[u32], numbers: &[f32]) -> ImpulseJoint
     read_joint(&all, &numbers[17..59], 0)
 }
 
-fn warm_from(words: &[u32], numbers: &[f32]) -> Warmstart
+fn warm_from(words: &[u32], numbers: &[f32]) -> Option<f32>
     requires in_bounds { 9 ≤ length words.now }
     requires in_bounds_2 { 60 ≤ length numbers.now }
     ensures { result ≡ warm_from words.now numbers.now }
 {
     if words[7] == 0 {
-        return Warmstart::Cold;
+        return None;
     }
-    Warmstart::Warm(numbers[59])
+    Some(numbers[59])
 }
 
 // The impulses that six rows hold.

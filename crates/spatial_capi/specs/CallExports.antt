@@ -1,5 +1,5 @@
 -- The exported calls of the model in space: a header from its numbers, an answer as a number, and what is stored of a row read and of a velocity read. What has no dimension is capi's.
-use Rattle.std.specs.Prelude.{ℕ, Bool, cond, ◌&&◌, List, ◌++◌, leb, length, drop, Float}
+use Rattle.std.specs.Prelude.{ℕ, Bool, cond, ◌&&◌, List, leb, length, Float, Result, Ok, Err}
 use Rattle.spatial_floats.specs.declared.vector.Vector.{Vector}
 use Rattle.spatial_floats.specs.declared.pose.Pose.{Pose}
 use Rattle.spatial_rows.specs.declared.joint_velocity_constraint.SolverVel.{SolverVel}
@@ -12,19 +12,14 @@ use Rattle.multibody.specs.Calls.Answer.{granted, total, rows_read, velocity_rea
 use Rattle.multibody.specs.Calls.Call.{sweep, read_rows}
 use Rattle.spatial_model.specs.Spatial.{space, spatial}
 use Rattle.spatial_model.specs.Model.{model_of}
-use Rattle.spatial_model.specs.Answers.{rows_answer_of, sweep_answer_of}
-use Rattle.spatial_model.specs.declared.header.Header.{Header}
-use Rattle.spatial_model.specs.declared.calls.Plain.{Plain}
-use Rattle.spatial_model.specs.declared.calls.RowsAnswer.{RowsAnswer}
-use Rattle.spatial_model.specs.declared.calls.SweepAnswer.{SweepAnswer}
-use Rattle.capi.specs.CallExports.{params_of, flag, rows_granted, short_slice}
+use Rattle.rows.specs.declared.generic_joint.Masks.{Masks}
+use Rattle.spatial_rows.specs.RowIds.{row_ids_array}
+use Rattle.spatial_rows.specs.Update.{rows_array}
+use Rattle.capi.specs.CallExports.{header_of, rows_granted, rows_granted_or, short_slice}
 use Rattle.capi.specs.Stored.{put_three}
 use Rattle.spatial_capi.specs.Stored.{put_first, put_ids}
 
 -- ---- what is handed over
-
-abbrev pub header_of : Float → Float → Float → ℕ → Header
-header_of dt unit normalized built = record { params = params_of dt unit normalized; built = flag built }
 
 abbrev pub lent : Float → Float → Float → ℕ → List Float → List ℕ → List Float → Model
 lent dt unit normalized built bodies words numbers = model_of (header_of dt unit normalized built) bodies words numbers
@@ -35,19 +30,26 @@ pose_from qx qy qz qw x y z = record { rotation = record { x = qx; y = qy; z = q
 
 -- ---- a joint's rows and ids, stored
 
-abbrev pub rows_read_at : ℕ → Model → List Float → RowsAnswer
-rows_read_at joint m rows = rows_answer_of (row_masks_at space m.words joint) (run spatial (read_rows joint) m rows).answer
+-- a row read's ids and rows in the arrays that the program has them in, of a joint with these masks; or the number of the refusal
+abbrev pub rows_given : Masks → Answer space → Result (RowIds × Rows) ℕ
+rows_given masks (rows_read ids rows) = Ok (row_ids_array masks, rows_array rows)
+rows_given masks (refused k) = Err k
+-- a row read answers none of these
+rows_given masks granted = Err 0
+rows_given masks (total n) = Err 0
+rows_given masks (velocity_read v) = Err 0
+rows_given masks (swept counts) = Err 0
 
-abbrev pub rows_granted_or : Plain → ℕ → Bool → ℕ
-rows_granted_or Plain.Granted n stored = cond stored (rows_granted n) short_slice
-rows_granted_or (Plain.Refused k) n stored = k
+abbrev pub rows_read_at : ℕ → Model → List Float → Result (RowIds × Rows) ℕ
+rows_read_at joint m rows = rows_given (row_masks_at space m.words joint) (run spatial (read_rows joint) m rows).answer
 
 -- there is room for nine rows and nine ids, however many a joint has
 unfoldable pub room_for_rows : List Float → List ℕ → Bool
 room_for_rows out ids = leb 261 (length out) && leb 9 (length ids)
 
-abbrev pub rows_number : RowsAnswer → List Float → List ℕ → ℕ
-rows_number r out ids = rows_granted_or r.answer r.rows.len (room_for_rows out ids)
+abbrev pub rows_number : Result (RowIds × Rows) ℕ → List Float → List ℕ → ℕ
+rows_number (Ok r) out ids = rows_granted_or r.1.len (room_for_rows out ids)
+rows_number (Err k) out ids = k
 
 unfoldable pub rows_if_room : Rows → List Float → List ℕ → List Float
 rows_if_room made out ids = cond (room_for_rows out ids) (put_first out made) out
@@ -55,24 +57,18 @@ rows_if_room made out ids = cond (room_for_rows out ids) (put_first out made) ou
 unfoldable pub ids_if_room : RowIds → List Float → List ℕ → List ℕ
 ids_if_room named out ids = cond (room_for_rows out ids) (put_ids ids named) ids
 
-abbrev pub rows_out : RowsAnswer → List Float → List ℕ → List Float
-rows_out r out ids = rows_if_room r.rows out ids
+abbrev pub rows_out : Result (RowIds × Rows) ℕ → List Float → List ℕ → List Float
+rows_out (Ok r) out ids = rows_if_room r.1 out ids
+rows_out (Err k) out ids = out
 
-abbrev pub ids_out : RowsAnswer → List Float → List ℕ → List ℕ
-ids_out r out ids = ids_if_room r.ids out ids
+abbrev pub ids_out : Result (RowIds × Rows) ℕ → List Float → List ℕ → List ℕ
+ids_out (Ok r) out ids = ids_if_room r.0 out ids
+ids_out (Err k) out ids = ids
 
--- ---- a sweep's counts, stored
+-- ---- a sweep's counts, stored as capi's `counts_out` says
 
-abbrev pub swept_at : ℕ → Model → List Float → SweepAnswer
-swept_at n m rows = sweep_answer_of (run spatial (sweep n) m rows).answer
-
--- all 128 where it is granted, and nothing where it is refused
-abbrev pub counts_if : Plain → List ℕ → List ℕ → List ℕ
-counts_if Plain.Granted counts out = counts ++ drop 128 out
-counts_if (Plain.Refused k) counts out = out
-
-abbrev pub counts_out : SweepAnswer → List ℕ → List ℕ
-counts_out r out = counts_if r.answer r.counts out
+abbrev pub swept_at : ℕ → Model → List Float → Answer space
+swept_at n m rows = (run spatial (sweep n) m rows).answer
 
 -- ---- a velocity, stored
 

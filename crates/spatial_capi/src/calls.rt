@@ -3,23 +3,20 @@ ghost use Rattle.std.specs.Prelude.{◌≡◌, [], cond};
 ghost use Rattle.multibody.specs.Calls.{run};
 ghost use Rattle.multibody.specs.Calls.Call.{load, place, build, warm_start, sweep, remove_bias, write_back, read_rows, read_velocity};
 ghost use Rattle.spatial_model.specs.Spatial.{spatial};
-ghost use Rattle.spatial_model.specs.Answers.{plain_answer, load_answer, load_header, build_answer, build_header};
-ghost use Rattle.spatial_model.specs.declared.header.Header.{Header};
-ghost use Rattle.capi.specs.CallExports.{warm_of, number, marked, marked_number, short_slice, room_for_counts};
-ghost use Rattle.spatial_capi.specs.CallExports.{header_of, lent, pose_from, rows_read_at, rows_granted_or, rows_number, rows_out, ids_out, room_for_rows, rows_if_room, ids_if_room, swept_at, counts_out, room_for_velocity, velocity_number, put_velocity, velocity_out};
+ghost use Rattle.capi.specs.CallExports.{warm_of, number, marked_number, counts_out, short_slice, room_for_counts};
+ghost use Rattle.spatial_capi.specs.CallExports.{lent, pose_from, rows_read_at, rows_number, rows_out, ids_out, room_for_rows, rows_if_room, ids_if_room, swept_at, room_for_velocity, velocity_number, put_velocity, velocity_out};
 
 use crate::stored::{put_first, put_ids};
-use capi::calls::{ROWS_GRANTED, SHORT_SLICE, flag_of, put_counts, warm_of};
+use capi::calls::{
+    SHORT_SLICE, build_number, header, load_number, plain_number, put_counts, rows_number, warm_of,
+};
 use capi::stored::put_three;
-use rows::integration_parameters::IntegrationParameters;
 use spatial_floats::pose::Pose;
 use spatial_floats::rotation_ops::Rotation;
 use spatial_floats::vector::Vector;
 use spatial_model::calls::{
-    BuildAnswer, LoadAnswer, Plain, VelocityAnswer, build, load, place, read_rows, read_velocity,
-    remove_bias, sweep, warm_start, write_back,
+    build, load, place, read_rows, read_velocity, remove_bias, sweep, warm_start, write_back,
 };
-use spatial_model::header::Header;
 use spatial_rows::joint_velocity_constraint::{Rows, SolverVel};
 use spatial_rows::row_ids::RowIds;
 
@@ -29,73 +26,6 @@ pub const READ_NUMBERS: usize = 261;
 pub const READ_IDS: usize = 9;
 
 pub const VELOCITY_NUMBERS: usize = 6;
-
-fn header(dt: f32, length_unit: f32, normalized: f32, built: u32) -> Header
-    ensures { result ≡ header_of dt length_unit normalized built }
-{
-    Header {
-        params: IntegrationParameters {
-            dt: dt,
-            length_unit: length_unit,
-            normalized_max_corrective_velocity: normalized,
-        },
-        built: flag_of(built),
-    }
-}
-
-fn plain_number(answer: Plain) -> u64
-    ensures { result ≡ number (plain_answer answer) }
-{
-    match answer {
-        Plain::Granted => 0,
-        Plain::Refused(k) => k as u64,
-    }
-}
-
-// The mark that counts is that of the header that came back; a refusal's number does not depend on
-// the header before.
-fn load_number(answer: LoadAnswer) -> u64
-    ensures { (before : Header) → result ≡ marked (load_answer answer) (load_header before answer).built }
-{
-    match answer {
-        LoadAnswer::Loaded(after) => {
-            if after.built {
-                return 100;
-            }
-            0
-        }
-        LoadAnswer::Refused(k) => k as u64,
-    }
-}
-
-fn build_number(answer: BuildAnswer) -> u64
-    ensures { (before : Header) → result ≡ marked (build_answer answer) (build_header before answer).built }
-{
-    match answer {
-        BuildAnswer::Built(after, n) => {
-            let total = (n % 4294967296) as u64;
-            if after.built {
-                return ROWS_GRANTED + total;
-            }
-            8589934592 + total
-        }
-        BuildAnswer::Refused(k) => k as u64,
-    }
-}
-
-fn rows_number(answer: Plain, n: usize, stored: bool) -> u64
-    ensures { result ≡ rows_granted_or answer n stored }
-{
-    match answer {
-        Plain::Granted => {
-            if stored {
-                return ROWS_GRANTED + (n % 4294967296) as u64;
-            }
-            SHORT_SLICE
-        }
-        Plain::Refused(k) => k as u64,
-    }
-}
 
 #[unsafe(no_mangle)]
 pub extern "C" fn katydidzinc_space_load(
@@ -143,7 +73,7 @@ pub extern "C" fn katydidzinc_space_place(
             z: qz,
             w: qw,
         },
-        translation: Vector { x: x, y: y, z: z },
+        translation: Vector { x, y, z },
     };
     plain_number(place(h, bodies, words, numbers, body, pose))
 }
@@ -211,15 +141,12 @@ pub extern "C" fn katydidzinc_space_sweep(
         return SHORT_SLICE;
     }
     let h = header(dt, length_unit, normalized, built);
-    let swept = sweep(h, bodies, words, numbers, rows, n);
-    let answer = swept.answer;
-    let made = swept.counts;
-    match answer {
-        Plain::Granted => {
+    match sweep(h, bodies, words, numbers, rows, n) {
+        Ok(made) => {
             put_counts(counts, made);
             0
         }
-        Plain::Refused(k) => k as u64,
+        Err(refused) => refused.number() as u64,
     }
 }
 
@@ -265,10 +192,7 @@ fn put_read(out: &mut [f32], ids: &mut [u32], made: Rows, named: RowIds) -> bool
     ensures out_after { out.new ≡ rows_if_room made out.old ids.old }
     ensures ids_after { ids.new ≡ ids_if_room named out.old ids.old }
 {
-    if out.len() < READ_NUMBERS {
-        return false;
-    }
-    if ids.len() < READ_IDS {
+    if out.len() < READ_NUMBERS || ids.len() < READ_IDS {
         return false;
     }
     put_first(out, made);
@@ -295,12 +219,13 @@ pub extern "C" fn katydidzinc_space_read_rows(
     ensures ids_after { ids.new ≡ ids_out (rows_read_at joint (lent dt length_unit normalized built bodies.now words.now numbers.now) rows.now) out.old ids.old }
 {
     let h = header(dt, length_unit, normalized, built);
-    let read = read_rows(h, bodies, words, numbers, rows, joint);
-    let answer = read.answer;
-    let named = read.ids;
-    let made = read.rows;
-    let stored = put_read(out, ids, made, named);
-    rows_number(answer, made.len, stored)
+    match read_rows(h, bodies, words, numbers, rows, joint) {
+        Ok((named, made)) => {
+            let stored = put_read(out, ids, made, named);
+            rows_number(made.len, stored)
+        }
+        Err(refused) => refused.number() as u64,
+    }
 }
 
 // A velocity, stored where the slice has room; the read's answer.
@@ -311,10 +236,8 @@ fn put_velocity(out: &mut [f32], v: SolverVel) -> u64
     if out.len() < VELOCITY_NUMBERS {
         return SHORT_SLICE;
     }
-    let linear = v.linear;
-    let angular = v.angular;
-    put_three(out, 0, linear.x, linear.y, linear.z);
-    put_three(out, 3, angular.x, angular.y, angular.z);
+    put_three(out, 0, v.linear.x, v.linear.y, v.linear.z);
+    put_three(out, 3, v.angular.x, v.angular.y, v.angular.z);
     0
 }
 
@@ -334,9 +257,8 @@ pub extern "C" fn katydidzinc_space_read_velocity(
     ensures out_after { out.new ≡ velocity_out (run spatial (read_velocity body) (lent dt length_unit normalized built bodies.now words.now numbers.now) []).answer out.old }
 {
     let h = header(dt, length_unit, normalized, built);
-    let answer = read_velocity(h, bodies, words, numbers, body);
-    match answer {
-        VelocityAnswer::Velocity(v) => put_velocity(out, v),
-        VelocityAnswer::Refused(k) => k as u64,
+    match read_velocity(h, bodies, words, numbers, body) {
+        Ok(v) => put_velocity(out, v),
+        Err(refused) => refused.number() as u64,
     }
 }

@@ -3,8 +3,8 @@ ghost use Rattle.std.specs.Prelude.{◌≡◌, [], cond};
 ghost use Rattle.multibody.specs.Calls.{run};
 ghost use Rattle.multibody.specs.Calls.Call.{load, place, build, warm_start, sweep, remove_bias, write_back, read_velocity};
 ghost use Rattle.spatial_model.specs.Spatial.{spatial};
-ghost use Rattle.capi.specs.CallExports.{warm_of, number, marked_number, short_slice, room_for_counts};
-ghost use Rattle.spatial_capi.specs.CallExports.{lent, pose_from, rows_read_at, rows_number, rows_out, ids_out, swept_at, counts_out, velocity_number, velocity_out};
+ghost use Rattle.capi.specs.CallExports.{warm_of, number, marked_number, short_slice, room_for_counts, counts_out};
+ghost use Rattle.spatial_capi.specs.CallExports.{lent, pose_from, rows_read_at, rows_number, rows_out, ids_out, swept_at, velocity_number, velocity_out};
 
 #[unsafe(no_mangle)]
 pub extern "C" fn katydidzinc_space_load(

@@ -1,12 +1,10 @@
 -- What the exported functions on the rows of a joint in space answer.
-use Rattle.std.specs.Prelude.{ℕ, ◌+◌, ◌%◌, cond, eqb, ltb, get_or, Float}
+use Rattle.std.specs.Prelude.{ℕ, ◌+◌, ◌%◌, cond, eqb, ltb, get_or, Float, Option, Some, None}
 use Rattle.floats.specs.declared.scalar.Side.{Side}
 use Rattle.floats.specs.declared.scalar.Side.TheVariants.{Low, High, Inside}
 use Rattle.rows.specs.RowIds.{row_id}
 use Rattle.rows.specs.declared.generic_joint.Masks.{Masks}
 use Rattle.rows.specs.declared.integration_parameters.IntegrationParameters.{IntegrationParameters}
-use Rattle.rows.specs.declared.joint_constraint_builder.Warmstart.{Warmstart}
-use Rattle.rows.specs.declared.joint_constraint_builder.Warmstart.TheVariants.{Cold, Warm}
 use Rattle.rows.specs.declared.joint_velocity_constraint.WritebackId.{WritebackId}
 use Rattle.rows.specs.declared.joint_velocity_constraint.WritebackId.TheVariants.{Dof, Limit, Motor}
 use Rattle.spatial_rows.specs.Finalize.{finalize_groups}
@@ -51,5 +49,5 @@ id_at masks k = cond (ltb k 9) (id_number (get_or (row_ids_array masks).ids k (r
 abbrev pub params_of : Float → Float → Float → IntegrationParameters
 params_of dt length_unit normalized = record { dt = dt; length_unit = length_unit; normalized_max_corrective_velocity = normalized }
 
-abbrev pub warm_of : ℕ → Float → Warmstart
-warm_of warm coefficient = cond (eqb warm 0) Cold (Warm coefficient)
+abbrev pub warm_of : ℕ → Float → Option Float
+warm_of warm coefficient = cond (eqb warm 0) None (Some coefficient)

@@ -9,7 +9,6 @@ ghost use Rattle.spatial_model.specs.SingleRecords.{joint_if_there, put_seed_if_
 use floats::scalar::Side;
 use rows::generic_joint::Masks;
 use rows::integration_parameters::IntegrationParameters;
-use rows::joint_constraint_builder::Warmstart;
 use rows::joint_velocity_constraint::WritebackId;
 use spatial_model::single_records::{read_joint, write_impulse};
 use spatial_rows::joint_constraint_builder::{SolverPose, update};
@@ -154,13 +153,13 @@ pub struct Impulses {
 }
 
 // A warm coefficient, or none where the flag is 0.
-fn warm_of(warm: u32, coefficient: f32) -> Warmstart
+fn warm_of(warm: u32, coefficient: f32) -> Option<f32>
     ensures { result ≡ warm_of warm coefficient }
 {
     if warm == 0 {
-        return Warmstart::Cold;
+        return None;
     }
-    Warmstart::Warm(coefficient)
+    Some(coefficient)
 }
 
 // The rows of the joint whose ten words and 49 numbers are handed over, as a model stores them.

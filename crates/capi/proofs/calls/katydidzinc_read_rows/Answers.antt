@@ -1,7 +1,15 @@
 -- `katydidzinc_read_rows` meets its contract: what its call promises, of the header that was made, read part by part.
+use Rattle.multibody.specs.JointRows.{row_masks_at}
+use Rattle.model.specs.Planar.{plane}
+use Rattle.capi.proofs.ReadLaws.{rows-told, rows-refused}
 use Rattle.capi.proofs.calls.katydidzinc_read_rows.Goals as goal
 
-pub returns : goal.returns
-returns c =
-    let told = rw c.header-h.ensures at c.read_rows-read.ensures.value in
-    record { value = rw (told, c.put_read-stored.ensures.value) at c.rows_number.ensures; out_after = rw told at c.put_read-stored.ensures.out_after; ids_after = rw told at c.put_read-stored.ensures.ids_after }
+pub returns-in-Ok : goal.returns-in-Ok
+returns-in-Ok c =
+    let e = rows-told (row_masks_at plane c.args.words.now c.args.joint) (rw c.header-h.ensures at c.in-Ok.ensures.rows_value) c.in-Ok.ensures.filled in
+    record { value = rw e (rw c.put_read-stored.ensures.value at c.rows_number.ensures); out_after = rw e c.put_read-stored.ensures.out_after; ids_after = rw e c.put_read-stored.ensures.ids_after }
+
+pub returns-in-Err : goal.returns-in-Err
+returns-in-Err c =
+    let e = rows-refused (row_masks_at plane c.args.words.now c.args.joint) (rw c.header-h.ensures at c.in-Err.ensures.rows_value) in
+    record { value = rw e c.number.ensures; out_after = rw e; ids_after = rw e }

@@ -9,5 +9,5 @@ returns-then-settings-lt-SEEDED_SETTINGS c =
 
 pub returns : goal.returns
 returns c =
-    let d = room-drawn c.args.seed c.args.settings.now c.args.bodies.now c.args.words.now c.args.numbers.now c.if-settings-lt-SEEDED_SETTINGS.false c.seeded-answer.ensures c.put_answer.ensures.value c.put_answer.ensures.settings_after in
+    let d = room-drawn c.args.seed c.args.settings.now c.args.bodies.now c.args.words.now c.args.numbers.now c.if-settings-lt-SEEDED_SETTINGS.false c.seeded.ensures c.put_answer.ensures.value c.put_answer.ensures.settings_after in
     record { value = d.told; settings_after = d.settings; bodies_after = d.bodies; words_after = d.words; numbers_after = d.numbers }

@@ -3,8 +3,8 @@ use mathlib.Core.Path.{sym, ◌∙◌}
 use Rattle.capi.proofs.TableExportsLaws.{read_count, read-refused}
 use Rattle.capi.proofs.tables.katydidzinc_motor_table_read.Goals as goal
 
-pub returns-in-Granted : goal.returns-in-Granted
-returns-in-Granted c = read_count _ _ (sym c.read_table-answer.ensures ∙ c.in-Granted.is)
+pub returns-in-Ok : goal.returns-in-Ok
+returns-in-Ok c = read_count _ _ (sym c.read_table.ensures ∙ c.in-Ok.is)
 
-pub returns-in-Refused : goal.returns-in-Refused
-returns-in-Refused c = c.refused_number.ensures ∙ read-refused _ _ (sym c.read_table-answer.ensures ∙ c.in-Refused.is)
+pub returns-in-Err : goal.returns-in-Err
+returns-in-Err c = c.refused_number.ensures ∙ read-refused _ _ (sym c.read_table.ensures ∙ c.in-Err.is)

@@ -3,8 +3,8 @@ use mathlib.Core.Path.{sym, ◌∙◌}
 use Rattle.capi.proofs.TableExportsLaws.{written-length, written-refused}
 use Rattle.capi.proofs.tables.katydidzinc_motor_table_write.Goals as goal
 
-pub returns-in-Length : goal.returns-in-Length
-returns-in-Length c = record { value = written-length _ _ (sym c.write_table-answer.ensures.0 ∙ c.in-Length.is); out_after = c.write_table-answer.ensures.1 }
+pub returns-in-Ok : goal.returns-in-Ok
+returns-in-Ok c = record { value = written-length _ _ (sym c.write_table.ensures.0 ∙ c.in-Ok.is); out_after = c.write_table.ensures.1 }
 
-pub returns-in-Refused : goal.returns-in-Refused
-returns-in-Refused c = record { value = c.refused_number.ensures ∙ written-refused _ _ (sym c.write_table-answer.ensures.0 ∙ c.in-Refused.is); out_after = c.write_table-answer.ensures.1 }
+pub returns-in-Err : goal.returns-in-Err
+returns-in-Err c = record { value = c.refused_number.ensures ∙ written-refused _ _ (sym c.write_table.ensures.0 ∙ c.in-Err.is); out_after = c.write_table.ensures.1 }
