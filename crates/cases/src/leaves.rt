@@ -1,6 +1,6 @@
 // Document 01's cases about numbers, vectors, rotations and poses.
-use crate::line::{Line, floats_at};
-use crate::show::{name, report, show, show_clamp, show_truth, show_vector};
+use crate::line::Leaf;
+use crate::show::{report, show, show_clamp, show_truth, show_vector};
 use floats::angle::angle;
 use floats::pose::Pose;
 use floats::rotation_ops::Rotation;
@@ -10,72 +10,55 @@ use floats::sqrt::sqrt;
 use floats::utils::{inv, simd_inv, smallest_abs_diff_between_angles};
 use floats::vector::Vector;
 
-fn number_of(op: u32, x: [f32; 8]) -> f32 {
-    match op {
-        1 => inv(x[0]),
-        2 => simd_inv(x[0]),
-        3 => signum(x[0]),
-        4 => smallest_abs_diff_between_angles(x[0], x[1]),
-        5 => max(x[0], x[1]),
-        6 => min(x[0], x[1]),
-        7 => sqrt(x[0]),
-        8 => Vector { x: x[0], y: x[1] }.simd_length(),
-        9 => Vector { x: x[0], y: x[1] }.gdot(Vector { x: x[2], y: x[3] }),
-        _ => angle(x[0], x[1]),
-    }
+fn vector(x: f32, y: f32) -> Vector {
+    Vector { x, y }
+}
+
+fn rotation(re: f32, im: f32) -> Rotation {
+    Rotation { re, im }
 }
 
 fn pair(p: Rotation) -> Vector {
-    Vector { x: p.re, y: p.im }
+    vector(p.re, p.im)
 }
 
 // A pose is its rotation and then its translation.
-fn vector_of(op: u32, x: [f32; 8]) -> Vector {
-    let v = Vector { x: x[0], y: x[1] };
-    let w = Vector { x: x[2], y: x[3] };
-    let p = Rotation { re: x[0], im: x[1] };
-    let q = Rotation { re: x[2], im: x[3] };
-    let a = Pose {
-        rotation: p,
-        translation: w,
-    };
-    let b = Pose {
-        rotation: Rotation { re: x[4], im: x[5] },
-        translation: Vector { x: x[6], y: x[7] },
-    };
-    match op {
-        11 => v.gcross_matrix(),
-        12 => v.component_mul(w),
-        13 => pair(p.mul(q)),
-        14 => pair(p.inverse()),
-        15 => p.rotate(w),
-        16 => p.to_mat().column(0),
-        17 => p.to_mat().column(1),
-        18 => pair(a.mul(b).rotation),
-        _ => a.mul(b).translation,
+fn pose(re: f32, im: f32, x: f32, y: f32) -> Pose {
+    Pose {
+        rotation: rotation(re, im),
+        translation: vector(x, y),
     }
 }
 
-fn answer(rt: HostRuntime, op: u32, x: [f32; 8]) {
-    if op <= 10 {
-        show(rt, number_of(op, x));
-        return;
+pub fn run(rt: HostRuntime, leaf: Leaf, [a, b, c, d, e, f, g, h]: [f32; 8]) {
+    let v = vector(a, b);
+    let w = vector(c, d);
+    let p = rotation(a, b);
+    let q = rotation(c, d);
+    let first = pose(a, b, c, d);
+    let second = pose(e, f, g, h);
+    match leaf {
+        Leaf::Inv => show(rt, inv(a)),
+        Leaf::SimdInv => show(rt, simd_inv(a)),
+        Leaf::Signum => show(rt, signum(a)),
+        Leaf::Difference => show(rt, smallest_abs_diff_between_angles(a, b)),
+        Leaf::Max => show(rt, max(a, b)),
+        Leaf::Min => show(rt, min(a, b)),
+        Leaf::Root => show(rt, sqrt(a)),
+        Leaf::Length => show(rt, v.simd_length()),
+        Leaf::Dot => show(rt, v.gdot(w)),
+        Leaf::Angle => show(rt, angle(a, b)),
+        Leaf::CrossMatrix => show_vector(rt, v.gcross_matrix()),
+        Leaf::ComponentProduct => show_vector(rt, v.component_mul(w)),
+        Leaf::RotationProduct => show_vector(rt, pair(p.mul(q))),
+        Leaf::RotationInverse => show_vector(rt, pair(p.inverse())),
+        Leaf::Rotated => show_vector(rt, p.rotate(w)),
+        Leaf::Column0 => show_vector(rt, p.to_mat().column(0)),
+        Leaf::Column1 => show_vector(rt, p.to_mat().column(1)),
+        Leaf::PoseRotation => show_vector(rt, pair(first.mul(second).rotation)),
+        Leaf::PoseTranslation => show_vector(rt, first.mul(second).translation),
+        Leaf::Clamp => show_clamp(rt, clamp(a, b, c)),
+        Leaf::Finite => show_truth(rt, is_finite(a)),
+        Leaf::Report => report(rt, a),
     }
-    if op <= 19 {
-        show_vector(rt, vector_of(op, x));
-        return;
-    }
-    match op {
-        20 => show_clamp(rt, clamp(x[0], x[1], x[2])),
-        21 => show_truth(rt, is_finite(x[0])),
-        _ => report(rt, x[0]),
-    }
-}
-
-pub fn leaf(rt: HostRuntime, text: &[u8], l: Line) {
-    if l.op == 0 {
-        return;
-    }
-    name(rt, text, l.name);
-    answer(rt, l.op, floats_at(text, l.a));
 }

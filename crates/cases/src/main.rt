@@ -6,9 +6,8 @@
 
 ghost use Rattle.std.specs.Prelude.{◌≤◌, IfOk, length};
 
-use crate::leaves::leaf;
-use crate::line::{Line, next_case};
-use crate::models::{State, draw_words, run_given, run_named, start};
+use crate::line::{Line, Step, floats_at};
+use crate::models::{State, Storage};
 use crate::show::name;
 use std::io;
 use std::io::Read;
@@ -20,64 +19,33 @@ mod models;
 mod show;
 
 // One line. A call is given as much of the storage as the lines before it say.
-fn run_line(
-    rt: HostRuntime,
-    text: &[u8],
-    s: State,
-    bodies: &mut [f32],
-    words: &mut [u32],
-    numbers: &mut [f32],
-    rows: &mut [f32],
-    l: Line,
-) -> State {
-    if l.op < 30 {
-        leaf(rt, text, l);
-        return s;
-    }
-    if l.op < 40 {
-        return run_given(text, s, bodies, words, numbers, l);
-    }
-    let b = s.bodies;
-    let w = s.words;
-    let r = s.rows;
-    if b <= bodies.len() {
-        if w <= words.len() {
-            if r <= rows.len() {
-                name(rt, text, l.name);
-                return run_named(
-                    rt,
-                    text,
-                    s,
-                    &mut bodies[..b],
-                    &mut words[..w],
-                    numbers,
-                    &mut rows[..r],
-                    l,
-                );
+fn run_line(rt: HostRuntime, text: &[u8], s: &mut State, storage: &mut Storage, l: &Line) {
+    match l.step {
+        Some(Step::Leaf(leaf)) => {
+            name(rt, l.name);
+            leaves::run(rt, leaf, floats_at(text, l.a));
+        }
+        Some(Step::Given(given)) => s.give(text, given, l, storage),
+        Some(Step::Call(call)) => {
+            if let Some(storage) = storage.given(s) {
+                name(rt, l.name);
+                s.call(rt, text, call, l, storage);
             }
         }
+        None => (),
     }
-    s
 }
 
-fn run(
-    rt: HostRuntime,
-    text: &[u8],
-    bodies: &mut [f32],
-    words: &mut [u32],
-    numbers: &mut [f32],
-    rows: &mut [f32],
-) {
-    let mut s = start();
-    let mut lines = text.len();
-    while 0 < lines {
+// A text has no more lines than bytes.
+fn run(rt: HostRuntime, text: &[u8], storage: &mut Storage) {
+    let mut s = State::start();
+    for _turn in 0..text.len() {
         if text.len() <= s.at {
             return;
         }
-        let l = next_case(text, s.at);
+        let l = Line::at(text, s.at);
         s.at = next_line(text, l.a);
-        s = run_line(rt, text, s, bodies, words, numbers, rows, l);
-        lines -= 1;
+        run_line(rt, text, &mut s, storage, &l);
     }
 }
 
@@ -103,14 +71,13 @@ fn main(rt: HostRuntime) -> io::Result<()> {
     let mut numbers = [0.0f32; 5418];
     let mut rows = [0.0f32; 54];
     let n = read_text(rt, &mut text)?;
-    draw_words(&mut words);
-    run(
-        rt,
-        &text[..n],
-        &mut bodies,
-        &mut words,
-        &mut numbers,
-        &mut rows,
-    );
+    let mut storage = Storage {
+        bodies: &mut bodies,
+        words: &mut words,
+        numbers: &mut numbers,
+        rows: &mut rows,
+    };
+    storage.draw_words();
+    run(rt, &text[..n], &mut storage);
     Ok(())
 }

@@ -3,51 +3,33 @@ use floats::bits::to_bits;
 use floats::micro_report::{MicroReport, micro_report};
 use floats::scalar::{Clamped, Side};
 use floats::vector::Vector;
-use study_reader::words::{Word, bytes_of};
+use multibody::refusal::Refusal;
 use study_text::number::put_millionths;
-use texts::hex::hex_word;
-use texts::sink::put_decimal;
 
 fn out(rt: HostRuntime, s: &[u8]) {
     let _ = rt.write_all(s);
 }
 
-fn part(rt: HostRuntime, s: &[u8], start: usize, end: usize) {
-    if end <= s.len() {
-        if start <= end {
-            out(rt, &s[start..end]);
-        }
-    }
-}
-
-pub fn name(rt: HostRuntime, text: &[u8], w: Word) {
-    out(rt, bytes_of(text, w));
+pub fn name(rt: HostRuntime, name: &[u8]) {
+    out(rt, name);
     out(rt, b" = ");
 }
 
 // A number's bits, in eight digits.
-fn bits(rt: HostRuntime, x: f32) {
-    let word = hex_word(false, to_bits(x));
-    part(rt, &word, 2, 10);
-}
-
 pub fn show(rt: HostRuntime, x: f32) {
-    bits(rt, x);
-    out(rt, b"\n");
+    let bits = to_bits(x);
+    let _ = println!(rt; "{bits:08x}");
 }
 
 pub fn show_vector(rt: HostRuntime, v: Vector) {
-    out(rt, b"(");
-    bits(rt, v.x);
-    out(rt, b", ");
-    bits(rt, v.y);
-    out(rt, b")\n");
+    let x = to_bits(v.x);
+    let y = to_bits(v.y);
+    let _ = println!(rt; "({x:08x}, {y:08x})");
 }
 
 pub fn show_clamp(rt: HostRuntime, c: Clamped) {
     show(rt, c.value);
-    let side = c.side;
-    match side {
+    match c.side {
         Side::Low => out(rt, b"  low\n"),
         Side::High => out(rt, b"  high\n"),
         Side::Inside => out(rt, b"  inside\n"),
@@ -55,43 +37,35 @@ pub fn show_clamp(rt: HostRuntime, c: Clamped) {
 }
 
 pub fn show_truth(rt: HostRuntime, r: bool) {
-    if r {
-        out(rt, b"true\n");
-    } else {
-        out(rt, b"false\n");
+    let _ = println!(rt; "{r}");
+}
+
+pub fn show_number(rt: HostRuntime, n: usize) {
+    let _ = println!(rt; "{n}");
+}
+
+// How a call ended.
+pub fn ended<T: Drop>(rt: HostRuntime, answer: Result<T, Refusal>) {
+    match answer {
+        Ok(_) => out(rt, b"granted\n"),
+        Err(refusal) => refused(rt, refusal),
     }
 }
 
-// No number of 32 bits has more digits than ten.
-pub fn show_number(rt: HostRuntime, n: u32) {
-    let mut digits = [0u8; 10];
-    let end = put_decimal(&mut digits, 0, n);
-    part(rt, &digits, 0, end);
-    out(rt, b"\n");
-}
-
-// How a call ended: 0 is granted.
-pub fn ended(rt: HostRuntime, refusal: u32) {
-    if refusal == 0 {
-        out(rt, b"granted\n");
-    } else {
-        out(rt, b"refused ");
-        show_number(rt, refusal);
-    }
-}
-
-fn whole(rt: HostRuntime, x: f32) {
-    let mut bytes = [0u8; 11];
-    let end = put_millionths(&mut bytes, 0, x);
-    part(rt, &bytes, 0, end);
-    out(rt, b"\n");
+pub fn refused(rt: HostRuntime, refusal: Refusal) {
+    let number = refusal.number();
+    let _ = println!(rt; "refused {number}");
 }
 
 // A number's micro report.
 pub fn report(rt: HostRuntime, x: f32) {
-    let r = micro_report(x);
-    match r {
-        MicroReport::Whole(_) => whole(rt, x),
+    match micro_report(x) {
+        MicroReport::Whole(_) => {
+            let mut bytes = [0u8; 11];
+            let end = put_millionths(&mut bytes, 0, x);
+            out(rt, &bytes[..end.min(11)]);
+            out(rt, b"\n");
+        }
         MicroReport::Over => out(rt, b"over\n"),
         MicroReport::Nan => out(rt, b"nan\n"),
     }

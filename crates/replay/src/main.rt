@@ -12,33 +12,66 @@ use floats::rotation_ops::Rotation;
 use floats::vector::Vector;
 use frames::frame::frame;
 use model::calls::{
-    BuildAnswer, LoadAnswer, Plain, VelocityAnswer, build, load, place, read_rows, read_velocity,
-    remove_bias, set_masks, set_targets, sweep, warm_start, write_back,
+    build, load, place, read_rows, read_velocity, remove_bias, set_masks, set_targets, sweep,
+    warm_start, write_back,
 };
-use model::header::Header;
+use multibody::header::Header;
+use multibody::refusal::Refusal;
 use rows::generic_joint::Masks;
 use rows::integration_parameters::IntegrationParameters;
-use rows::joint_constraint_builder::Warmstart;
-use rows::joint_velocity_constraint::{JointConstraint, Rows, WritebackId};
+use rows::joint_velocity_constraint::{JointConstraint, Rows, SolverVel, WritebackId};
 use rows::row_ids::RowIds;
 use std::io;
 use std::io::Read;
 
 // ---- tokens
 
-fn digit(b: u8) -> u32 {
-    if b >= b'0' && b <= b'9' {
-        return (b - b'0') as u32;
+// What a token says, and what a checksum takes of a number, a word or a byte.
+#[derive(Clone, Copy)]
+struct Bits(u32);
+
+impl From<Bits> for f32 {
+    fn from(t: Bits) -> f32 {
+        from_bits(t.0)
     }
-    if b >= b'A' && b <= b'F' {
-        return (b - b'A') as u32 + 10;
-    }
-    0
 }
 
-// Four digits of hexadecimal.
-fn half(a: u8, b: u8, c: u8, d: u8) -> u32 {
-    digit(a) % 16 * 4096 + digit(b) % 16 * 256 + digit(c) % 16 * 16 + digit(d) % 16
+impl From<Bits> for u32 {
+    fn from(t: Bits) -> u32 {
+        t.0
+    }
+}
+
+impl From<Bits> for u8 {
+    fn from(t: Bits) -> u8 {
+        (t.0 % 256) as u8
+    }
+}
+
+impl From<f32> for Bits {
+    fn from(x: f32) -> Bits {
+        Bits(to_bits(x))
+    }
+}
+
+impl From<u32> for Bits {
+    fn from(x: u32) -> Bits {
+        Bits(x)
+    }
+}
+
+impl From<u8> for Bits {
+    fn from(x: u8) -> Bits {
+        Bits(u32::from(x))
+    }
+}
+
+fn digit(b: u8) -> u32 {
+    match b {
+        b'0'..=b'9' => (b - b'0') as u32,
+        b'A'..=b'F' => (b - b'A') as u32 + 10,
+        _ => 0,
+    }
 }
 
 // The next token; 0 past the end.
@@ -47,537 +80,104 @@ fn token(rt: HostRuntime) -> u32 {
     if rt.stdin().read_exact(&mut text).is_err() {
         return 0;
     }
-    let high = half(text[0], text[1], text[2], text[3]);
-    let low = half(text[4], text[5], text[6], text[7]);
-    high % 65536 * 65536 + low % 65536
+    text[..8].iter().fold(0, |word, b| word << 4 | digit(*b))
+}
+
+// A slice filled with tokens.
+fn read<T: From<Bits> + Drop>(rt: HostRuntime, s: &mut [T]) {
+    for x in s {
+        *x = T::from(Bits(token(rt)));
+    }
+}
+
+// A number of a study's settings.
+fn number(rt: HostRuntime) -> f32 {
+    from_bits(token(rt))
 }
 
 // More studies, or more lines of a study, than this are not read, so that a damaged list ends soon.
 const MOST: u32 = 1000;
 
 // A token that counts studies or lines.
-fn how_many(rt: HostRuntime) -> u32 {
-    let n = token(rt);
-    if n < MOST {
-        return n;
-    }
-    MOST
-}
-
-// A slice filled with tokens.
-fn read_numbers(rt: HostRuntime, s: &mut [f32]) {
-    let mut i = 0usize;
-    while i < s.len() {
-        s[i] = from_bits(token(rt));
-        i += 1;
-    }
-}
-
-fn read_words(rt: HostRuntime, s: &mut [u32]) {
-    let mut i = 0usize;
-    while i < s.len() {
-        s[i] = token(rt);
-        i += 1;
-    }
-}
-
-fn read_bytes(rt: HostRuntime, s: &mut [u8]) {
-    let mut i = 0usize;
-    while i < s.len() {
-        s[i] = (token(rt) % 256) as u8;
-        i += 1;
-    }
-}
-
-fn read_storage(
-    rt: HostRuntime,
-    bodies: &mut [f32],
-    words: &mut [u32],
-    numbers: &mut [f32],
-    rows: &mut [f32],
-) {
-    read_numbers(rt, bodies);
-    read_words(rt, words);
-    read_numbers(rt, numbers);
-    read_numbers(rt, rows);
+fn how_many(rt: HostRuntime) -> u32
+    ensures { result ≤ 1000 }
+{
+    token(rt).min(MOST)
 }
 
 // ---- checksums, h·31 + x modulo 2^32 from number to number
 
-fn mixed(h: u32, x: u32) -> u32 {
-    ((h as u64 * 31 + x as u64) % 4294967296) as u32
-}
-
-fn mix_numbers(h: u32, s: &[f32]) -> u32 {
-    let mut sum = h;
-    let mut i = 0usize;
-    while i < s.len() {
-        sum = mixed(sum, to_bits(s[i]));
-        i += 1;
-    }
-    sum
-}
-
-fn mix_words(h: u32, s: &[u32]) -> u32 {
-    let mut sum = h;
-    let mut i = 0usize;
-    while i < s.len() {
-        sum = mixed(sum, s[i]);
-        i += 1;
-    }
-    sum
-}
-
-fn wide(x: u8) -> u32 {
-    x as u32
-}
-
-// What an answer's own numbers add to a checksum h: h times `times`, plus `plus`.
 #[derive(Clone, Copy)]
-struct Tail {
-    times: u32,
-    plus: u32,
-}
+struct Checksum(u32);
 
-impl Tail {
-    fn word(self, x: u32) -> Tail {
-        Tail {
-            times: mixed(self.times, 0),
-            plus: mixed(self.plus, x),
-        }
+impl Checksum {
+    fn with<T: Into<Bits>>(self, x: T) -> Checksum {
+        let t: Bits = x.into();
+        Checksum(self.0.wrapping_mul(31).wrapping_add(t.0))
     }
 
-    fn number(self, x: f32) -> Tail {
-        self.word(to_bits(x))
+    fn with_all<T: Copy + Into<Bits>>(self, s: &[T]) -> Checksum {
+        s.iter().fold(self, |sum, x| sum.with(*x))
     }
 
-    fn vector(self, v: Vector) -> Tail {
-        self.number(v.x).number(v.y)
+    fn with_vector(self, v: Vector) -> Checksum {
+        self.with(v.x).with(v.y)
     }
 
-    fn row(self, r: JointConstraint) -> Tail {
-        let bounds = self
-            .number(r.impulse)
-            .number(r.impulse_min)
-            .number(r.impulse_max);
-        let jacobians = bounds
-            .vector(r.lin_jac)
-            .number(r.ang_jac1)
-            .number(r.ang_jac2);
-        let inertia = jacobians
-            .number(r.ii_ang_jac1)
-            .number(r.ii_ang_jac2)
-            .number(r.inv_lhs);
-        let sides = inertia
-            .number(r.rhs)
-            .number(r.rhs_wo_bias)
-            .number(r.cfm_gain);
-        sides.number(r.cfm_coeff).vector(r.im1).vector(r.im2)
-    }
-
-    fn rows(self, made: Rows) -> Tail {
-        let mut tail = self;
-        let mut i = 0usize;
-        while i < 6 {
-            if i < made.len {
-                let row = made.rows[i];
-                tail = tail.row(row);
-            }
-            i += 1;
-        }
-        tail
+    fn with_row(self, r: &JointConstraint) -> Checksum {
+        self.with(r.impulse)
+            .with(r.impulse_min)
+            .with(r.impulse_max)
+            .with_vector(r.lin_jac)
+            .with(r.ang_jac1)
+            .with(r.ang_jac2)
+            .with(r.ii_ang_jac1)
+            .with(r.ii_ang_jac2)
+            .with(r.inv_lhs)
+            .with(r.rhs)
+            .with(r.rhs_wo_bias)
+            .with(r.cfm_gain)
+            .with(r.cfm_coeff)
+            .with_vector(r.im1)
+            .with_vector(r.im2)
     }
 
     // An id is 4 times its kind (Dof, Limit, Motor) plus its axis.
-    fn id(self, id: WritebackId) -> Tail {
+    fn with_id(self, id: WritebackId) -> Checksum {
         match id {
-            WritebackId::Dof(i) => self.word((i % 4) as u32),
-            WritebackId::Limit(i) => self.word(4 + (i % 4) as u32),
-            WritebackId::Motor(i) => self.word(8 + (i % 4) as u32),
+            WritebackId::Dof(i) => self.with((i % 4) as u32),
+            WritebackId::Limit(i) => self.with(4 + (i % 4) as u32),
+            WritebackId::Motor(i) => self.with(8 + (i % 4) as u32),
         }
-    }
-
-    fn ids(self, named: RowIds) -> Tail {
-        let mut tail = self;
-        let mut i = 0usize;
-        while i < 6 {
-            if i < named.len {
-                let one = named.ids[i];
-                let id = one.id;
-                tail = tail.id(id);
-            }
-            i += 1;
-        }
-        tail
-    }
-
-    fn counts(self, counts: [u8; 128]) -> Tail {
-        let mut tail = self;
-        let mut i = 0usize;
-        while i < 128 {
-            tail = tail.word(wide(counts[i]));
-            i += 1;
-        }
-        tail
-    }
-
-    fn after(self, h: u32) -> u32 {
-        ((h as u64 * self.times as u64 + self.plus as u64) % 4294967296) as u32
     }
 }
 
-fn no_tail() -> Tail {
-    Tail { times: 1, plus: 0 }
+// The numbers of an answer, which a checksum takes after those of the storage.
+#[derive(Clone, Copy)]
+enum Numbers {
+    None,
+    Counts([u8; 128]),
+    Rows(Rows, RowIds),
+    Velocity(SolverVel),
+}
+
+impl Numbers {
+    fn after(self, sum: Checksum) -> Checksum {
+        match self {
+            Numbers::None => sum,
+            Numbers::Counts(counts) => sum.with_all(&counts),
+            Numbers::Rows(made, named) => {
+                let rows = made.rows.iter().take(made.len);
+                let ids = named.ids.iter().take(named.len);
+                let sum = rows.fold(sum, |sum, row| sum.with_row(row));
+                ids.fold(sum, |sum, one| sum.with_id(one.id))
+            }
+            Numbers::Velocity(v) => sum.with_vector(v.linear).with(v.angular),
+        }
+    }
 }
 
 // ---- one line
-
-// The opcode and the arguments of a line.
-#[derive(Clone, Copy)]
-struct Line {
-    op: u32,
-    a: u32,
-    b: u32,
-    c: u32,
-    d: u32,
-    e: u32,
-}
-
-fn next_line(rt: HostRuntime) -> Line {
-    let op = token(rt);
-    let a = token(rt);
-    let b = token(rt);
-    let c = token(rt);
-    let d = token(rt);
-    let e = token(rt);
-    Line {
-        op: op,
-        a: a,
-        b: b,
-        c: c,
-        d: d,
-        e: e,
-    }
-}
-
-// The header after a line, its answer as two words, and what the answer adds to the checksum.
-#[derive(Clone, Copy)]
-struct Done {
-    header: Header,
-    high: u32,
-    low: u32,
-    tail: Tail,
-}
-
-fn refused(header: Header, k: u32) -> Done {
-    Done {
-        header: header,
-        high: 0,
-        low: k,
-        tail: no_tail(),
-    }
-}
-
-fn plain(header: Header, answer: Plain) -> Done {
-    match answer {
-        Plain::Granted => refused(header, 0),
-        Plain::Refused(k) => refused(header, k),
-    }
-}
-
-// The answer of a load or a mask change.
-fn loaded(header: Header, answer: LoadAnswer) -> Done {
-    match answer {
-        LoadAnswer::Loaded(after) => refused(after, 0),
-        LoadAnswer::Refused(k) => refused(header, k),
-    }
-}
-
-fn run_set_masks(
-    l: Line,
-    header: Header,
-    bodies: &[f32],
-    words: &mut [u32],
-    numbers: &[f32],
-    rows: &[f32],
-) -> Done {
-    let masks = Masks {
-        locked_axes: l.b,
-        limit_axes: l.c,
-        motor_axes: l.d,
-        coupled_axes: l.e,
-    };
-    loaded(
-        header,
-        set_masks(header, bodies, words, numbers, rows, l.a, masks),
-    )
-}
-
-fn run_place(l: Line, header: Header, bodies: &mut [f32], words: &[u32], numbers: &[f32]) -> Done {
-    let pose = Pose {
-        rotation: Rotation {
-            re: from_bits(l.b),
-            im: from_bits(l.c),
-        },
-        translation: Vector {
-            x: from_bits(l.d),
-            y: from_bits(l.e),
-        },
-    };
-    plain(header, place(header, bodies, words, numbers, l.a, pose))
-}
-
-fn warm(l: Line) -> Warmstart {
-    if l.a == 0 {
-        return Warmstart::Cold;
-    }
-    Warmstart::Warm(from_bits(l.b))
-}
-
-fn run_build(
-    l: Line,
-    header: Header,
-    bodies: &[f32],
-    words: &[u32],
-    numbers: &[f32],
-    rows: &mut [f32],
-) -> Done {
-    let answer = build(header, bodies, words, numbers, rows, warm(l), l.c);
-    match answer {
-        BuildAnswer::Built(after, n) => Done {
-            header: after,
-            high: 1,
-            low: (n % 4294967296) as u32,
-            tail: no_tail(),
-        },
-        BuildAnswer::Refused(k) => refused(header, k),
-    }
-}
-
-fn run_sweep(
-    l: Line,
-    header: Header,
-    bodies: &mut [f32],
-    words: &[u32],
-    numbers: &[f32],
-    rows: &mut [f32],
-) -> Done {
-    let swept = sweep(header, bodies, words, numbers, rows, l.a);
-    let answer = swept.answer;
-    let counts = swept.counts;
-    match answer {
-        Plain::Granted => Done {
-            header: header,
-            high: 0,
-            low: 0,
-            tail: no_tail().counts(counts),
-        },
-        Plain::Refused(k) => refused(header, k),
-    }
-}
-
-fn run_frame(
-    l: Line,
-    header: Header,
-    bodies: &mut [f32],
-    words: &[u32],
-    numbers: &mut [f32],
-    rows: &mut [f32],
-) -> Done {
-    let made = frame(header, bodies, words, numbers, rows, warm(l), l.c, l.d);
-    let answer = made.answer;
-    let after = made.header;
-    let counts = made.counts;
-    match answer {
-        Plain::Granted => Done {
-            header: after,
-            high: 0,
-            low: 0,
-            tail: no_tail().counts(counts),
-        },
-        Plain::Refused(k) => refused(after, k),
-    }
-}
-
-fn run_read_rows(
-    l: Line,
-    header: Header,
-    bodies: &[f32],
-    words: &[u32],
-    numbers: &[f32],
-    rows: &[f32],
-) -> Done {
-    let read = read_rows(header, bodies, words, numbers, rows, l.a);
-    let answer = read.answer;
-    let named = read.ids;
-    let made = read.rows;
-    match answer {
-        Plain::Granted => Done {
-            header: header,
-            high: 1,
-            low: (made.len % 4294967296) as u32,
-            tail: no_tail().rows(made).ids(named),
-        },
-        Plain::Refused(k) => refused(header, k),
-    }
-}
-
-fn run_read_velocity(
-    l: Line,
-    header: Header,
-    bodies: &[f32],
-    words: &[u32],
-    numbers: &[f32],
-) -> Done {
-    let answer = read_velocity(header, bodies, words, numbers, l.a);
-    match answer {
-        VelocityAnswer::Velocity(v) => Done {
-            header: header,
-            high: 0,
-            low: 0,
-            tail: no_tail().vector(v.linear).number(v.angular),
-        },
-        VelocityAnswer::Refused(k) => refused(header, k),
-    }
-}
-
-// A motor table, whose bytes stand after the line, a token each.
-fn run_set_targets(
-    rt: HostRuntime,
-    header: Header,
-    bodies: &[f32],
-    words: &[u32],
-    numbers: &mut [f32],
-    table: &mut [u8],
-) -> Done {
-    read_bytes(rt, table);
-    plain(header, set_targets(header, bodies, words, numbers, table))
-}
-
-fn run_table(
-    rt: HostRuntime,
-    l: Line,
-    header: Header,
-    bodies: &[f32],
-    words: &[u32],
-    numbers: &mut [f32],
-) -> Done {
-    let mut table = [0u8; 400];
-    let n = least(l.a as usize, 400);
-    run_set_targets(rt, header, bodies, words, numbers, &mut table[0..n])
-}
-
-// A call on what is handed over.
-fn call(
-    rt: HostRuntime,
-    l: Line,
-    header: Header,
-    bodies: &mut [f32],
-    words: &mut [u32],
-    numbers: &mut [f32],
-    rows: &mut [f32],
-) -> Done {
-    let op = l.op;
-    match op {
-        0 => loaded(header, load(header, bodies, words, numbers, rows)),
-        1 => run_place(l, header, bodies, words, numbers),
-        2 => run_build(l, header, bodies, words, numbers, rows),
-        3 => plain(header, warm_start(header, bodies, words, numbers, rows)),
-        4 => run_sweep(l, header, bodies, words, numbers, rows),
-        5 => plain(header, remove_bias(header, bodies, words, numbers, rows)),
-        6 => plain(header, write_back(header, bodies, words, numbers, rows)),
-        7 => run_read_rows(l, header, bodies, words, numbers, rows),
-        11 => run_table(rt, l, header, bodies, words, numbers),
-        12 => run_set_masks(l, header, bodies, words, numbers, rows),
-        13 => run_frame(l, header, bodies, words, numbers, rows),
-        _ => run_read_velocity(l, header, bodies, words, numbers),
-    }
-}
-
-fn set_number(s: &mut [f32], at: u32, value: u32) {
-    let i = at as usize;
-    if i < s.len() {
-        s[i] = from_bits(value);
-    }
-}
-
-fn set_word(s: &mut [u32], at: u32, value: u32) {
-    let i = at as usize;
-    if i < s.len() {
-        s[i] = value;
-    }
-}
-
-// The caller's write to a setting or to the mark.
-fn set_header(l: Line, header: Header) -> Header {
-    let p = header.params;
-    let x = from_bits(l.c);
-    if l.a != 4 {
-        return Header {
-            params: p,
-            built: l.c != 0,
-        };
-    }
-    if l.b == 0 {
-        return Header {
-            params: IntegrationParameters {
-                dt: x,
-                length_unit: p.length_unit,
-                normalized_max_corrective_velocity: p.normalized_max_corrective_velocity,
-            },
-            built: header.built,
-        };
-    }
-    if l.b == 1 {
-        return Header {
-            params: IntegrationParameters {
-                dt: p.dt,
-                length_unit: x,
-                normalized_max_corrective_velocity: p.normalized_max_corrective_velocity,
-            },
-            built: header.built,
-        };
-    }
-    Header {
-        params: IntegrationParameters {
-            dt: p.dt,
-            length_unit: p.length_unit,
-            normalized_max_corrective_velocity: x,
-        },
-        built: header.built,
-    }
-}
-
-// The caller's write to storage, or to the header.
-fn set(
-    l: Line,
-    header: Header,
-    bodies: &mut [f32],
-    words: &mut [u32],
-    numbers: &mut [f32],
-    rows: &mut [f32],
-) -> Header {
-    let which = l.a;
-    match which {
-        0 => {
-            set_number(bodies, l.b, l.c);
-            header
-        }
-        1 => {
-            set_word(words, l.b, l.c);
-            header
-        }
-        2 => {
-            set_number(numbers, l.b, l.c);
-            header
-        }
-        3 => {
-            set_number(rows, l.b, l.c);
-            header
-        }
-        _ => set_header(l, header),
-    }
-}
 
 // How much of each storage is handed over.
 #[derive(Clone, Copy)]
@@ -588,205 +188,378 @@ struct Lengths {
     rows: usize,
 }
 
-// n, but at most as much as there is.
-fn least(n: usize, most: usize) -> usize
-    ensures { result ≤ most }
-{
-    if n < most {
-        return n;
-    }
-    most
+// What the caller writes: a number of the storage, a setting, or the mark.
+#[derive(Clone, Copy)]
+enum Field {
+    Bodies(usize),
+    Words(usize),
+    Numbers(usize),
+    Rows(usize),
+    Dt,
+    LengthUnit,
+    NormalizedMaxCorrectiveVelocity,
+    Built,
 }
 
-// What is carried from line to line of a study: the header, how much is handed over, and how many lines came
-// out otherwise than stored.
+impl Field {
+    fn of(kind: u32, index: u32) -> Field {
+        let i = index as usize;
+        match (kind, index) {
+            (0, _) => Field::Bodies(i),
+            (1, _) => Field::Words(i),
+            (2, _) => Field::Numbers(i),
+            (3, _) => Field::Rows(i),
+            (4, 0) => Field::Dt,
+            (4, 1) => Field::LengthUnit,
+            (4, _) => Field::NormalizedMaxCorrectiveVelocity,
+            _ => Field::Built,
+        }
+    }
+}
+
 #[derive(Clone, Copy)]
-struct At {
+enum Call {
+    Load,
+    Place(u32, Pose),
+    Build(Option<f32>, u32),
+    WarmStart,
+    Sweep(u32),
+    RemoveBias,
+    WriteBack,
+    ReadRows(u32),
+    ReadVelocity(u32),
+    SetTargets(usize),
+    SetMasks(u32, Masks),
+    Frame(Option<f32>, u32, u32),
+}
+
+// A call, or what the caller does in between: it writes, or hands over less.
+#[derive(Clone, Copy)]
+enum Line {
+    Call(Call),
+    Write(Field, u32),
+    HandOver(Lengths),
+}
+
+fn pose(re: u32, im: u32, x: u32, y: u32) -> Pose {
+    Pose {
+        rotation: Rotation {
+            re: from_bits(re),
+            im: from_bits(im),
+        },
+        translation: Vector {
+            x: from_bits(x),
+            y: from_bits(y),
+        },
+    }
+}
+
+fn warm(given: u32, coefficient: u32) -> Option<f32> {
+    if given == 0 {
+        None
+    } else {
+        Some(from_bits(coefficient))
+    }
+}
+
+impl Call {
+    fn of(op: u32, [a, b, c, d, e]: [u32; 5]) -> Call {
+        match op {
+            0 => Call::Load,
+            1 => Call::Place(a, pose(b, c, d, e)),
+            2 => Call::Build(warm(a, b), c),
+            3 => Call::WarmStart,
+            4 => Call::Sweep(a),
+            5 => Call::RemoveBias,
+            6 => Call::WriteBack,
+            7 => Call::ReadRows(a),
+            11 => Call::SetTargets(a as usize),
+            12 => {
+                let masks = Masks {
+                    locked_axes: b,
+                    limit_axes: c,
+                    motor_axes: d,
+                    coupled_axes: e,
+                };
+                Call::SetMasks(a, masks)
+            }
+            13 => Call::Frame(warm(a, b), c, d),
+            _ => Call::ReadVelocity(a),
+        }
+    }
+}
+
+impl Line {
+    // The opcode and the five arguments of a line.
+    fn next(rt: HostRuntime) -> Line {
+        let op = token(rt);
+        let mut arguments = [0u32; 5];
+        read(rt, &mut arguments);
+        let [a, b, c, d, _] = arguments;
+        match op {
+            9 => Line::Write(Field::of(a, b), c),
+            10 => Line::HandOver(Lengths {
+                bodies: a as usize,
+                words: b as usize,
+                numbers: c as usize,
+                rows: d as usize,
+            }),
+            _ => Line::Call(Call::of(op, arguments)),
+        }
+    }
+}
+
+// A granted call's answer: its two words, and its numbers.
+#[derive(Clone, Copy)]
+struct Reply {
+    high: u32,
+    low: u32,
+    numbers: Numbers,
+}
+
+impl Reply {
+    const PLAIN: Reply = Reply {
+        high: 0,
+        low: 0,
+        numbers: Numbers::None,
+    };
+
+    fn with(numbers: Numbers) -> Reply {
+        Reply {
+            high: 0,
+            low: 0,
+            numbers,
+        }
+    }
+
+    fn counted(n: usize, numbers: Numbers) -> Reply {
+        Reply {
+            high: 1,
+            low: (n % 4294967296) as u32,
+            numbers,
+        }
+    }
+}
+
+// A call's answer, or why it is refused.
+type Answer = Result<Reply, Refusal>;
+
+fn write<T: From<Bits> + Drop>(s: &mut [T], i: usize, value: u32) {
+    if let Some(x) = s.get_mut(i) {
+        *x = T::from(Bits(value));
+    }
+}
+
+// A study's storage, or as much of it as is handed over.
+#[derive(Drop)]
+struct Storage<'a> {
+    bodies: &'a mut [f32],
+    words: &'a mut [u32],
+    numbers: &'a mut [f32],
+    rows: &'a mut [f32],
+}
+
+impl Storage<'_> {
+    // As much of it as the lengths say.
+    fn first(&mut self, lengths: Lengths) -> Storage<'_> {
+        let Storage {
+            bodies,
+            words,
+            numbers,
+            rows,
+        } = self;
+        let b = lengths.bodies.min(bodies.len());
+        let w = lengths.words.min(words.len());
+        let n = lengths.numbers.min(numbers.len());
+        let r = lengths.rows.min(rows.len());
+        Storage {
+            bodies: &mut bodies[..b],
+            words: &mut words[..w],
+            numbers: &mut numbers[..n],
+            rows: &mut rows[..r],
+        }
+    }
+
+    fn read(&mut self, rt: HostRuntime) {
+        read(rt, self.bodies);
+        read(rt, self.words);
+        read(rt, self.numbers);
+        read(rt, self.rows);
+    }
+
+    fn checksum(&self) -> Checksum {
+        Checksum(0)
+            .with_all(self.bodies)
+            .with_all(self.words)
+            .with_all(self.numbers)
+            .with_all(self.rows)
+    }
+
+    // The caller's write to the storage, or to the header.
+    fn write(&mut self, header: &mut Header, field: Field, value: u32) {
+        match field {
+            Field::Bodies(i) => write(self.bodies, i, value),
+            Field::Words(i) => write(self.words, i, value),
+            Field::Numbers(i) => write(self.numbers, i, value),
+            Field::Rows(i) => write(self.rows, i, value),
+            Field::Dt => header.params.dt = from_bits(value),
+            Field::LengthUnit => header.params.length_unit = from_bits(value),
+            Field::NormalizedMaxCorrectiveVelocity => {
+                header.params.normalized_max_corrective_velocity = from_bits(value)
+            }
+            Field::Built => header.built = value != 0,
+        }
+    }
+
+    // A call on the storage. The bytes of a motor table stand after its line, a token each.
+    fn run(self, rt: HostRuntime, header: &mut Header, call: Call) -> Answer {
+        let Storage {
+            bodies,
+            words,
+            numbers,
+            rows,
+        } = self;
+        let h = *header;
+        match call {
+            Call::Load => {
+                *header = load(h, bodies, words, numbers, rows)?;
+                Ok(Reply::PLAIN)
+            }
+            Call::Place(body, pose) => {
+                place(h, bodies, words, numbers, body, pose)?;
+                Ok(Reply::PLAIN)
+            }
+            Call::Build(warmstart, substep_id) => {
+                let (after, n) = build(h, bodies, words, numbers, rows, warmstart, substep_id)?;
+                *header = after;
+                Ok(Reply::counted(n, Numbers::None))
+            }
+            Call::WarmStart => {
+                warm_start(h, bodies, words, numbers, rows)?;
+                Ok(Reply::PLAIN)
+            }
+            Call::Sweep(n) => {
+                let counts = sweep(h, bodies, words, numbers, rows, n)?;
+                Ok(Reply::with(Numbers::Counts(counts)))
+            }
+            Call::RemoveBias => {
+                remove_bias(h, bodies, words, numbers, rows)?;
+                Ok(Reply::PLAIN)
+            }
+            Call::WriteBack => {
+                write_back(h, bodies, words, numbers, rows)?;
+                Ok(Reply::PLAIN)
+            }
+            Call::ReadRows(joint) => {
+                let (ids, made) = read_rows(h, bodies, words, numbers, rows, joint)?;
+                Ok(Reply::counted(made.len, Numbers::Rows(made, ids)))
+            }
+            Call::ReadVelocity(body) => {
+                let v = read_velocity(h, bodies, words, numbers, body)?;
+                Ok(Reply::with(Numbers::Velocity(v)))
+            }
+            Call::SetTargets(n) => {
+                let mut space = [0u8; 400];
+                let table = &mut space[..n.min(400)];
+                read(rt, table);
+                set_targets(h, bodies, words, numbers, table)?;
+                Ok(Reply::PLAIN)
+            }
+            Call::SetMasks(joint, masks) => {
+                *header = set_masks(h, bodies, words, numbers, rows, joint, masks)?;
+                Ok(Reply::PLAIN)
+            }
+            Call::Frame(warmstart, sweeps, substeps) => {
+                let answer = frame(h, bodies, words, numbers, rows, warmstart, sweeps, substeps);
+                let (after, counts) = answer?;
+                *header = after;
+                Ok(Reply::with(Numbers::Counts(counts)))
+            }
+        }
+    }
+}
+
+// A study as its lines leave it: its storage, its header, and how much of the storage calls get.
+#[derive(Drop)]
+struct Study<'a> {
+    storage: Storage<'a>,
     header: Header,
     lengths: Lengths,
-    wrong: u64,
 }
 
-// A line's outcome, and how much is handed over after it.
-#[derive(Clone, Copy)]
-struct Outcome {
-    done: Done,
-    lengths: Lengths,
-}
+impl Study<'_> {
+    fn run(&mut self, rt: HostRuntime, line: Line) -> Answer {
+        match line {
+            Line::Call(call) => {
+                let lengths = self.lengths;
+                self.storage.first(lengths).run(rt, &mut self.header, call)
+            }
+            Line::Write(field, value) => {
+                self.storage.write(&mut self.header, field, value);
+                Ok(Reply::PLAIN)
+            }
+            Line::HandOver(lengths) => {
+                self.lengths = lengths;
+                Ok(Reply::PLAIN)
+            }
+        }
+    }
 
-// A call on as much of each storage as is handed over.
-fn call_on(
-    rt: HostRuntime,
-    l: Line,
-    header: Header,
-    lengths: Lengths,
-    bodies: &mut [f32],
-    words: &mut [u32],
-    numbers: &mut [f32],
-    rows: &mut [f32],
-) -> Done {
-    let b = least(lengths.bodies, bodies.len());
-    let w = least(lengths.words, words.len());
-    let n = least(lengths.numbers, numbers.len());
-    let r = least(lengths.rows, rows.len());
-    call(
-        rt,
-        l,
-        header,
-        &mut bodies[0..b],
-        &mut words[0..w],
-        &mut numbers[0..n],
-        &mut rows[0..r],
-    )
-}
-
-fn run(
-    rt: HostRuntime,
-    l: Line,
-    at: At,
-    bodies: &mut [f32],
-    words: &mut [u32],
-    numbers: &mut [f32],
-    rows: &mut [f32],
-) -> Outcome {
-    let header = at.header;
-    let lengths = at.lengths;
-    if l.op == 9 {
-        return Outcome {
-            done: refused(set(l, header, bodies, words, numbers, rows), 0),
-            lengths: lengths,
-        };
-    }
-    if l.op == 10 {
-        return Outcome {
-            done: refused(header, 0),
-            lengths: Lengths {
-                bodies: least(l.a as usize, bodies.len()),
-                words: least(l.b as usize, words.len()),
-                numbers: least(l.c as usize, numbers.len()),
-                rows: least(l.d as usize, rows.len()),
-            },
-        };
-    }
-    Outcome {
-        done: call_on(rt, l, header, lengths, bodies, words, numbers, rows),
-        lengths: lengths,
-    }
-}
-
-fn differs(done: Done, sum: u32, high: u32, low: u32, checksum: u32) -> u64 {
-    if sum != checksum {
-        return 1;
-    }
-    if done.high != high {
-        return 1;
-    }
-    if done.low != low {
-        return 1;
-    }
-    0
-}
-
-// One line: done, and its answer and the checksum compared with the stored ones.
-fn turn(
-    rt: HostRuntime,
-    at: At,
-    bodies: &mut [f32],
-    words: &mut [u32],
-    numbers: &mut [f32],
-    rows: &mut [f32],
-) -> At {
-    let l = next_line(rt);
-    let high = token(rt);
-    let low = token(rt);
-    let checksum = token(rt);
-    let outcome = run(rt, l, at, bodies, words, numbers, rows);
-    let done = outcome.done;
-    let header = done.header;
-    let lengths = outcome.lengths;
-    let tail = done.tail;
-    let stored = mix_numbers(mix_words(mix_numbers(0, bodies), words), numbers);
-    let sum = tail.after(mix_numbers(stored, rows));
-    let wrong = at.wrong % 4294967296 + differs(done, sum, high, low, checksum) % 2;
-    At {
-        header: header,
-        lengths: lengths,
-        wrong: wrong,
+    // One line, done: whether its answer and the checksum are the stored ones.
+    fn turn(&mut self, rt: HostRuntime) -> bool {
+        let line = Line::next(rt);
+        let mut stored = [0u32; 3];
+        read(rt, &mut stored);
+        let answer = self.run(rt, line);
+        let sum = self.storage.checksum();
+        match answer {
+            Ok(a) => stored == [a.high, a.low, a.numbers.after(sum).0],
+            Err(refusal) => stored == [0, refusal.number(), sum.0],
+        }
     }
 }
 
 // How many lines were run, and how many came out otherwise.
 #[derive(Clone, Copy)]
 struct Count {
-    lines: u64,
-    wrong: u64,
+    lines: u32,
+    wrong: u32,
 }
 
-// A study's lines, over storage of just its size.
-fn lines(
-    rt: HostRuntime,
-    header: Header,
-    n: u32,
-    bodies: &mut [f32],
-    words: &mut [u32],
-    numbers: &mut [f32],
-    rows: &mut [f32],
-) -> Count {
-    read_storage(rt, bodies, words, numbers, rows);
-    let mut at = At {
-        header: header,
-        lengths: Lengths {
-            bodies: bodies.len(),
-            words: words.len(),
-            numbers: numbers.len(),
-            rows: rows.len(),
-        },
-        wrong: 0,
+// The next study: its lines, over storage of just its size.
+fn next_study(rt: HostRuntime, storage: &mut Storage) -> Count
+    ensures lines { result.lines ≤ 1000 }
+    ensures wrong { result.wrong ≤ 1000 }
+{
+    let lengths = Lengths {
+        bodies: token(rt) as usize,
+        words: token(rt) as usize,
+        numbers: token(rt) as usize,
+        rows: token(rt) as usize,
     };
-    let mut i = 0u32;
-    while i < n {
-        at = turn(rt, at, bodies, words, numbers, rows);
-        i += 1;
-    }
-    Count {
-        lines: n as u64,
-        wrong: at.wrong,
-    }
-}
-
-// The next study.
-fn study(
-    rt: HostRuntime,
-    bodies: &mut [f32],
-    words: &mut [u32],
-    numbers: &mut [f32],
-    rows: &mut [f32],
-) -> Count {
-    let b = least(token(rt) as usize, bodies.len());
-    let w = least(token(rt) as usize, words.len());
-    let n = least(token(rt) as usize, numbers.len());
-    let r = least(token(rt) as usize, rows.len());
-    let count = how_many(rt);
-    let dt = from_bits(token(rt));
-    let length_unit = from_bits(token(rt));
-    let normalized = from_bits(token(rt));
-    let header = Header {
-        params: IntegrationParameters {
-            dt: dt,
-            length_unit: length_unit,
-            normalized_max_corrective_velocity: normalized,
-        },
-        built: false,
+    let lines = how_many(rt);
+    let params = IntegrationParameters {
+        dt: number(rt),
+        length_unit: number(rt),
+        normalized_max_corrective_velocity: number(rt),
     };
-    lines(
-        rt,
-        header,
-        count,
-        &mut bodies[0..b],
-        &mut words[0..w],
-        &mut numbers[0..n],
-        &mut rows[0..r],
-    )
+    let mut storage = storage.first(lengths);
+    storage.read(rt);
+    let mut study = Study {
+        storage,
+        header: Header {
+            params,
+            built: false,
+        },
+        lengths,
+    };
+    let mut wrong = 0;
+    for i in 0..lines {
+        if !study.turn(rt) {
+            wrong += 1;
+        }
+    }
+    Count { lines, wrong }
 }
 
 fn main(rt: HostRuntime) -> io::Result<()> {
@@ -794,15 +567,18 @@ fn main(rt: HostRuntime) -> io::Result<()> {
     let mut words = [0u32; 1600];
     let mut numbers = [0.0f32; 5500];
     let mut rows = [0.0f32; 1000];
-    let studies = how_many(rt);
-    let mut i = 0u32;
-    let mut run = 0u64;
-    let mut wrong = 0u64;
-    while i < studies {
-        let count = study(rt, &mut bodies, &mut words, &mut numbers, &mut rows);
-        run = run % 4294967296 + count.lines % 4294967296;
-        wrong = wrong % 4294967296 + count.wrong % 4294967296;
-        i += 1;
+    let mut storage = Storage {
+        bodies: &mut bodies,
+        words: &mut words,
+        numbers: &mut numbers,
+        rows: &mut rows,
+    };
+    let mut run = 0;
+    let mut wrong = 0;
+    for i in 0..how_many(rt) {
+        let count = next_study(rt, &mut storage);
+        run += count.lines;
+        wrong += count.wrong;
     }
     println!(rt; "{run} lines, {wrong} wrong")
 }

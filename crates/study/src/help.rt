@@ -1,9 +1,8 @@
 // What the program says of itself.
-use crate::out::{Console, out};
+use crate::out::Console;
 
 pub fn help(con: &Console) {
-    out(
-        con,
+    con.out(
         b"study: joint rows of rapier2d 0.36.1, planar, scalar, f32, in which every impulse names its rule
 
   study                reads a study from standard input, runs it and prints its tables
@@ -50,17 +49,17 @@ docs/STUDY.md has all of it, with units and signs; docs/RULES.md the rules that 
 
 // Which version made a number, and after what.
 fn name(con: &Console) {
-    out(con, b"katydidzinc 1.0.0, after rapier2d 0.36.1");
+    con.out(b"katydidzinc 1.0.0, after rapier2d 0.36.1");
 }
 
 pub fn version(con: &Console) {
     name(con);
-    out(con, b"; proved by rattle-kit-13f logic dac8208d650f15bf\n");
+    con.out(b"; proved by rattle-kit-13f logic dac8208d650f15bf\n");
 }
 
 // The last line below a table.
 pub fn made_by(con: &Console) {
-    out(con, b"by ");
+    con.out(b"by ");
     name(con);
-    out(con, b"\n");
+    con.out(b"\n");
 }

@@ -1,19 +1,13 @@
 // Files, opened by name and read to their end; the program's arguments.
 ghost use Rattle.std.specs.Prelude.{◌≡◌, ◌≤◌, IfOk, length, take};
 
-use crate::out::{Console, EINVAL, ENAMETOOLONG, fail};
+use crate::out::{Console, EINVAL, ENAMETOOLONG};
+use crate::run::Stop;
 use std::env::FillError;
 use std::fs::File;
 use std::io;
 use std::io::Read;
 use std::rt::Env;
-
-// How many bytes were read, and why the last read failed, if it did.
-#[derive(Clone, Copy)]
-pub struct Input {
-    pub len: usize,
-    pub failed: Option<io::Error>,
-}
 
 // A read, from a place of the buffer on. Answers where the bytes end.
 fn read_from<R: Read>(from: &mut R, buf: &mut [u8], at: usize) -> io::Result<usize>
@@ -24,38 +18,20 @@ fn read_from<R: Read>(from: &mut R, buf: &mut [u8], at: usize) -> io::Result<usi
     Ok(at + got)
 }
 
-// Reads until the input ends, the buffer is full or a read fails.
-pub fn read_all<R: Read>(from: &mut R, buf: &mut [u8]) -> Input
-    ensures bound { result.len ≤ length buf.new }
-    ensures prefix { result.len ≡ length (take result.len buf.new) }
+// Reads until the input ends or the buffer is full; answers how many bytes were read.
+pub fn read_all<R: Read>(from: &mut R, buf: &mut [u8]) -> io::Result<usize>
+    ensures bound { IfOk result (λ n. n ≤ length buf.new) }
+    ensures prefix { IfOk result (λ n. n ≡ length (take n buf.new)) }
 {
-    let most = buf.len();
     let mut at: usize = 0;
-    let mut turns = most;
-    while 0 < turns {
-        match read_from(from, &mut *buf, at) {
-            Ok(end) => {
-                if end == at {
-                    return Input {
-                        len: at,
-                        failed: None,
-                    };
-                }
-                at = end;
-            }
-            Err(error) => {
-                return Input {
-                    len: 0,
-                    failed: Some(error),
-                };
-            }
+    for _ in 0..buf.len() {
+        let end = read_from(from, &mut *buf, at)?;
+        if end == at {
+            return Ok(at);
         }
-        turns -= 1;
+        at = end;
     }
-    Input {
-        len: at,
-        failed: None,
-    }
+    Ok(at)
 }
 
 // A file by its name, for reading. A name that holds a byte 0, or is not UTF-8, names none.
@@ -73,26 +49,19 @@ pub fn open(con: &Console, name: &[u8]) -> io::Result<File> {
 pub fn arg_count(con: &Console) -> usize {
     let mut start = [0u8; 1];
     for i in 0..usize::MAX {
-        match con.rt.arg(i, &mut start) {
-            Err(FillError::NotPresent) => {
-                return i;
-            }
-            _ => {}
+        if let Err(FillError::NotPresent) = con.rt.arg(i, &mut start) {
+            return i;
         }
     }
     usize::MAX
 }
 
 // An argument that is not there, or has more bytes than a name may have.
-pub fn say_argument(con: &Console, error: FillError) -> u32 {
+pub fn say_argument(con: &Console, error: FillError) -> Stop {
     let number = match error {
         FillError::NotPresent => EINVAL,
         FillError::TooLong => ENAMETOOLONG,
     };
-    fail(
-        con,
-        b"study: argument",
-        io::Error::from_raw_os_error(number),
-    );
-    2
+    con.fail(b"study: argument", io::Error::from_raw_os_error(number));
+    Stop::Unread
 }

@@ -1,6 +1,7 @@
 // The model that a study describes, in one spelling: the text of a study with no call.
-use crate::out::{Console, err, out_part};
-use model::header::Header;
+use crate::out::Console;
+use crate::run::Stop;
+use multibody::header::Header;
 use study_writer::study::write_study;
 
 // How many bytes the text has, or 0 where there is none.
@@ -20,16 +21,13 @@ pub fn print_model(
     bodies: &[f32],
     words: &[u32],
     numbers: &[f32],
-) -> u32 {
+) -> Result<(), Stop> {
     let mut text = [0u8; 524288];
     let n = put_model(&mut text, header, bodies, words, numbers);
     if n == 0 {
-        err(
-            con,
-            b"study: a model has at most 128 bodies and 128 joints\n",
-        );
-        return 2;
+        con.err(b"study: a model has at most 128 bodies and 128 joints\n");
+        return Err(Stop::Unread);
     }
-    out_part(con, &text, 0, n);
-    0
+    con.out_part(&text, 0, n);
+    Ok(())
 }

@@ -1,195 +1,158 @@
 // What can be said of the calls of a study without a run: the first that would be refused whatever the numbers are, and a table of targets that is not there.
-use crate::out::{Console, err, err_number};
-use crate::place::{say_place, show_line};
+use crate::place::Study;
 use crate::refusals::say_rule;
+use crate::run::Stop;
 use crate::targets::find_targets;
 use floats::pose::Pose;
 use floats::scalar::is_finite;
+use multibody::refusal::Refusal;
 use rows::generic_joint::Masks;
-use rows::joint_constraint_builder::Warmstart;
-use study_reader::draft::State;
 use study_reader::words::{Word, next_word};
 use study_run::acts::{Act, StudyCall, act_at};
 use study_run::places::{Place, place_after};
 
-// Where the next line is, whether the rows stand, and the refusal that ends the study, or 0.
+// Where the next line is, and whether the rows stand.
 #[derive(Clone, Copy)]
 struct Plan {
     at: usize,
     built: bool,
-    refused: u32,
 }
 
-fn unbuilt(built: bool) -> u32 {
-    if built {
-        return 0;
-    }
-    10
+// ---- the rules that can be held to a call before a run
+
+fn held(rule: Refusal, holds: bool) -> Result<(), Refusal> {
+    if holds { Ok(()) } else { Err(rule) }
 }
 
-fn sweep_refusal(rounds: u32, built: bool) -> u32 {
-    if 64 < rounds {
-        return 9;
-    }
-    unbuilt(built)
-}
-
-fn warm_refusal(warmstart: Warmstart) -> u32 {
+fn held_warm(warmstart: Option<f32>) -> Result<(), Refusal> {
     match warmstart {
-        Warmstart::Cold => 0,
-        Warmstart::Warm(x) => finite_refusal(is_finite(x)),
+        Some(x) => held(Refusal::NotFinite, is_finite(x)),
+        None => Ok(()),
     }
 }
 
-fn finite_refusal(finite: bool) -> u32 {
-    if finite {
-        return 0;
-    }
-    6
+fn held_sweep(rounds: u32, built: bool) -> Result<(), Refusal> {
+    held(Refusal::TooManyRounds, rounds <= 64)?;
+    held(Refusal::NotBuilt, built)
 }
 
-fn is_warm(warmstart: Warmstart) -> bool {
-    match warmstart {
-        Warmstart::Cold => false,
-        Warmstart::Warm(_) => true,
-    }
+fn held_build(warmstart: Option<f32>, substep: u32, built: bool) -> Result<(), Refusal> {
+    held_warm(warmstart)?;
+    held(
+        Refusal::NotBuilt,
+        built || substep == 0 || warmstart.is_none(),
+    )
 }
 
-fn build_refusal(warmstart: Warmstart, substep: u32, built: bool) -> u32 {
-    let k = warm_refusal(warmstart);
-    if k != 0 {
-        return k;
-    }
-    if substep == 0 {
-        return 0;
-    }
-    if is_warm(warmstart) {
-        return unbuilt(built);
-    }
-    0
+fn held_frame(warmstart: Option<f32>, sweeps: u32, substeps: u32) -> Result<(), Refusal> {
+    held_warm(warmstart)?;
+    held(Refusal::TooManyRounds, sweeps <= 64)?;
+    held(Refusal::Substeps, matches!(substeps, 1..=16))
 }
 
-fn frame_refusal(warmstart: Warmstart, sweeps: u32, substeps: u32) -> u32 {
-    let k = warm_refusal(warmstart);
-    if k != 0 {
-        return k;
-    }
-    if 64 < sweeps {
-        return 9;
-    }
-    if 16 < substeps {
-        return 16;
-    }
-    if substeps == 0 {
-        return 16;
-    }
-    0
+fn held_masks(m: Masks) -> Result<(), Refusal> {
+    held(
+        Refusal::MaskOutOfRange,
+        m.locked_axes | m.limit_axes | m.motor_axes | m.coupled_axes <= 7,
+    )
 }
 
-fn masks_refusal(m: Masks) -> u32 {
-    if 7 < m.locked_axes | m.limit_axes | m.motor_axes | m.coupled_axes {
-        return 3;
-    }
-    0
-}
-
-fn place_refusal(pose: Pose) -> u32 {
+fn held_place(pose: Pose) -> Result<(), Refusal> {
     let at = pose.translation;
     let rotation = pose.rotation;
-    finite_refusal(
+    held(
+        Refusal::NotFinite,
         is_finite(at.x) && is_finite(at.y) && is_finite(rotation.re) && is_finite(rotation.im),
     )
 }
 
-// The refusal that a call meets, or 0 where a run has to tell.
-fn refusal_of(call: StudyCall, built: bool) -> u32 {
+// The rule that a call breaks whatever a run finds; of the others a run has to tell.
+fn held_call(call: StudyCall, built: bool) -> Result<(), Refusal> {
     match call {
-        StudyCall::Sweep(n) => sweep_refusal(n, built),
-        StudyCall::Build(warmstart, substep) => build_refusal(warmstart, substep, built),
-        StudyCall::Frame(warmstart, sweeps, n) => frame_refusal(warmstart, sweeps, n),
-        StudyCall::Place(_, pose) => place_refusal(pose),
-        StudyCall::SetMasks(_, m) => masks_refusal(m),
-        StudyCall::Load => 0,
-        StudyCall::SetTargets(_, _) => 0,
-        StudyCall::ReadVelocity(_) => 0,
-        _ => unbuilt(built),
+        StudyCall::Sweep(n) => held_sweep(n, built),
+        StudyCall::Build(warmstart, substep) => held_build(warmstart, substep, built),
+        StudyCall::Frame(warmstart, sweeps, n) => held_frame(warmstart, sweeps, n),
+        StudyCall::Place(_, pose) => held_place(pose),
+        StudyCall::SetMasks(_, m) => held_masks(m),
+        StudyCall::Load | StudyCall::SetTargets(_, _) | StudyCall::ReadVelocity(_) => Ok(()),
+        StudyCall::WarmStart
+        | StudyCall::RemoveBias
+        | StudyCall::WriteBack
+        | StudyCall::Settle(_, _)
+        | StudyCall::ReadRows(_)
+        | StudyCall::Table(_) => held(Refusal::NotBuilt, built),
     }
 }
 
 fn built_after(call: StudyCall, built: bool) -> bool {
     match call {
-        StudyCall::Load => false,
-        StudyCall::SetMasks(_, _) => false,
-        StudyCall::Build(_, _) => true,
-        StudyCall::Frame(_, _, _) => true,
+        StudyCall::Load | StudyCall::SetMasks(_, _) => false,
+        StudyCall::Build(_, _) | StudyCall::Frame(_, _, _) => true,
         _ => built,
     }
 }
 
-fn say_planned(con: &Console, name: &[u8], text: &[u8], at: usize, k: u32) {
-    say_place(con, name, text, at);
-    err(con, b"this call is refused with ");
-    err_number(con, k as u64);
-    err(con, b": ");
-    say_rule(con, k);
-    err(con, b"\n");
-    show_line(con, text, at);
+// ---- all calls
+
+fn say_planned(study: Study, at: usize, refusal: Refusal) {
+    let con = study.con;
+    study.say_place(at);
+    con.err(b"this call is refused with ");
+    say_rule(con, refusal);
+    con.err(b"\n");
+    study.show_line(at);
 }
 
-// A call's refusal, told; or that of a table of targets that is not there.
-fn told(con: &Console, name: &[u8], text: &[u8], at: usize, call: StudyCall, built: bool) -> u32 {
-    match call {
-        StudyCall::SetTargets(start, end) => find_targets(con, name, text, Word { start, end }),
-        _ => {
-            let k = refusal_of(call, built);
-            if k != 0 {
-                say_planned(con, name, text, next_word(text, at).start, k);
-            }
-            k
+// What ends the study at a call, told: the rule that it breaks, or a table of targets that is not there.
+fn told(study: Study, at: usize, call: StudyCall, built: bool) -> Result<(), Stop> {
+    if let StudyCall::SetTargets(start, end) = call {
+        return find_targets(study, Word { start, end });
+    }
+    match held_call(call, built) {
+        Ok(()) => Ok(()),
+        Err(refusal) => {
+            say_planned(study, next_word(study.text, at).start, refusal);
+            Err(Stop::Refused(refusal))
         }
     }
 }
 
 // One line; what a `repeat` has in it comes once.
-fn plan_line(con: &Console, name: &[u8], text: &[u8], names: &[u32], st: State, p: Plan) -> Plan {
-    let act = act_at(text, names, st.bodies, st.joints, p.at);
+fn plan_line(study: Study, p: Plan) -> Result<Plan, Stop> {
+    let st = study.st;
+    let act = act_at(study.text, study.names, st.bodies, st.joints, p.at);
     let here = Place {
         at: p.at,
         first: 0,
         left: 0,
     };
-    let next = place_after(text, names, st.bodies, st.joints, here, act);
+    let next = place_after(study.text, study.names, st.bodies, st.joints, here, act);
     match act {
-        Act::Call(call) => Plan {
-            at: next.at,
-            built: built_after(call, p.built),
-            refused: told(con, name, text, p.at, call, p.built),
-        },
-        _ => Plan {
+        Act::Call(call) => {
+            told(study, p.at, call, p.built)?;
+            Ok(Plan {
+                at: next.at,
+                built: built_after(call, p.built),
+            })
+        }
+        _ => Ok(Plan {
             at: next.at,
             built: p.built,
-            refused: 0,
-        },
+        }),
     }
 }
 
-// The first refusal, told, or 0; NO_FILE for a table that is not there.
-pub fn check_calls(con: &Console, name: &[u8], text: &[u8], names: &[u32], st: State) -> u32 {
+// As far as the first call that ends the study.
+pub fn check_calls(study: Study) -> Result<(), Stop> {
     let mut p = Plan {
-        at: st.calls,
+        at: study.st.calls,
         built: false,
-        refused: 0,
     };
-    let mut left = text.len();
-    while 0 < left {
-        if text.len() <= p.at {
-            return 0;
+    for _ in 0..study.text.len() {
+        if study.text.len() <= p.at {
+            return Ok(());
         }
-        p = plan_line(con, name, text, names, st, p);
-        if p.refused != 0 {
-            return p.refused;
-        }
-        left -= 1;
+        p = plan_line(study, p)?;
     }
-    0
+    Ok(())
 }

@@ -3,39 +3,42 @@ use floats::rotation_ops::Rotation;
 use floats::vector::Vector;
 use study_reader::storage::{NUMBERS, body_base, joint_base, number_at, word_at, words_base};
 
-// The most numbers of a record.
-const WIDEST: usize = 64;
+// A place of a record that starts at a base, if there is such a record. (A base of none is NUMBERS, where the origins of the words start.)
+fn within(base: usize, place: usize) -> Option<usize> {
+    if base < NUMBERS {
+        base.checked_add(place)
+    } else {
+        None
+    }
+}
 
-// A place of a record, from where it starts.
-fn within(base: usize, place: usize) -> usize {
-    if NUMBERS <= base {
-        return usize::MAX;
-    }
-    if WIDEST < place {
-        return usize::MAX;
-    }
-    base + place
+fn number_in(draft: &[f32], base: usize, place: usize) -> f32 {
+    within(base, place).map_or(0.0, |at| number_at(draft, at))
+}
+
+fn word_in(words: &[u32], base: usize, place: usize) -> u32 {
+    within(base, place).map_or(0, |at| word_at(words, at))
 }
 
 pub fn body_number(draft: &[f32], i: u32, place: usize) -> f32 {
-    number_at(draft, within(body_base(i), place))
+    number_in(draft, body_base(i), place)
 }
 
 pub fn joint_number(draft: &[f32], j: u32, place: usize) -> f32 {
-    number_at(draft, within(joint_base(j), place))
+    number_in(draft, joint_base(j), place)
 }
 
 pub fn joint_word(words: &[u32], j: u32, place: usize) -> u32 {
-    word_at(words, within(words_base(j), place))
+    word_in(words, words_base(j), place)
 }
 
 // Where the number of a body, or of a joint, was given; 0 where it was not.
 pub fn body_origin(origins: &[u32], i: u32, place: usize) -> u32 {
-    word_at(origins, within(body_base(i), place))
+    word_in(origins, body_base(i), place)
 }
 
 pub fn joint_origin(origins: &[u32], j: u32, place: usize) -> u32 {
-    word_at(origins, within(joint_base(j), place))
+    word_in(origins, joint_base(j), place)
 }
 
 // ---- poses

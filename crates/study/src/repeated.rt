@@ -1,6 +1,5 @@
 // A second reading of the lines, for what the first does not keep: a line that replaces an earlier one, numbers that look mistyped, what is called.
-use crate::out::{Console, err, err_number};
-use crate::place::{say_place, show_line};
+use crate::place::Study;
 use model::layout::{LIMITS_ANGULAR, MOTOR_ANGULAR, NUMBERS_WIDTH};
 use study_reader::calls::read_call;
 use study_reader::draft::{State, called, opened, reached, start};
@@ -24,18 +23,6 @@ pub struct Reading {
     pub prints: bool,
 }
 
-pub fn either(a: bool, b: bool) -> bool {
-    if a {
-        return true;
-    }
-    b
-}
-
-pub fn begin_warning(con: &Console, name: &[u8], text: &[u8], at: usize) {
-    say_place(con, name, text, at);
-    err(con, b"warning: ");
-}
-
 // ---- a line that replaces another
 
 // Where the lines of the settings are kept, after those of the item that is open.
@@ -44,71 +31,49 @@ const SETTINGS_SEEN: u32 = 64;
 // The place of a line by what it gives: a number of the settings, of the body or the joint that is open.
 fn seen_place(kind: u32, place: u32) -> usize {
     if 63 < place {
-        return 127;
+        127
+    } else if kind == SETTINGS_ITEM {
+        (SETTINGS_SEEN + place) as usize
+    } else {
+        place as usize
     }
-    if kind == SETTINGS_ITEM {
-        return (SETTINGS_SEEN + place) as usize;
-    }
-    place as usize
 }
 
 // The line that gave the same before, in the same item; settings are one item.
-fn given_before(seen: &[u32], s: Reading, place: usize) -> u32 {
-    let before = word_at(seen, place);
-    if (before as usize) < s.item_at {
-        if place < SETTINGS_SEEN as usize {
-            return 0;
-        }
+fn given_before(seen: &[u32], s: Reading, place: usize) -> Option<usize> {
+    let before = word_at(seen, place) as usize;
+    if before == 0 || before < s.item_at && place < SETTINGS_SEEN as usize {
+        return None;
     }
-    before
+    Some(before)
 }
 
-fn warn_replaced(con: &Console, name: &[u8], text: &[u8], at: usize, before: u32) -> bool {
-    if before == 0 {
-        return false;
-    }
-    begin_warning(con, name, text, at);
-    err(con, b"this line replaces what line ");
-    err_number(con, line_of(text, before as usize));
-    err(con, b" gives\n");
-    show_line(con, text, at);
-    true
+fn warn_replaced(study: Study, at: usize, before: usize) {
+    study.begin_warning(at);
+    study.con.err(b"this line replaces what line ");
+    study.con.err_number(line_of(study.text, before));
+    study.con.err(b" gives\n");
+    study.show_line(at);
 }
 
-fn given_once(
-    con: &Console,
-    name: &[u8],
-    text: &[u8],
-    seen: &mut [u32],
-    s: Reading,
-    w: Word,
-    place: usize,
-) -> bool {
+fn given_once(study: Study, seen: &mut [u32], s: Reading, w: Word, place: usize) -> bool {
     let before = given_before(seen, s, place);
     set_word(seen, place, kept(w.start));
-    warn_replaced(con, name, text, w.start, before)
+    if let Some(at) = before {
+        warn_replaced(study, w.start, at);
+    }
+    before.is_some()
 }
 
 // ---- numbers that look mistyped
 
+// A turn or more, either way; a larger number than these is no angle that was meant in degrees.
 fn is_turn(x: f32) -> bool {
-    if x > 1e30 {
-        return false;
-    }
-    if x < -1e30 {
-        return false;
-    }
-    if x > 6.2831853 {
-        return true;
-    }
-    x < -6.2831853
+    !(x > 1e30) && !(x < -1e30) && (x > 6.2831853 || x < -6.2831853)
 }
 
 fn is_typed_angle(keyword: u32) -> bool {
-    match keyword {
-        ANGLE | FRAME1_ANGLE | FRAME2_ANGLE | CENTER_ANGLE => true,
-        _ => false,
-    }
+    matches!(keyword, ANGLE | FRAME1_ANGLE | FRAME2_ANGLE | CENTER_ANGLE)
 }
 
 // The number at an offset, as it is typed.
@@ -116,149 +81,111 @@ fn typed(text: &[u8], at: usize) -> f32 {
     value_of(number_in(text, next_word(text, at)))
 }
 
-fn warn_turn(con: &Console, name: &[u8], text: &[u8], at: usize, x: f32) -> bool {
-    if is_turn(x) {
-        begin_warning(con, name, text, at);
-        err(
-            con,
-            b"a turn or more; angles are in radians, not in degrees\n",
-        );
-        show_line(con, text, at);
-        return true;
+fn warn_turn(study: Study, at: usize, x: f32) -> bool {
+    let turns = is_turn(x);
+    if turns {
+        study.begin_warning(at);
+        study
+            .con
+            .err(b"a turn or more; angles are in radians, not in degrees\n");
+        study.show_line(at);
     }
-    false
+    turns
 }
 
 // An angular limit, a target angle or an angle of a turn or more.
-fn warn_angles(
-    con: &Console,
-    name: &[u8],
-    text: &[u8],
-    kind: u32,
-    keyword: u32,
-    n: Numbers,
-) -> bool {
+fn warn_angles(study: Study, kind: u32, keyword: u32, n: Numbers) -> bool {
     if is_typed_angle(keyword) {
-        return warn_turn(con, name, text, n.x_at, typed(text, n.x_at));
+        return warn_turn(study, n.x_at, typed(study.text, n.x_at));
     }
     if kind != JOINT_ITEM {
         return false;
     }
     if n.place == LIMITS_ANGULAR as u32 {
-        return either(
-            warn_turn(con, name, text, n.x_at, n.x),
-            warn_turn(con, name, text, n.y_at, n.y),
-        );
+        return warn_turn(study, n.x_at, n.x) | warn_turn(study, n.y_at, n.y);
     }
     if n.place == MOTOR_ANGULAR as u32 + 1 {
-        return warn_turn(con, name, text, n.x_at, n.x);
+        return warn_turn(study, n.x_at, n.x);
     }
     false
 }
 
-fn warn_inverse(con: &Console, name: &[u8], text: &[u8], at: usize, x: f32, inverse: f32) -> bool {
-    if inverse != 0.0 {
+fn warn_inverse(study: Study, at: usize, x: f32, inverse: f32) -> bool {
+    if inverse != 0.0 || x == 0.0 {
         return false;
     }
-    if x == 0.0 {
-        return false;
-    }
-    begin_warning(con, name, text, at);
-    err(
-        con,
+    study.begin_warning(at);
+    study.con.err(
         b"so large or so small that its inverse is taken as 0, as if nothing could move the body\n",
     );
-    show_line(con, text, at);
+    study.show_line(at);
     true
 }
 
 // A mass or an inertia whose inverse is 0.
-fn warn_mass(con: &Console, name: &[u8], text: &[u8], keyword: u32, n: Numbers) -> bool {
+fn warn_mass(study: Study, keyword: u32, n: Numbers) -> bool {
     match keyword {
-        MASS | INERTIA => warn_inverse(con, name, text, n.x_at, typed(text, n.x_at), n.x),
+        MASS | INERTIA => warn_inverse(study, n.x_at, typed(study.text, n.x_at), n.x),
         _ => false,
     }
 }
 
-fn warn_numbers(con: &Console, name: &[u8], text: &[u8], kind: u32, w: Word, n: Numbers) -> bool {
-    let keyword = item_keyword(text, w);
-    either(
-        warn_angles(con, name, text, kind, keyword, n),
-        warn_mass(con, name, text, keyword, n),
-    )
+fn warn_numbers(study: Study, kind: u32, w: Word, n: Numbers) -> bool {
+    let keyword = item_keyword(study.text, w);
+    warn_angles(study, kind, keyword, n) | warn_mass(study, keyword, n)
 }
 
 // ---- calls
 
 fn is_printing(keyword: u32) -> bool {
-    match keyword {
-        TABLE | READ_ROWS | READ_VELOCITY | SETTLE => true,
-        _ => false,
-    }
+    matches!(keyword, TABLE | READ_ROWS | READ_VELOCITY | SETTLE)
 }
 
-// A joint whose masks a call changes.
-fn keep_masks(text: &[u8], names: &[u32], st: State, w: Word, changed: &mut [u32]) {
-    let l = read_call(text, names, st.bodies, st.joints, false, w);
-    set_word(changed, l.number as usize, 1);
-}
-
+// A joint whose masks a call changes is kept.
 fn keep_call(text: &[u8], names: &[u32], st: State, keyword: u32, w: Word, changed: &mut [u32]) {
     if keyword == MASKS {
-        keep_masks(text, names, st, w, changed);
+        let l = read_call(text, names, st.bodies, st.joints, false, w);
+        set_word(changed, l.number as usize, 1);
     }
 }
 
 // ---- one line, and all
 
-fn with_state(s: Reading, st: State) -> Reading {
-    let mut t = s;
-    t.st = st;
-    t
-}
-
 fn with_item(s: Reading, st: State, at: usize) -> Reading {
-    let mut t = s;
-    t.st = st;
-    t.item_at = at;
-    t
+    Reading {
+        st,
+        item_at: at,
+        ..s
+    }
 }
 
 fn with_warning(s: Reading, warned: bool) -> Reading {
-    let mut t = s;
-    t.warned = either(s.warned, warned);
-    t
+    Reading {
+        warned: s.warned || warned,
+        ..s
+    }
 }
 
 fn with_call(s: Reading, st: State, keyword: u32) -> Reading {
-    let mut t = s;
-    t.st = st;
-    t.called = true;
-    t.prints = either(s.prints, is_printing(keyword));
-    t
+    Reading {
+        st,
+        called: true,
+        prints: s.prints || is_printing(keyword),
+        ..s
+    }
 }
 
-fn after_line(
-    con: &Console,
-    name: &[u8],
-    text: &[u8],
-    names: &[u32],
-    seen: &mut [u32],
-    changed: &mut [u32],
-    s: Reading,
-    w: Word,
-) -> Reading {
+fn after_line(study: Study, seen: &mut [u32], changed: &mut [u32], s: Reading, w: Word) -> Reading {
     let st = s.st;
-    let change = read_line(text, names, st);
-    match change {
+    match read_line(study.text, study.names, st) {
         Change::Given(n) => {
-            let again = given_once(con, name, text, seen, s, w, seen_place(st.kind, n.place));
-            let odd = warn_numbers(con, name, text, st.kind, w, n);
-            with_warning(s, either(again, odd))
+            let again = given_once(study, seen, s, w, seen_place(st.kind, n.place));
+            let odd = warn_numbers(study, st.kind, w, n);
+            with_warning(s, again || odd)
         }
         Change::JointWord(place, _, _) => {
             let from = seen_place(st.kind, joint_word(place));
-            with_warning(s, given_once(con, name, text, seen, s, w, from))
+            with_warning(s, given_once(study, seen, s, w, from))
         }
         Change::OpenSettings => with_item(
             s,
@@ -276,11 +203,10 @@ fn after_line(
             w.start,
         ),
         Change::Call(keyword, at) => {
-            keep_call(text, names, st, keyword, w, changed);
+            keep_call(study.text, study.names, st, keyword, w, changed);
             with_call(s, called(st, keyword, at), keyword)
         }
-        Change::Nothing => s,
-        Change::Wrong(_, _) => s,
+        Change::Nothing | Change::Wrong(_, _) => s,
     }
 }
 
@@ -293,35 +219,18 @@ fn joint_word(place: u32) -> u32 {
 }
 
 fn scanned(text: &[u8], s: Reading) -> Reading {
-    let st = s.st;
-    with_state(s, reached(st, next_line(text, st.at)))
+    Reading {
+        st: reached(s.st, next_line(text, s.st.at)),
+        ..s
+    }
 }
 
-fn scan_line(
-    con: &Console,
-    name: &[u8],
-    text: &[u8],
-    names: &[u32],
-    seen: &mut [u32],
-    changed: &mut [u32],
-    s: Reading,
-) -> Reading {
-    let st = s.st;
-    let w = next_word(text, st.at);
-    scanned(
-        text,
-        after_line(con, name, text, names, seen, changed, s, w),
-    )
+fn scan_line(study: Study, seen: &mut [u32], changed: &mut [u32], s: Reading) -> Reading {
+    let w = next_word(study.text, s.st.at);
+    scanned(study.text, after_line(study, seen, changed, s, w))
 }
 
-fn scan_lines(
-    con: &Console,
-    name: &[u8],
-    text: &[u8],
-    names: &[u32],
-    seen: &mut [u32],
-    changed: &mut [u32],
-) -> Reading {
+fn scan_lines(study: Study, seen: &mut [u32], changed: &mut [u32]) -> Reading {
     let mut s = Reading {
         st: start(),
         item_at: 0,
@@ -329,25 +238,17 @@ fn scan_lines(
         called: false,
         prints: false,
     };
-    let mut left = text.len();
-    while 0 < left {
-        if text.len() <= s.st.at {
+    for _ in 0..study.text.len() {
+        if study.text.len() <= s.st.at {
             return s;
         }
-        s = scan_line(con, name, text, names, &mut *seen, &mut *changed, s);
-        left -= 1;
+        s = scan_line(study, &mut *seen, &mut *changed, s);
     }
     s
 }
 
 // Reads the lines of a text that can be read once more; which joints' masks are changed by a call is written to `changed`.
-pub fn scan(
-    con: &Console,
-    name: &[u8],
-    text: &[u8],
-    names: &[u32],
-    changed: &mut [u32],
-) -> Reading {
+pub fn scan(study: Study, changed: &mut [u32]) -> Reading {
     let mut seen = [0u32; 128];
-    scan_lines(con, name, text, names, &mut seen, changed)
+    scan_lines(study, &mut seen, changed)
 }

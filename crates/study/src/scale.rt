@@ -1,97 +1,98 @@
 // The bar of a picture's scale: 1, 2 or 5 times a power of ten of metres.
-use crate::out::{Console, out, out_millionths};
+use crate::out::Console;
+
+#[derive(Clone, Copy)]
+enum Digit {
+    One,
+    Two,
+    Five,
+}
 
 // A length of a digit times a power of ten, whose exponent is kept 30 higher.
 #[derive(Clone, Copy)]
 struct Bar {
-    digit: u32,
-    exponent: u32,
+    digit: Digit,
+    exponent: usize,
     metres: f32,
 }
 
-// The bar after this one: 1, 2, 5, 10, ...
-fn longer(b: Bar) -> Bar {
-    if b.digit == 1 {
-        return Bar {
-            digit: 2,
-            exponent: b.exponent,
-            metres: b.metres * 2.0,
+impl Bar {
+    // The first bar that is at least 1000 units long, or the 200th after the shortest.
+    fn of(scale: f32) -> Bar {
+        let mut bar = Bar {
+            digit: Digit::One,
+            exponent: 0,
+            metres: 1e-30,
         };
-    }
-    if b.digit == 2 {
-        return Bar {
-            digit: 5,
-            exponent: b.exponent,
-            metres: b.metres * 2.5,
-        };
-    }
-    Bar {
-        digit: 1,
-        exponent: raised(b.exponent),
-        metres: b.metres * 2.0,
-    }
-}
-
-fn raised(exponent: u32) -> u32 {
-    if exponent < 100 {
-        return exponent + 1;
-    }
-    exponent
-}
-
-// The first bar that is at least 1000 units long.
-fn bar_for(scale: f32) -> Bar {
-    let mut b = Bar {
-        digit: 1,
-        exponent: 0,
-        metres: 1e-30,
-    };
-    let mut left: u32 = 200;
-    while 0 < left {
-        if b.metres * scale >= 0.001 {
-            return b;
+        for _turn in 0..200 {
+            if bar.metres * scale >= 0.001 {
+                return bar;
+            }
+            bar = bar.longer();
         }
-        b = longer(b);
-        left -= 1;
+        bar
     }
-    b
+
+    // The bar after this one: 1, 2, 5, 10, ...
+    fn longer(self) -> Bar {
+        let Bar {
+            digit,
+            exponent,
+            metres,
+        } = self;
+        match digit {
+            Digit::One => Bar {
+                digit: Digit::Two,
+                exponent,
+                metres: metres * 2.0,
+            },
+            Digit::Two => Bar {
+                digit: Digit::Five,
+                exponent,
+                metres: metres * 2.5,
+            },
+            Digit::Five => Bar {
+                digit: Digit::One,
+                exponent: exponent.saturating_add(1),
+                metres: metres * 2.0,
+            },
+        }
+    }
+
+    fn out_digit(self, con: &Console) {
+        match self.digit {
+            Digit::One => con.out(b"1"),
+            Digit::Two => con.out(b"2"),
+            Digit::Five => con.out(b"5"),
+        }
+    }
+
+    // The number of metres as a decimal.
+    fn out_metres(self, con: &Console) {
+        if 30 <= self.exponent {
+            self.out_digit(con);
+            out_zeros(con, self.exponent - 30);
+        } else {
+            con.out(b"0.");
+            out_zeros(con, 29 - self.exponent);
+            self.out_digit(con);
+        }
+    }
 }
 
-fn out_zeros(con: &Console, n: u32) {
-    let mut left = n;
-    while 0 < left {
-        out(con, b"0");
-        left -= 1;
+fn out_zeros(con: &Console, n: usize) {
+    for _ in 0..n {
+        con.out(b"0");
     }
-}
-
-fn out_digit(con: &Console, digit: u32) {
-    match digit {
-        1 => out(con, b"1"),
-        2 => out(con, b"2"),
-        _ => out(con, b"5"),
-    }
-}
-
-// The number of metres as a decimal.
-fn out_metres(con: &Console, b: Bar) {
-    if 30 <= b.exponent {
-        out_digit(con, b.digit);
-        out_zeros(con, b.exponent - 30);
-        return;
-    }
-    out(con, b"0.");
-    out_zeros(con, 29 - b.exponent);
-    out_digit(con, b.digit);
 }
 
 // The bar's label, under a height of the picture; answers how long the bar is.
 pub fn out_scale(con: &Console, scale: f32, y: f32) -> f32 {
-    let b = bar_for(scale);
-    out(con, b"<text x=\"0\" y=\"");
-    out_millionths(con, y + 0.0003);
-    out(con, b"\">");
-    out_metres(con, b);
-    out(con, b" m</text>\n");
-    b.metres * scale
+    let bar = Bar::of(scale);
+    con.out(b"<text x=\"0\" y=\"");
+    con.out_millionths(y + 0.0003);
+    con.out(b"\">");
+    bar.out_metres(con);
+    con.out(b" m</text>\n");
+    bar.metres * scale
 }

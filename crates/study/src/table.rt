@@ -1,17 +1,20 @@
 // The table of a built model: a line a row, and the rules that its rows came from.
 use crate::help::made_by;
-use crate::out::{Console, out_part};
+use crate::out::Console;
+use crate::place::Study;
 use crate::records::joint_word;
 use crate::residual::{Residual, out_residual};
 use catalogue::text::put_id;
-use model::calls::read_rows;
-use model::header::Header;
+use model::calls::{read_rows, read_velocity};
 use model::layout::WORLD;
 use model::reactions::{reaction_at, residual_at};
-use rows::joint_velocity_constraint::{Rows, WritebackId};
+use multibody::header::Header;
+use multibody::refusal::Refusal;
+use rows::joint_velocity_constraint::{JointConstraint, Rows, SolverVel, WritebackId};
 use rows::reaction::Reaction;
 use rows::row_ids::RowIds;
 use study_reader::names::{body_name, joint_name};
+use study_reader::words::bytes_of;
 use study_run::motors::Motors;
 use study_text::citations::write_rules;
 use study_text::csv::write_csv_row;
@@ -21,379 +24,231 @@ use study_text::reaction::{write_reaction, write_reaction_heading, write_reactio
 use study_text::row::write_row;
 use study_text::rules::{rule_index, rule_of};
 
+// What a function of the library writes into a slice, of which it answers the length. The rules are longest, with fewer bytes than these.
+pub fn out_written<F: FnOnce(&mut [u8]) -> usize>(con: &Console, write: F)
+    requires { F.IsAlwaysCallable write }
+{
+    let mut text = [0u8; 4608];
+    let n = write(&mut text);
+    con.out_part(&text, 0, n);
+}
+
 // An id as document 01's cases write it.
 pub fn out_id(con: &Console, id: WritebackId) {
-    let mut bytes = [0u8; 6];
-    let end = put_id(&mut bytes, 0, id);
-    out_part(con, &bytes, 0, end);
+    out_written(con, |text| put_id(text, 0, id));
+}
+
+// ---- a built model
+
+// What calls that read a model are given of it.
+#[derive(Clone, Copy)]
+pub struct Model<'a> {
+    pub header: Header,
+    pub bodies: &'a [f32],
+    pub words: &'a [u32],
+    pub numbers: &'a [f32],
+    pub rows: &'a [f32],
+}
+
+impl Model<'_> {
+    pub fn read_rows(self, joint: u32) -> Result<(RowIds, Rows), Refusal> {
+        read_rows(
+            self.header,
+            self.bodies,
+            self.words,
+            self.numbers,
+            self.rows,
+            joint,
+        )
+    }
+
+    pub fn velocity(self, body: u32) -> Option<SolverVel> {
+        read_velocity(self.header, self.bodies, self.words, self.numbers, body).ok()
+    }
+
+    pub fn residual_at(self, row: JointConstraint, joint: u32) -> f32 {
+        residual_at(self.bodies, self.words, row, joint as usize)
+    }
+
+    // What a joint's rows together gave its bodies.
+    fn reaction_at(self, joint: u32) -> Option<Reaction> {
+        let (_, made) = self.read_rows(joint).ok()?;
+        Some(reaction_at(self.bodies, self.words, self.numbers, made, joint as usize))
+    }
 }
 
 // ---- one line, as text or as comma-separated values
 
-// What a line has beside the names of its joint and bodies: a row's id, impulse, bounds and residual, or what the joint gave its bodies.
+impl<'a> Study<'a> {
+    pub fn body_name(self, i: u32) -> &'a [u8] {
+        bytes_of(self.text, body_name(self.names, i))
+    }
+
+    pub fn joint_name(self, j: u32) -> &'a [u8] {
+        bytes_of(self.text, joint_name(self.names, j))
+    }
+}
+
+// One joint: its number and its name, the names of its bodies, and its coupled axes; how many of its motors the last round found low or high, if there was one. A name
+// has at most 64 bytes, so that each line fits.
 #[derive(Clone, Copy)]
-pub struct Values {
-    pub id: WritebackId,
-    pub impulse: f32,
-    pub low: f32,
-    pub high: f32,
-    pub residual: f32,
+pub struct Joint<'a> {
+    number: u32,
+    name: &'a [u8],
+    body1: &'a [u8],
+    body2: &'a [u8],
+    coupled: u32,
+    pub motors: Option<u8>,
 }
 
-// A joint's reaction; how many of its motors the last round found low or high, if there was one.
-#[derive(Clone, Copy)]
-pub struct Given {
-    pub reaction: Reaction,
-    pub swept: bool,
-    pub motors: u8,
-}
-
-#[derive(Clone, Copy)]
-pub enum Line {
-    Row(Values),
-    Reaction(Given),
-}
-
-// One row, by the names of its joint and bodies. A name has at most 64 bytes, so that the line fits.
-fn out_row(con: &Console, joint: &[u8], body1: &[u8], body2: &[u8], h: Heading, v: Values) {
-    let id = v.id;
-    let mut line = [0u8; 4096];
-    if h.csv {
-        let n = write_csv_row(
-            &mut line, joint, body1, body2, id, h.coupled, v.impulse, v.low, v.high, v.residual,
-        );
-        out_part(con, &line, 0, n);
-        return;
-    }
-    let n = write_row(
-        &mut line, joint, body1, body2, id, h.coupled, v.impulse, v.low, v.high, v.residual,
-    );
-    out_part(con, &line, 0, n);
-}
-
-fn out_reaction(con: &Console, joint: &[u8], body1: &[u8], body2: &[u8], h: Heading, g: Given) {
-    let reaction = g.reaction;
-    let mut line = [0u8; 4096];
-    if h.csv {
-        let n = write_csv_reaction(&mut line, joint, body1, body2, reaction, g.swept, g.motors);
-        out_part(con, &line, 0, n);
-        return;
-    }
-    let n = write_reaction(&mut line, joint, body1, body2, reaction, g.swept, g.motors);
-    out_part(con, &line, 0, n);
-}
-
-fn out_line(con: &Console, joint: &[u8], body1: &[u8], body2: &[u8], h: Heading, line: Line) {
-    match line {
-        Line::Row(v) => out_row(con, joint, body1, body2, h, v),
-        Line::Reaction(g) => out_reaction(con, joint, body1, body2, h, g),
+// The name of a joint's body.
+fn body_of<'a>(study: Study<'a>, body: u32) -> &'a [u8] {
+    if body == WORLD {
+        b"world"
+    } else {
+        study.body_name(body)
     }
 }
 
-fn text_body2(
-    con: &Console,
-    text: &[u8],
-    names: &[u32],
-    joint: &[u8],
-    body1: &[u8],
-    h: Heading,
-    line: Line,
-) {
-    if h.body2 == WORLD {
-        out_line(con, joint, body1, b"world", h, line);
-        return;
+impl<'a> Joint<'a> {
+    pub fn of(study: Study<'a>, words: &[u32], motors: Motors, number: u32) -> Joint<'a> {
+        Joint {
+            number,
+            name: study.joint_name(number),
+            body1: body_of(study, joint_word(words, number, 0)),
+            body2: body_of(study, joint_word(words, number, 1)),
+            coupled: joint_word(words, number, 5),
+            motors: motors.map(|counts| counts.get(number as usize).copied().unwrap_or(0)),
+        }
     }
-    let w = body_name(names, h.body2);
-    let start = w.start;
-    let end = w.end;
-    if text.len() < end {
-        return;
-    }
-    if end < start {
-        return;
-    }
-    out_line(con, joint, body1, &text[start..end], h, line);
-}
 
-fn text_body1(con: &Console, text: &[u8], names: &[u32], joint: &[u8], h: Heading, line: Line) {
-    if h.body1 == WORLD {
-        text_body2(con, text, names, joint, b"world", h, line);
-        return;
+    // The line of a row, with its residual.
+    pub fn out_row(
+        self,
+        con: &Console,
+        id: WritebackId,
+        row: JointConstraint,
+        residual: f32,
+        csv: bool,
+    ) {
+        let Joint {
+            name,
+            body1,
+            body2,
+            coupled,
+            ..
+        } = self;
+        let impulse = row.impulse;
+        let low = row.impulse_min;
+        let high = row.impulse_max;
+        if csv {
+            out_written(con, |line| {
+                write_csv_row(
+                    line, name, body1, body2, id, coupled, impulse, low, high, residual,
+                )
+            });
+        } else {
+            out_written(con, |line| {
+                write_row(
+                    line, name, body1, body2, id, coupled, impulse, low, high, residual,
+                )
+            });
+        }
     }
-    let w = body_name(names, h.body1);
-    let start = w.start;
-    let end = w.end;
-    if text.len() < end {
-        return;
-    }
-    if end < start {
-        return;
-    }
-    text_body2(con, text, names, joint, &text[start..end], h, line);
-}
 
-pub fn text_joint(con: &Console, text: &[u8], names: &[u32], h: Heading, line: Line) {
-    let w = joint_name(names, h.joint);
-    let start = w.start;
-    let end = w.end;
-    if text.len() < end {
-        return;
+    // The line of what its rows together gave its bodies.
+    pub fn out_reaction(self, con: &Console, model: Model, csv: bool) {
+        let Joint {
+            name,
+            body1,
+            body2,
+            motors,
+            ..
+        } = self;
+        let Some(reaction) = model.reaction_at(self.number) else {
+            return;
+        };
+        if csv {
+            out_written(con, |line| {
+                write_csv_reaction(line, name, body1, body2, reaction, motors)
+            });
+        } else {
+            out_written(con, |line| {
+                write_reaction(line, name, body1, body2, reaction, motors)
+            });
+        }
     }
-    if end < start {
-        return;
-    }
-    text_body1(con, text, names, &text[start..end], h, line);
-}
 
-// ---- rows
-
-// One joint: its number, bodies and coupled axes; how many of its motors the last round found low or high, if there was one; whether as comma-separated values.
-#[derive(Clone, Copy)]
-pub struct Heading {
-    pub joint: u32,
-    pub body1: u32,
-    pub body2: u32,
-    pub coupled: u32,
-    pub swept: bool,
-    pub motors: u8,
-    pub csv: bool,
-}
-
-fn motors_at(motors: Motors, joint: u32) -> u8 {
-    let counts = motors.counts;
-    let j = joint as usize;
-    if j < 128 {
-        return counts[j];
-    }
-    0
-}
-
-pub fn heading_of(words: &[u32], motors: Motors, joint: u32, csv: bool) -> Heading {
-    Heading {
-        joint,
-        body1: joint_word(words, joint, 0),
-        body2: joint_word(words, joint, 1),
-        coupled: joint_word(words, joint, 5),
-        swept: motors.swept,
-        motors: motors_at(motors, joint),
-        csv,
+    // The lines of its rows, as text or as comma-separated values; answers the rules that they came from, a bit each, with those that were used before.
+    fn out_rows(self, con: &Console, model: Model, csv: bool, used: u32) -> u32 {
+        let Ok((ids, made)) = model.read_rows(self.number) else {
+            return used;
+        };
+        let mut all = used;
+        for (one, row) in ids.ids.iter().zip(made.rows.iter()).take(made.len) {
+            let residual = model.residual_at(*row, self.number);
+            self.out_row(con, one.id, *row, residual, csv);
+            all |= bit(rule_index(rule_of(one.id, self.coupled)));
+        }
+        all
     }
 }
 
 fn bit(rule: u32) -> u32 {
-    if rule < 12 {
-        return 1 << rule;
-    }
-    0
+    if rule < 12 { 1 << rule } else { 0 }
 }
 
-fn row_lines(
-    con: &Console,
-    text: &[u8],
-    names: &[u32],
-    bodies: &[f32],
-    words: &[u32],
-    h: Heading,
-    named: RowIds,
-    made: Rows,
-    used: u32,
-) -> u32 {
-    let joint = h.joint as usize;
-    let mut all = used;
-    let mut i = 0usize;
-    while i < 6 {
-        if i < made.len {
-            let one = named.ids[i];
-            let id = one.id;
-            let row = made.rows[i];
-            let values = Values {
-                id,
-                impulse: row.impulse,
-                low: row.impulse_min,
-                high: row.impulse_max,
-                residual: residual_at(bodies, words, row, joint),
-            };
-            text_joint(con, text, names, h, Line::Row(values));
-            all = all | bit(rule_index(rule_of(id, h.coupled)));
-        }
-        i += 1;
-    }
-    all
-}
-
-// The rows of one joint.
-fn joint_lines(
-    con: &Console,
-    text: &[u8],
-    names: &[u32],
-    header: Header,
-    bodies: &[f32],
-    words: &[u32],
-    numbers: &[f32],
-    rows: &[f32],
-    h: Heading,
-    used: u32,
-) -> u32 {
-    let read = read_rows(header, bodies, words, numbers, rows, h.joint);
-    let named = read.ids;
-    let made = read.rows;
-    row_lines(con, text, names, bodies, words, h, named, made, used)
-}
-
-// The reaction of one joint: what its rows together gave its bodies; and its motors that the last round found low or high.
-pub fn reaction_line(
-    con: &Console,
-    text: &[u8],
-    names: &[u32],
-    header: Header,
-    bodies: &[f32],
-    words: &[u32],
-    numbers: &[f32],
-    rows: &[f32],
-    h: Heading,
-) {
-    let read = read_rows(header, bodies, words, numbers, rows, h.joint);
-    let made = read.rows;
-    let reaction = reaction_at(bodies, words, numbers, made, h.joint as usize);
-    let given = Given {
-        reaction,
-        swept: h.swept,
-        motors: h.motors,
-    };
-    text_joint(con, text, names, h, Line::Reaction(given));
-}
+// ---- headings and notes
 
 pub fn out_reaction_heading(con: &Console, csv: bool) {
-    let mut line = [0u8; 4096];
     if csv {
-        let n = write_csv_reaction_heading(&mut line);
-        out_part(con, &line, 0, n);
-        return;
+        out_written(con, |line| write_csv_reaction_heading(line));
+    } else {
+        out_written(con, |line| write_reaction_heading(line));
     }
-    let n = write_reaction_heading(&mut line);
-    out_part(con, &line, 0, n);
-}
-
-pub fn out_reaction_notes(con: &Console) {
-    let mut lines = [0u8; 4096];
-    let n = write_reaction_notes(&mut lines);
-    out_part(con, &lines, 0, n);
 }
 
 pub fn out_heading(con: &Console, csv: bool) {
-    let mut line = [0u8; 4096];
     if csv {
-        let n = write_csv_heading(&mut line);
-        out_part(con, &line, 0, n);
-        return;
+        out_written(con, |line| write_csv_heading(line));
+    } else {
+        out_written(con, |line| write_heading(line));
     }
-    let n = write_heading(&mut line);
-    out_part(con, &line, 0, n);
 }
 
 // The rules that were used, each once, in words, and the version that made the table.
-pub fn out_rules(con: &Console, used: u32) {
-    let mut lines = [0u8; 4608];
-    let n = write_rules(&mut lines, used);
-    out_part(con, &lines, 0, n);
+fn out_rules(con: &Console, used: u32) {
+    out_written(con, |lines| write_rules(lines, used));
     made_by(con);
 }
 
 // ---- what a call prints
 
 // A joint's rows, without a heading.
-pub fn print_rows(
-    con: &Console,
-    text: &[u8],
-    names: &[u32],
-    header: Header,
-    bodies: &[f32],
-    words: &[u32],
-    numbers: &[f32],
-    rows: &[f32],
-    motors: Motors,
-    joint: u32,
-) {
-    let h = heading_of(words, motors, joint, false);
-    joint_lines(con, text, names, header, bodies, words, numbers, rows, h, 0);
+pub fn print_rows(study: Study, model: Model, motors: Motors, joint: u32) {
+    let joint = Joint::of(study, model.words, motors, joint);
+    joint.out_rows(study.con, model, false, 0);
 }
 
-// The rows of the first so many joints; answers the rules that they came from.
-fn all_lines(
-    con: &Console,
-    text: &[u8],
-    names: &[u32],
-    header: Header,
-    bodies: &[f32],
-    words: &[u32],
-    numbers: &[f32],
-    rows: &[f32],
-    motors: Motors,
-    joints: u32,
-    csv: bool,
-) -> u32 {
-    let mut used: u32 = 0;
-    let mut j: u32 = 0;
-    while j < joints {
-        let h = heading_of(words, motors, j, csv);
-        used = joint_lines(
-            con, text, names, header, bodies, words, numbers, rows, h, used,
-        );
-        j += 1;
-    }
-    used
-}
-
-// The joints' reactions, a line each, under the rows.
-fn all_reactions(
-    con: &Console,
-    text: &[u8],
-    names: &[u32],
-    header: Header,
-    bodies: &[f32],
-    words: &[u32],
-    numbers: &[f32],
-    rows: &[f32],
-    motors: Motors,
-    joints: u32,
-    csv: bool,
-) {
-    out_reaction_heading(con, csv);
-    let mut j: u32 = 0;
-    while j < joints {
-        let h = heading_of(words, motors, j, csv);
-        reaction_line(con, text, names, header, bodies, words, numbers, rows, h);
-        j += 1;
-    }
-}
-
-// A table, with the row of the largest residual.
-pub fn print_table(
-    con: &Console,
-    text: &[u8],
-    names: &[u32],
-    header: Header,
-    bodies: &[f32],
-    words: &[u32],
-    numbers: &[f32],
-    rows: &[f32],
-    motors: Motors,
-    joints: u32,
-    csv: bool,
-    most: Residual,
-) {
+// A table, with the row of the largest residual; under the rows the joints' reactions, a line each.
+pub fn print_table(study: Study, model: Model, motors: Motors, csv: bool, most: Option<Residual>) {
+    let con = study.con;
+    let joints = study.st.joints;
+    let mut used = 0;
     out_heading(con, csv);
-    let used = all_lines(
-        con, text, names, header, bodies, words, numbers, rows, motors, joints, csv,
-    );
-    if !csv {
-        out_residual(con, text, names, most);
+    for j in 0..joints {
+        let joint = Joint::of(study, model.words, motors, j);
+        used = joint.out_rows(con, model, csv, used);
     }
-    all_reactions(
-        con, text, names, header, bodies, words, numbers, rows, motors, joints, csv,
-    );
     if !csv {
-        out_reaction_notes(con);
+        out_residual(study, most);
+    }
+    out_reaction_heading(con, csv);
+    for j in 0..joints {
+        Joint::of(study, model.words, motors, j).out_reaction(con, model, csv);
+    }
+    if !csv {
+        out_written(con, |lines| write_reaction_notes(lines));
         out_rules(con, used);
     }
 }

@@ -14,31 +14,15 @@ use std::io::Read;
 const MOST: u64 = 1000000;
 
 fn digit(b: u8) -> u32 {
-    if b >= b'0' && b <= b'9' {
-        return (b - b'0') as u32;
+    match b {
+        b'0'..=b'9' => (b - b'0') as u32,
+        b'A'..=b'F' => (b - b'A') as u32 + 10,
+        _ => 0,
     }
-    if b >= b'A' && b <= b'F' {
-        return (b - b'A') as u32 + 10;
-    }
-    0
 }
 
-// Four digits of hexadecimal.
-fn half(a: u8, b: u8, c: u8, d: u8) -> u32 {
-    digit(a) % 16 * 4096 + digit(b) % 16 * 256 + digit(c) % 16 * 16 + digit(d) % 16
-}
-
-fn word(line: &[u8; 29], at: usize) -> u32 {
-    if at > 21 {
-        return 0;
-    }
-    let high = half(line[at], line[at + 1], line[at + 2], line[at + 3]);
-    let low = half(line[at + 4], line[at + 5], line[at + 6], line[at + 7]);
-    high % 65536 * 65536 + low % 65536
-}
-
-fn truth(b: bool) -> u32 {
-    if b { 1 } else { 0 }
+fn word(digits: &[u8]) -> u32 {
+    digits.iter().fold(0, |word, b| word << 4 | digit(*b))
 }
 
 // The result's pattern, or one that no line has where the operator is unknown.
@@ -48,51 +32,39 @@ fn answer(op: u8, a: f32, b: f32) -> u32 {
         b'-' => to_bits(a - b),
         b'*' => to_bits(a * b),
         b'/' => to_bits(a / b),
-        b'<' => truth(a < b),
-        b'l' => truth(a <= b),
-        b'=' => truth(a == b),
+        b'<' => (a < b) as u32,
+        b'l' => (a <= b) as u32,
+        b'=' => (a == b) as u32,
         b's' => to_bits(sqrt(a)),
         _ => 0x7fff_ffff,
     }
 }
 
-#[derive(Clone, Copy)]
-enum Verdict {
-    Right,
-    Wrong,
-    End,
-}
-
-// Reads one line and runs it.
-fn turn(rt: HostRuntime) -> io::Result<Verdict> {
+// Reads one line and runs it: whether it came out right; none at the end of the lines.
+fn turn(rt: HostRuntime) -> io::Result<Option<bool>> {
     let mut line = [0u8; 29];
     if rt.stdin().read_exact(&mut line).is_err() {
-        return Ok(Verdict::End);
+        return Ok(None);
     }
-    let a = from_bits(word(&line, 2));
-    let b = from_bits(word(&line, 11));
-    if answer(line[0], a, b) == word(&line, 20) {
-        return Ok(Verdict::Right);
+    let a = from_bits(word(&line[2..10]));
+    let b = from_bits(word(&line[11..19]));
+    let right = answer(line[0], a, b) == word(&line[20..28]);
+    if !right {
+        rt.write_all(&line)?;
     }
-    rt.write_all(&line)?;
-    Ok(Verdict::Wrong)
+    Ok(Some(right))
 }
 
 fn main(rt: HostRuntime) -> io::Result<()> {
     let mut lines = 0u64;
     let mut wrong = 0u64;
-    while lines < MOST {
-        match turn(rt)? {
-            Verdict::Right => {
-                lines += 1;
-            }
-            Verdict::Wrong => {
-                lines += 1;
-                wrong += 1;
-            }
-            Verdict::End => {
-                break;
-            }
+    for _turn in 0..MOST {
+        let Some(right) = turn(rt)? else {
+            break;
+        };
+        lines += 1;
+        if !right {
+            wrong += 1;
         }
     }
     println!(rt; "{lines} vectors, {wrong} wrong")

@@ -1,9 +1,0 @@
--- `velocity_records` ends.
-use Rattle.std.proofs.Common.{◌-◌}
-use Rattle.study.proofs.csv.velocity_records.Given as goal
-
-abbrev pub invariant-loop-i : goal.invariant-loop-i
-invariant-loop-i l = Unit
-
-abbrev pub decreases-loop-i : goal.decreases-loop-i
-decreases-loop-i l = l.count - l.i

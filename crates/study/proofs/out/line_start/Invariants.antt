@@ -1,9 +1,0 @@
--- `line_start` ends.
-use Rattle.std.proofs.Common.{◌-◌, length}
-use Rattle.study.proofs.out.line_start.Given as goal
-
-abbrev pub invariant-loop-at : goal.invariant-loop-at
-invariant-loop-at l = Unit
-
-abbrev pub decreases-loop-at : goal.decreases-loop-at
-decreases-loop-at l = length l.lines - l.at

@@ -1,8 +1,0 @@
--- `check_calls` ends.
-use Rattle.study.proofs.plan.check_calls.Given as goal
-
-abbrev pub invariant-loop-left : goal.invariant-loop-left
-invariant-loop-left l = Unit
-
-abbrev pub decreases-loop-left : goal.decreases-loop-left
-decreases-loop-left l = l.left

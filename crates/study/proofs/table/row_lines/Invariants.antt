@@ -1,9 +1,0 @@
--- `row_lines` ends.
-use Rattle.std.proofs.Common.{◌-◌}
-use Rattle.study.proofs.table.row_lines.Given as goal
-
-abbrev pub invariant-loop-i : goal.invariant-loop-i
-invariant-loop-i l = Unit
-
-abbrev pub decreases-loop-i : goal.decreases-loop-i
-decreases-loop-i l = 6 - l.i

@@ -1,9 +1,0 @@
--- `folder_of` ends.
-use Rattle.std.proofs.Common.{◌-◌, length}
-use Rattle.study.proofs.targets.folder_of.Given as goal
-
-abbrev pub invariant-loop-i : goal.invariant-loop-i
-invariant-loop-i l = Unit
-
-abbrev pub decreases-loop-i : goal.decreases-loop-i
-decreases-loop-i l = length l.name - l.i
