@@ -101,8 +101,10 @@ impl GenericJoint {
     pub fn limits_at(self, axis: usize) -> JointLimits
         ensures { result ≡ limits_at self axis }
     {
+        // copied first: an index into the joint itself would keep all of it in memory
+        let limits = self.limits;
         if axis < 3 {
-            return self.limits[axis];
+            return limits[axis];
         }
         let nan = 0.0 / 0.0;
         JointLimits {
@@ -116,8 +118,9 @@ impl GenericJoint {
     pub fn motor_at(self, axis: usize) -> JointMotor
         ensures { result ≡ motor_at self axis }
     {
+        let motors = self.motors;
         if axis < 3 {
-            return self.motors[axis];
+            return motors[axis];
         }
         let nan = 0.0 / 0.0;
         JointMotor {

@@ -7,7 +7,7 @@ ghost use Rattle.rows.specs.Update.{rows_array};
 
 use crate::generic_joint::GenericJoint;
 use crate::integration_parameters::IntegrationParameters;
-use crate::joint_constraint_helper::{AngularLimitParams, finalize_groups};
+use crate::joint_constraint_helper::{AngularLimitParams, finalize_lent};
 use crate::joint_velocity_constraint::{JointSolverBody, RowContext, Rows, WritebackId, blank_row};
 use crate::row::Row;
 use crate::row_ids::{motors_of, row_slots, slot_id};
@@ -135,8 +135,6 @@ pub fn update(
         left &= left - 1;
         k += 1;
     }
-    Rows {
-        rows: finalize_groups(rows, first, k),
-        len: k,
-    }
+    finalize_lent(&mut rows[..], first, k);
+    Rows { rows, len: k }
 }

@@ -1,5 +1,5 @@
 // The Rust's dynamics/solver/joint_constraint/joint_constraint_helper.rs: one function a row kind.
-ghost use Rattle.std.specs.Prelude.{◌≡◌, ◌≤◌};
+ghost use Rattle.std.specs.Prelude.{◌≡◌, ◌≤◌, length};
 ghost use Rattle.rows.specs.Row.{with_impulse};
 ghost use Rattle.rows.specs.Finalize.{im_sum_of, row_dot_of, head_of, is_lock, less_of, inv_dot_of, pair_of};
 ghost use Rattle.rows.specs.Groups.{group_of, finalize_of, finalize_groups};
@@ -634,15 +634,21 @@ pub fn finalize_constraints<R: Row>(rows: &mut [R])
     }
 }
 
-// `finalize_constraints` for two groups of an array that is handed over: the rows before row `first`, and those from there
-// to before row `len`.
+// `finalize_constraints` for two groups of lent rows: those before row `first`, and those from there to before row `len`.
+pub fn finalize_lent<R: Row>(rows: &mut [R], first: usize, len: usize)
+    requires { (first ≤ len) × (len ≤ length rows.old) }
+    ensures { rows.new ≡ finalize_groups (group_of R R.Masses R.im_sum R.head R.is_lock R.inv_dot R.pair) first len rows.old }
+{
+    finalize_constraints(&mut rows[..first]);
+    finalize_constraints(&mut rows[first..len]);
+}
+
+// The same of an array that is handed over.
 pub fn finalize_groups<R: Row, const N: usize>(rows: [R; N], first: usize, len: usize) -> [R; N]
     requires { (first ≤ len) × (len ≤ N) }
     ensures { result ≡ finalize_groups (group_of R R.Masses R.im_sum R.head R.is_lock R.inv_dot R.pair) first len rows }
 {
     let mut groups = rows;
-    let all = &mut groups[..];
-    finalize_constraints(&mut all[..first]);
-    finalize_constraints(&mut all[first..len]);
+    finalize_lent(&mut groups[..], first, len);
     groups
 }

@@ -5,11 +5,11 @@ ghost use Rattle.spatial_rows.specs.Builder.{solver_body_of, joint_context_of, s
 ghost use Rattle.spatial_rows.specs.Update.{rows_array};
 
 use crate::generic_joint::GenericJoint;
-use crate::joint_constraint_helper::finalize_groups;
 use crate::joint_velocity_constraint::{JointSolverBody, RowContext, Rows, blank_row};
 use crate::row_ids::{motors_of, row_slots, slot_id};
 use rows::integration_parameters::IntegrationParameters;
 use rows::joint_constraint_builder::warmed;
+use rows::joint_constraint_helper::finalize_lent;
 use rows::joint_velocity_constraint::WritebackId;
 use spatial_floats::angular_inertia_ops::SdpMatrix3;
 use spatial_floats::pose::Pose;
@@ -97,7 +97,10 @@ pub fn update(
 {
     let masks = joint.data.masks;
     let context = joint.context(params, body1, body2);
-    let mut rows = [blank_row(); 9];
+    let mut made = Rows {
+        rows: [blank_row(); 9],
+        len: 0,
+    };
     let slots = row_slots(masks);
     let first = motors_of(slots);
     // One turn a set bit, the lowest first: no range counts them.
@@ -105,7 +108,7 @@ pub fn update(
     let mut k = 0usize;
     while left > 0 {
         let id = slot_id(u32::trailing_zeros(left));
-        rows[k] = warmed(
+        made.rows[k] = warmed(
             warmstart,
             substep_id,
             joint.seed(id),
@@ -115,8 +118,7 @@ pub fn update(
         left &= left - 1;
         k += 1;
     }
-    Rows {
-        rows: finalize_groups(rows, first, k),
-        len: k,
-    }
+    finalize_lent(&mut made.rows[..], first, k);
+    made.len = k;
+    made
 }

@@ -361,7 +361,9 @@ impl Row for JointConstraint {
     ghost pair = { pair_of };
 
     fn with_impulse(self, impulse: f32) -> JointConstraint {
-        JointConstraint { impulse, ..self }
+        let mut row = self;
+        row.impulse = impulse;
+        row
     }
 
     fn im_sum(self) -> Vector {

@@ -149,10 +149,9 @@ impl JointConstraint {
     pub fn remove_bias_from_rhs(self) -> JointConstraint
         ensures { result ≡ remove_bias_of self }
     {
-        JointConstraint {
-            rhs: self.rhs_wo_bias,
-            ..self
-        }
+        let mut row = self;
+        row.rhs = self.rhs_wo_bias;
+        row
     }
 }
 

@@ -1,4 +1,3 @@
-use Rattle.std.proofs.Common.{lit<}
 use mathlib.Core.Path.{ap, ◌∙◌}
 use native.Mathlib.Omega.{arith}
 use Rattle.rows.specs.Finalize.{finalize_groups}
@@ -37,18 +36,18 @@ loop-left-preserved c =
     start-turn c.loop-left.invariant _
     c.loop-left-test.true (rw (c.seed.ensures, c.row.ensures, c.slot_id-id.ensures) at c.warmed.ensures)
 
-pub finalize_groups-requires : goal.finalize_groups-requires
-finalize_groups-requires c =
+pub finalize_lent-requires : goal.finalize_lent-requires
+finalize_lent-requires c =
     let a = c.args in
     let made = all_made c.loop-left.invariant c.loop-left-test.false in
     let counts = group-counts a.joint.«data».masks in
-    (lit< tt, (omega (arith, made, counts.0, c.motors_of-first.ensures ∙ motors-are _ c.row_slots-slots.ensures), omega (arith, made, counts.1)))
+    (omega (arith, made, counts.0, c.motors_of-first.ensures ∙ motors-are _ c.row_slots-slots.ensures), omega (arith, made, counts.1))
 
 pub returns : goal.returns
 returns c =
     let a = c.args in
     let made = all_made c.loop-left.invariant c.loop-left-test.false in
     started-rows a.params a.substep_id a.warmstart a.body1 a.body2 a.joint a.prevs c.loop-left.invariant.all-prevs (c.motors_of-first.ensures ∙ motors-are _ c.row_slots-slots.ensures) made c.context-context.ensures
-    (c.finalize_groups.ensures
+    (c.finalize_lent.ensures
     ∙ ap (λ t. finalize_groups c.motors_of-first.result c.loop-left.k t)
     (start-end c.loop-left.invariant c.loop-left-test.false))
