@@ -40,6 +40,7 @@ fn expected(fault: Fault) -> &'static [u8] {
             b"expected `lock`, `limit`, `motor` or `couple`, and then axes (x, y, angle) or a mask as a number",
         Fault::Substeps =>
             b"expected `sweeps` and a number, then `substeps` and a number (`warm` and a coefficient may stand before them)",
+        Fault::Other(_) => b"",
     }
 }
 

@@ -110,6 +110,12 @@ unfolding lines_read
 lines-done text zero d h = refl
 lines-done text (suc n) d h = absurd (omega arith)
 
+-- where a line changes nothing, no number of them does
+pub lines-over : (text : List ℕ) (n : ℕ) (d : Draft) → line_read text d ≡ d → lines_read text n d ≡ d
+unfolding lines_read
+lines-over text zero d h = refl
+lines-over text (suc n) d h = rw h (lines-over text n d h)
+
 -- ---- centres
 
 pub centers-step : (joints j : ℕ) (d : Draft) → j < joints → center_joints j (joints - j) d ≡ center_joints (j + 1) (joints - (j + 1)) (center_joint j d)

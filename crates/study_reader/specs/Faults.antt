@@ -109,6 +109,7 @@ number variant.LongName = 23
 number variant.PlainName = 24
 number variant.Mask = 25
 number variant.Substeps = 26
+number (variant.Other k) = k
 
 abbrev pub fault_at : Fault → ℕ → FaultAt
 fault_at fault place = record { fault = fault; at = place }

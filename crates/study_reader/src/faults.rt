@@ -30,6 +30,8 @@ pub enum Fault {
     PlainName,
     Mask,
     Substeps,
+    // what is none of these, by its number: the reader finds none such, and `faulty` takes any
+    Other(u32),
 }
 
 impl Fault {
@@ -64,6 +66,7 @@ impl Fault {
             Fault::PlainName => 24,
             Fault::Mask => 25,
             Fault::Substeps => 26,
+            Fault::Other(number) => number,
         }
     }
 }

@@ -76,7 +76,7 @@ fn next_state(
     reached(after, next_line(text, st.at))
 }
 
-// All lines: each has at least a byte.
+// All lines: each has at least a byte. The rest of the turns would change nothing once there is a fault or no line.
 fn read_lines(
     text: &[u8],
     numbers: &mut [f32],
@@ -88,6 +88,12 @@ fn read_lines(
 {
     let mut st = start();
     for _ in 0..text.len() {
+        if st.fault.is_some() {
+            return st;
+        }
+        if text.len() <= st.at {
+            return st;
+        }
         st = next_state(text, numbers, origins, words, names, st);
     }
     st
