@@ -12,8 +12,9 @@ ghost use Rattle.model.specs.Planar.{plane, planar};
 ghost use Rattle.multibody.specs.Answers.{WithoutRows, Filled, refused_number, plain_answer, load_header, build_answer, build_header, velocity_answer, sweep_answer};
 ghost use Rattle.model.specs.Answers.{rows_answer, RowsFilled};
 
+use crate::all_joints::rows_from;
 use crate::counts::{rows_with, store_firsts};
-use crate::joint_rows::{ids_at, rows_from};
+use crate::joint_rows::ids_at;
 use crate::plane::Plane;
 use crate::refusals::{finite_pose, model_refusal, new_masks_fit, storage_refusal, unfit_refusal};
 use crate::store::{put_masks, put_pose, vel_at};

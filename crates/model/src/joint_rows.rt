@@ -8,8 +8,6 @@ ghost use Rattle.rows.specs.declared.integration_parameters.IntegrationParameter
 ghost use Rattle.rows.specs.declared.joint_constraint_builder.ImpulseJoint.{ImpulseJoint};
 ghost use Rattle.rows.specs.declared.joint_constraint_builder.SolverPose.{SolverPose};
 ghost use Rattle.model.specs.Layout.{row_width, words_width, numbers_width};
-ghost use Rattle.rows.specs.Update.{rows_array};
-ghost use Rattle.multibody.specs.Calls.{rows_from};
 ghost use Rattle.multibody.specs.Refusals.{reads_rows};
 ghost use Rattle.multibody.specs.JointRows.{state, row_masks_at, row_count, motor_count, put_rows, impulses_at, build_joint, sweep_row, sweep_side, sweep_joint, count_row, count_rows, warmstart_row, warmstart_joint, remove_bias_joint, write_back_joint};
 ghost use Rattle.model.specs.Planar.{plane};
@@ -18,14 +16,14 @@ ghost use Rattle.model.specs.JointRows.{rows_list};
 
 use crate::layout::ROW_WIDTH;
 use crate::plane::Plane;
-use crate::store::{joint_at, put_row, put_seed, put_vel, row_at, solver_pose_at, vel_at};
+use crate::store::{joint_at, put_row, put_seed, put_vel, solver_pose_at, vel_at};
 use floats::scalar::Side;
 use multibody::joint_rows::{count_at, reads_rows, row_masks_at};
 use multibody::kind::Kind;
 use rows::generic_joint::Masks;
 use rows::integration_parameters::IntegrationParameters;
 use rows::joint_constraint_builder::update;
-use rows::joint_velocity_constraint::{Rows, blank_row};
+use rows::joint_velocity_constraint::Rows;
 use rows::row_ids::{RowIds, motor_count, row_count, row_ids};
 
 // The ids of joint j's rows, in order.
@@ -121,17 +119,4 @@ pub fn build_enabled(
     let made = update(params, substep_id, warmstart, body1, body2, joint, prevs);
     put_rows(rows, first, made);
     n
-}
-
-// n rows from row k on, at most six, as an array.
-pub fn rows_from(rows: &[f32], k: usize, n: usize) -> Rows
-    requires n_bound { n ≤ 6 }
-    requires row_width_in_bounds { (k + n) * row_width ≤ length rows.now }
-    ensures { result ≡ rows_array (rows_from plane rows.now k n) }
-{
-    let mut out = [blank_row(); 6];
-    for i in 0..n {
-        out[i] = row_at(rows, k + i);
-    }
-    Rows { rows: out, len: n }
 }

@@ -1,7 +1,8 @@
-// The model of several joints. The calls, the storage's layout and single records of it, reactions and residuals are for callers; the work on all joints is for crates above, which try
-// the rules that it asks for; the other modules below the calls are for neither.
+// The model of several joints. The calls, the storage's layout and single records of it, reactions and residuals are for callers; the plane as a kind of system, and rows of all joints as an array, are for crates above, which try
+// the rules that these ask for; the other modules below the calls are for neither.
 #![tactic(auto)]
 
+pub mod all_joints;
 pub mod calls;
 mod counts;
 mod joint_rows;

@@ -6,7 +6,7 @@ use Rattle.model.specs.Planar.{plane}
 use Rattle.multibody.proofs.AllJointsLaws.{row-turn, no_rows}
 use Rattle.model.proofs.JointRowsLaws.{rows-array}
 use borrow.Author.Rules.{rules}
-use Rattle.model.proofs.joint_rows.rows_from.Goals as goal
+use Rattle.model.proofs.all_joints.rows_from.Goals as goal
 
 pub loop-i-init : goal.loop-i-init
 loop-i-init c = (search rules, refl, rw (no_rows plane, c.blank_row-out.ensures))
