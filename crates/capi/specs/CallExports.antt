@@ -14,7 +14,7 @@ use Rattle.multibody.specs.Calls.Answer.{granted, total, rows_read, velocity_rea
 use Rattle.multibody.specs.Calls.Call.{sweep, read_rows}
 use Rattle.model.specs.Planar.{plane, planar}
 use Rattle.model.specs.Model.{model_of}
-use Rattle.rows.specs.RowIds.{row_ids_array, filled}
+use Rattle.rows.specs.RowIds.{row_ids_array, no_masks, filled}
 use Rattle.rows.specs.Update.{rows_array}
 use Rattle.multibody.specs.Answers.{refusal_number}
 use Rattle.multibody.specs.declared.header.Header.{Header}
@@ -97,11 +97,11 @@ short_slice = 1000
 abbrev pub rows_given : Masks → Answer plane → Result (RowIds × Rows) ℕ
 rows_given masks (rows_read ids rows) = Ok (row_ids_array masks, rows_array rows)
 rows_given masks (refused k) = Err k
--- a row read answers none of these
-rows_given masks granted = Err 0
-rows_given masks (total n) = Err 0
-rows_given masks (velocity_read v) = Err 0
-rows_given masks (swept counts) = Err 0
+-- a row read answers none of these: no rows
+rows_given masks granted = Ok (row_ids_array no_masks, rows_array [])
+rows_given masks (total n) = Ok (row_ids_array no_masks, rows_array [])
+rows_given masks (velocity_read v) = Ok (row_ids_array no_masks, rows_array [])
+rows_given masks (swept counts) = Ok (row_ids_array no_masks, rows_array [])
 
 abbrev pub rows_read_at : ℕ → Model → List Float → Result (RowIds × Rows) ℕ
 rows_read_at joint m rows = rows_given (row_masks_at plane m.words joint) (run planar (read_rows joint) m rows).answer
@@ -140,11 +140,11 @@ swept_at n m rows = (run planar (sweep n) m rows).answer
 abbrev pub counts_out : {store : Store} → Answer store → List ℕ → List ℕ
 counts_out (swept counts) out = filled 128 0 counts ++ drop 128 out
 counts_out (refused k) out = out
--- a sweep answers none of these
-counts_out granted out = out
-counts_out (total n) out = out
-counts_out (rows_read ids rows) out = out
-counts_out (velocity_read v) out = out
+-- a sweep answers none of these: zeros
+counts_out granted out = filled 128 0 [] ++ drop 128 out
+counts_out (total n) out = filled 128 0 [] ++ drop 128 out
+counts_out (rows_read ids rows) out = filled 128 0 [] ++ drop 128 out
+counts_out (velocity_read v) out = filled 128 0 [] ++ drop 128 out
 
 -- where fewer than 128 bytes are lent for them, nothing is done
 abbrev pub room_for_counts : List ℕ → Bool

@@ -1,5 +1,5 @@
 -- The exported calls of the model in space: a header from its numbers, an answer as a number, and what is stored of a row read and of a velocity read. What has no dimension is capi's.
-use Rattle.std.specs.Prelude.{ℕ, Bool, cond, ◌&&◌, List, leb, length, Float, Result, Ok, Err}
+use Rattle.std.specs.Prelude.{ℕ, Bool, cond, ◌&&◌, List, [], leb, length, Float, Result, Ok, Err}
 use Rattle.spatial_floats.specs.declared.vector.Vector.{Vector}
 use Rattle.spatial_floats.specs.declared.pose.Pose.{Pose}
 use Rattle.spatial_rows.specs.declared.joint_velocity_constraint.SolverVel.{SolverVel}
@@ -13,6 +13,7 @@ use Rattle.multibody.specs.Calls.Call.{sweep, read_rows}
 use Rattle.spatial_model.specs.Spatial.{space, spatial}
 use Rattle.spatial_model.specs.Model.{model_of}
 use Rattle.rows.specs.declared.generic_joint.Masks.{Masks}
+use Rattle.rows.specs.RowIds.{no_masks}
 use Rattle.spatial_rows.specs.RowIds.{row_ids_array}
 use Rattle.spatial_rows.specs.Update.{rows_array}
 use Rattle.capi.specs.CallExports.{header_of, rows_granted, rows_granted_or, short_slice}
@@ -34,11 +35,11 @@ pose_from qx qy qz qw x y z = record { rotation = record { x = qx; y = qy; z = q
 abbrev pub rows_given : Masks → Answer space → Result (RowIds × Rows) ℕ
 rows_given masks (rows_read ids rows) = Ok (row_ids_array masks, rows_array rows)
 rows_given masks (refused k) = Err k
--- a row read answers none of these
-rows_given masks granted = Err 0
-rows_given masks (total n) = Err 0
-rows_given masks (velocity_read v) = Err 0
-rows_given masks (swept counts) = Err 0
+-- a row read answers none of these: no rows
+rows_given masks granted = Ok (row_ids_array no_masks, rows_array [])
+rows_given masks (total n) = Ok (row_ids_array no_masks, rows_array [])
+rows_given masks (velocity_read v) = Ok (row_ids_array no_masks, rows_array [])
+rows_given masks (swept counts) = Ok (row_ids_array no_masks, rows_array [])
 
 abbrev pub rows_read_at : ℕ → Model → List Float → Result (RowIds × Rows) ℕ
 rows_read_at joint m rows = rows_given (row_masks_at space m.words joint) (run spatial (read_rows joint) m rows).answer
